@@ -1,0 +1,6 @@
+pub mod Bitwise
+pub mod Xor
+pub mod Parts
+pub mod Numbers
+pub mod Digits
+pub mod Listed

@@ -1,0 +1,148 @@
+-- Laws of a copy laid over a list, and of agreement.
+-- Assumes nothing.
+use mathlib.Core.Path.{_≡_, refl, sym, ap, ap₂, _∙_, subst}
+use mathlib.Core.Bool.{Bool, true, false, _&&_, false≢true, and-true, and-false, and-assoc}
+use mathlib.Core.List.{List, [], _∷_, _++_}
+use Prim.Native.Nat.{ℕ, zero, suc, _+_, _-_, _≤_, _<_, min}
+use native.Mathlib.Nat.{not-suc-le-zero, le-of-suc-le-suc, zero-min, min-zero, suc-min-suc, add-sub-cancel-left}
+use native.Mathlib.Omega.{arith}
+use borrow.Author.Tests.{eq-eqb, ne-eqb, eqb-true, eqb-false, leb-true, leb-false}
+use lib.Dec.{eqb, leb}
+use lib.ListN.{length, length-drop, take, drop, getD, set, take-append-drop, drop-of-length-le}
+use lib.Seq.{drop-cons, take-suc-set, drop-set-lt, append-snoc, take-nil}
+use lib.Bits.{bitOr, bitXor, bitAnd, or-add-and, and-le-l, and-le-r, xor-self}
+use Rattle.octets.specs.Parts.{part, over, agrees}
+use Rattle.octets.proofs.Xor.{xor-none}
+
+-- ---- part
+
+take-min : (n : ℕ) (l : List ℕ) → take (min n (length l)) l ≡ take n l
+take-min zero l = ap (λ (k : ℕ). take k l) (zero-min (length l))
+take-min (suc n) [] = ap (λ (k : ℕ). take k []) (min-zero (suc n))
+take-min (suc n) (x ∷ l) = ap (λ (k : ℕ). take k (x ∷ l)) (suc-min-suc n (length l)) ∙ ap (λ (m : List ℕ). x ∷ m) (take-min n l)
+
+drop-min : (n : ℕ) (l : List ℕ) → drop (min n (length l)) l ≡ drop n l
+drop-min zero l = ap (λ (k : ℕ). drop k l) (zero-min (length l))
+drop-min (suc n) [] = ap (λ (k : ℕ). drop k []) (min-zero (suc n))
+drop-min (suc n) (x ∷ l) = ap (λ (k : ℕ). drop k (x ∷ l)) (suc-min-suc n (length l)) ∙ drop-min n l
+
+-- a start and a length that are cut to what the list has give the same part
+pub part-cut : (at n : ℕ) (l : List ℕ) {a k : ℕ} → a ≡ min at (length l) → k ≡ min n (length l - a) → take (a + k - a) (drop a l) ≡ part at n l
+part-cut at n l {a} {k} ea ek =
+    let count : a + k - a ≡ min n (length (drop a l)) = add-sub-cancel-left a k ∙ ek ∙ ap (min n) (sym (length-drop a l)) in
+    ap (λ (m : ℕ). take m (drop a l)) count ∙ take-min n (drop a l) ∙ ap (take n) (ap (λ (m : ℕ). drop m l) ea ∙ drop-min at l)
+
+-- ---- over
+
+pub length-over : (xs l : List ℕ) → length (over xs l) ≡ length l
+unfolding over
+length-over [] l = refl
+length-over (x ∷ xs) [] = refl
+length-over (x ∷ xs) (y ∷ l) = ap suc (length-over xs l)
+
+-- a copy that fits: the copy, and then the rest as it was
+pub over-fits : (xs l : List ℕ) → length xs ≤ length l → over xs l ≡ xs ++ drop (length xs) l
+unfolding over
+over-fits [] l h = refl
+over-fits (x ∷ xs) [] h = absurd (not-suc-le-zero h)
+over-fits (x ∷ xs) (y ∷ l) h = ap (λ (m : List ℕ). x ∷ m) (over-fits xs l (le-of-suc-le-suc h))
+
+-- a copy that fills: its front, as long as what it is laid over
+pub over-fills : (xs l : List ℕ) → length l ≤ length xs → over xs l ≡ take (length l) xs
+unfolding over
+over-fills [] [] h = refl
+over-fills [] (y ∷ l) h = absurd (not-suc-le-zero h)
+over-fills (x ∷ xs) [] h = refl
+over-fills (x ∷ xs) (y ∷ l) h = ap (λ (m : List ℕ). x ∷ m) (over-fills xs l (le-of-suc-le-suc h))
+
+over-nothing : (l : List ℕ) → over [] l ≡ l
+unfolding over
+over-nothing l = refl
+
+onto-nothing : (xs : List ℕ) → over xs [] ≡ []
+unfolding over
+onto-nothing [] = refl
+onto-nothing (x ∷ xs) = refl
+
+-- one turn of the loop: the octet at i is copied, and the rest of xs is still to be laid over the rest of l
+pub over-turn : (xs l : List ℕ) (i : ℕ) → i < length xs → i < length l
+    → take (suc i) (set l i (getD xs i 0)) ++ over (drop (suc i) xs) (drop (suc i) (set l i (getD xs i 0))) ≡ take i l ++ over (drop i xs) (drop i l)
+unfolding over
+over-turn xs l i h k =
+    let x = getD xs i 0 in
+    ap₂ (λ (a b : List ℕ). a ++ over (drop (suc i) xs) b) (take-suc-set l i x k) (drop-set-lt (suc i) l i x (omega arith))
+    ∙ append-snoc (take i l) x (over (drop (suc i) xs) (drop (suc i) l))
+    ∙ ap₂ (λ (a b : List ℕ). take i l ++ over a b) (sym (drop-cons xs i 0 h)) (sym (drop-cons l i 0 k))
+
+pub over-end : (xs l : List ℕ) (i : ℕ) → min (length l) (length xs) ≤ i → take i l ++ over (drop i xs) (drop i l) ≡ l
+over-end xs l i h = which (leb (length xs) i) refl
+  where
+    copied : length xs ≤ i → take i l ++ over (drop i xs) (drop i l) ≡ l
+    copied k =
+        ap (λ (a : List ℕ). take i l ++ over a (drop i l)) (drop-of-length-le xs k)
+        ∙ ap (λ (a : List ℕ). take i l ++ a) (over-nothing (drop i l)) ∙ take-append-drop i l
+
+    filled : length l ≤ i → take i l ++ over (drop i xs) (drop i l) ≡ l
+    filled k =
+        ap (λ (a : List ℕ). take i l ++ over (drop i xs) a) (drop-of-length-le l k)
+        ∙ ap (λ (a : List ℕ). take i l ++ a) (onto-nothing (drop i xs) ∙ sym (drop-of-length-le l k)) ∙ take-append-drop i l
+
+    which : (b : Bool) → leb (length xs) i ≡ b → take i l ++ over (drop i xs) (drop i l) ≡ l
+    which true e = copied (leb-true (length xs) i e)
+    which false e = filled (omega (arith, leb-false (length xs) i e))
+
+-- ---- agrees
+
+pub agrees-refl : (l : List ℕ) → agrees l l ≡ true
+unfolding agrees
+agrees-refl [] = refl
+agrees-refl (x ∷ l) = ap₂ _&&_ (eq-eqb x x refl) (agrees-refl l)
+
+pub agrees-equal : (a b : List ℕ) → agrees a b ≡ true → a ≡ b
+unfolding agrees
+agrees-equal [] [] e = refl
+agrees-equal [] (y ∷ b) e = absurd (false≢true e)
+agrees-equal (x ∷ a) [] e = absurd (false≢true e)
+agrees-equal (x ∷ a) (y ∷ b) e = first (eqb x y) refl e (agrees-equal a b)
+  where
+    first : (t : Bool) → eqb x y ≡ t → (t && agrees a b) ≡ true → (agrees a b ≡ true → a ≡ b) → _≡_ {A = List ℕ} (x ∷ a) (y ∷ b)
+    first true p q same = ap₂ (λ (v : ℕ) (l : List ℕ). v ∷ l) (eqb-true x y p) (same q)
+    first false p q same = absurd (false≢true q)
+
+pub agrees-lengths : (a b : List ℕ) → (length a ≡ length b → ⊥) → agrees a b ≡ false
+unfolding agrees
+agrees-lengths [] [] n = absurd (n refl)
+agrees-lengths [] (y ∷ b) n = refl
+agrees-lengths (x ∷ a) [] n = refl
+agrees-lengths (x ∷ a) (y ∷ b) n =
+    ap (λ (t : Bool). eqb x y && t) (agrees-lengths a b (λ e. n (ap suc e))) ∙ and-false (eqb x y)
+
+-- one more difference: none is found where none was and the two octets are equal
+none-more : (d x y : ℕ) → eqb (bitOr d (bitXor x y)) 0 ≡ (eqb d 0 && eqb x y)
+none-more d x y = which (eqb d 0) (eqb x y) refl refl
+  where
+    v : ℕ
+    v = bitXor x y
+
+    parts : (bitOr d v ≡ 0) → (d ≡ 0) × (v ≡ 0)
+    parts e = omega (arith, e, or-add-and d v, and-le-l d v, and-le-r d v)
+
+    which : (s t : Bool) → eqb d 0 ≡ s → eqb x y ≡ t → eqb (bitOr d v) 0 ≡ (s && t)
+    which true true p q =
+        eq-eqb (bitOr d v) 0 (ap₂ bitOr (eqb-true d 0 p) (ap (λ (z : ℕ). bitXor z y) (eqb-true x y q) ∙ xor-self y))
+    which true false p q = ne-eqb (bitOr d v) 0 (λ e. eqb-false x y q (xor-none x y (parts e .1)))
+    which false t p q = ne-eqb (bitOr d v) 0 (λ e. eqb-false d 0 p (parts e .0))
+
+-- one turn of the loop: what is left agrees where nothing differed yet
+pub agrees-turn : (a b : List ℕ) (d i : ℕ) → i < length a → i < length b
+    → (eqb (bitOr d (bitXor (getD a i 0) (getD b i 0))) 0 && agrees (drop (suc i) a) (drop (suc i) b)) ≡ (eqb d 0 && agrees (drop i a) (drop i b))
+unfolding agrees
+agrees-turn a b d i h k =
+    ap (λ (t : Bool). t && agrees (drop (suc i) a) (drop (suc i) b)) (none-more d (getD a i 0) (getD b i 0))
+    ∙ and-assoc (eqb d 0) (eqb (getD a i 0) (getD b i 0)) (agrees (drop (suc i) a) (drop (suc i) b))
+    ∙ ap₂ (λ (x y : List ℕ). eqb d 0 && agrees x y) (sym (drop-cons a i 0 h)) (sym (drop-cons b i 0 k))
+
+pub agrees-end : (a b : List ℕ) (d i : ℕ) → length a ≤ i → length b ≤ i → (eqb d 0 && agrees (drop i a) (drop i b)) ≡ eqb d 0
+unfolding agrees
+agrees-end a b d i h k =
+    ap₂ (λ (x y : List ℕ). eqb d 0 && agrees x y) (drop-of-length-le a h) (drop-of-length-le b k) ∙ and-true (eqb d 0)

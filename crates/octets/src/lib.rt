@@ -1,0 +1,152 @@
+// Lists of octets: parts, copies, agreement, numbers of two, four and eight octets, digits. Every function is total.
+ghost use mathlib.Core.Path.{_≡_};
+ghost use mathlib.Core.List.{[], _∷_};
+ghost use Prim.Native.Nat.{_%_, _<_, min};
+ghost use Rattle.octets.specs.Parts.{part, over, agrees};
+ghost use Rattle.octets.specs.Numbers.{fromBe, toBe, fromLe, toLe};
+ghost use Rattle.octets.specs.Digits.{between, digitOf, hexOf};
+
+// ---- parts
+
+fn least(a: usize, b: usize) -> usize
+    ensures { λ r. ⌜ r ≡ min a b ⌝ }
+{
+    if a < b { a } else { b }
+}
+
+// The n octets of s from the place at on, or as many of them as there are.
+pub fn part_of(s: &[u8], at: usize, n: usize) -> &[u8]
+    ensures { λ r. ⌜ now r ≡ part at n (now (s .entry)) ⌝ }
+{
+    let a = least(at, s.len());
+    let e = a + least(n, s.len() - a);
+    &s[a..e]
+}
+
+// Lays source over the front of target: what it does not reach is unchanged, and what of it finds no place is left out.
+pub fn copy(target: &mut [u8], source: &[u8])
+    ensures { λ _. ⌜ now (target .exit) ≡ over (now (source .entry)) (now (target .entry)) ⌝ }
+{
+    let n = least(target.len(), source.len());
+    let mut i = 0;
+    while i < n {
+        target[i] = source[i];
+        i += 1;
+    }
+}
+
+// Whether a and b are the same octets. Every octet is looked at, wherever they differ, so that the time tells nothing of the place.
+pub fn agree(a: &[u8], b: &[u8]) -> bool
+    ensures { λ r. ⌜ r ≡ agrees (now (a .entry)) (now (b .entry)) ⌝ }
+{
+    if a.len() != b.len() {
+        return false;
+    }
+    let mut differences: u8 = 0;
+    let mut i = 0;
+    while i < a.len() {
+        differences = differences | (a[i] ^ b[i]);
+        i += 1;
+    }
+    differences == 0
+}
+
+// ---- numbers
+
+// Two octets, the most significant first.
+pub fn u16_from_be(a: u8, b: u8) -> u16
+    ensures { λ r. ⌜ r ≡ fromBe (a ∷ b ∷ []) ⌝ }
+{
+    a as u16 * 256 + b as u16
+}
+
+pub fn u16_to_be(x: u16) -> [u8; 2]
+    ensures { λ r. ⌜ r ≡ toBe 2 x ⌝ }
+{
+    [(x / 256 % 256) as u8, (x % 256) as u8]
+}
+
+// Four octets, the least significant first.
+pub fn u32_from_le(a: u8, b: u8, c: u8, d: u8) -> u32
+    ensures { λ r. ⌜ r ≡ fromLe (a ∷ b ∷ c ∷ d ∷ []) ⌝ }
+{
+    a as u32 + b as u32 * 256 + c as u32 * 65536 + d as u32 * 16777216
+}
+
+pub fn u32_to_le(x: u32) -> [u8; 4]
+    ensures { λ r. ⌜ r ≡ toLe 4 x ⌝ }
+{
+    [
+        (x % 256) as u8,
+        (x / 256 % 256) as u8,
+        (x / 256 / 256 % 256) as u8,
+        (x / 256 / 256 / 256 % 256) as u8,
+    ]
+}
+
+fn wide(x: u8) -> u64
+    ensures { λ r. ⌜ (r ≡ x) × (x < 256) ⌝ }
+{
+    x as u64
+}
+
+// Eight octets, the most significant first.
+pub fn u64_from_be(b: [u8; 8]) -> u64
+    ensures { λ r. ⌜ r ≡ fromBe b ⌝ }
+{
+    wide(b[0]) * 0x0100_0000_0000_0000
+        + wide(b[1]) * 0x0001_0000_0000_0000
+        + wide(b[2]) * 0x0100_0000_0000
+        + wide(b[3]) * 0x0001_0000_0000
+        + wide(b[4]) * 0x0100_0000
+        + wide(b[5]) * 0x0001_0000
+        + wide(b[6]) * 0x0100
+        + wide(b[7])
+}
+
+pub fn u64_to_be(x: u64) -> [u8; 8]
+    ensures { λ r. ⌜ r ≡ toBe 8 x ⌝ }
+{
+    [
+        (x / 0x0100_0000_0000_0000 % 256) as u8,
+        (x / 0x0001_0000_0000_0000 % 256) as u8,
+        (x / 0x0100_0000_0000 % 256) as u8,
+        (x / 0x0001_0000_0000 % 256) as u8,
+        (x / 0x0100_0000 % 256) as u8,
+        (x / 0x0001_0000 % 256) as u8,
+        (x / 0x0100 % 256) as u8,
+        (x % 256) as u8,
+    ]
+}
+
+// ---- digits
+
+fn is_between(low: u8, high: u8, octet: u8) -> bool
+    ensures { λ r. ⌜ r ≡ between low high octet ⌝ }
+{
+    low <= octet && octet <= high
+}
+
+// The value of an octet as a hexadecimal digit of either case; 16 where it is none.
+pub fn digit_value(octet: u8) -> u8
+    ensures { λ r. ⌜ r ≡ digitOf octet ⌝ }
+{
+    if is_between(48, 57, octet) {
+        return octet - 48;
+    }
+    if is_between(65, 70, octet) {
+        return octet - 55;
+    }
+    if is_between(97, 102, octet) {
+        return octet - 87;
+    }
+    16
+}
+
+// The upper-case hexadecimal digit of value, of which the low four bits count.
+pub fn hex_digit(value: u8) -> u8
+    ensures { λ r. ⌜ r ≡ hexOf (value % 16) ⌝ }
+{
+    let v = value % 16;
+    if v < 10 { v + 48 } else { v + 55 }
+}
