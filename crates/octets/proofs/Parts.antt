@@ -2,14 +2,14 @@
 -- Assumes nothing.
 use mathlib.Core.Path.{_≡_, refl, sym, ap, ap₂, _∙_, subst}
 use mathlib.Core.Bool.{Bool, true, false, _&&_, false≢true, and-true, and-false, and-assoc}
-use mathlib.Core.List.{List, [], _∷_, _++_}
+use mathlib.Core.List.{List, [], _∷_, _++_, append-assoc}
 use Prim.Native.Nat.{ℕ, zero, suc, _+_, _-_, _≤_, _<_, min}
 use native.Mathlib.Nat.{not-suc-le-zero, le-of-suc-le-suc, zero-min, min-zero, suc-min-suc, add-sub-cancel-left}
 use native.Mathlib.Omega.{arith}
 use borrow.Author.Tests.{eq-eqb, ne-eqb, eqb-true, eqb-false, leb-true, leb-false}
 use lib.Dec.{eqb, leb}
 use lib.ListN.{length, length-drop, take, drop, getD, set, take-append-drop, drop-of-length-le}
-use lib.Seq.{drop-cons, take-suc-set, drop-set-lt, append-snoc, take-nil}
+use lib.Seq.{drop-cons, take-suc-set, drop-set-lt, append-snoc, take-at, drop-at, drop-append-le, length-take-le}
 use lib.Bits.{bitOr, bitXor, bitAnd, or-add-and, and-le-l, and-le-r, xor-self}
 use Rattle.octets.specs.Parts.{part, over, agrees}
 use Rattle.octets.proofs.Xor.{xor-none}
@@ -54,6 +54,19 @@ over-fills [] [] h = refl
 over-fills [] (y ∷ l) h = absurd (not-suc-le-zero h)
 over-fills (x ∷ xs) [] h = refl
 over-fills (x ∷ xs) (y ∷ l) h = ap (λ (m : List ℕ). x ∷ m) (over-fills xs l (le-of-suc-le-suc h))
+
+-- a copy into k octets of p ++ q that start where q does, lent and handed back: p stays, and so does what of q the copy does not reach
+pub over-lent : (p q e : List ℕ) (a k : ℕ) → length p ≡ a → length e ≤ k → k ≤ length q
+    → take a (p ++ q) ++ (over e (take k (drop a (p ++ q))) ++ drop k (drop a (p ++ q))) ≡ p ++ (e ++ drop (length e) q)
+over-lent p q e a k ha he hk =
+    ap₂ (λ (x y : List ℕ). x ++ (over e (take k y) ++ drop k y)) (take-at p q a ha) (drop-at p q a ha)
+    ∙ ap (λ (x : List ℕ). p ++ (x ++ drop k q)) (over-fits e (take k q) fits)
+    ∙ ap (λ (x : List ℕ). p ++ x)
+    (append-assoc e (drop (length e) (take k q)) (drop k q)
+    ∙ ap (λ (x : List ℕ). e ++ x) (sym (drop-append-le (length e) (take k q) (drop k q) fits) ∙ ap (drop (length e)) (take-append-drop k q)))
+  where
+    fits : length e ≤ length (take k q)
+    fits = omega (arith, length-take-le k q hk)
 
 over-nothing : (l : List ℕ) → over [] l ≡ l
 unfolding over

@@ -119,6 +119,22 @@ pub fn u64_to_be(x: u64) -> [u8; 8]
     ]
 }
 
+// Eight octets, the least significant first.
+pub fn u64_to_le(x: u64) -> [u8; 8]
+    ensures { λ r. ⌜ r ≡ toLe 8 x ⌝ }
+{
+    [
+        (x % 256) as u8,
+        (x / 256 % 256) as u8,
+        (x / 256 / 256 % 256) as u8,
+        (x / 256 / 256 / 256 % 256) as u8,
+        (x / 256 / 256 / 256 / 256 % 256) as u8,
+        (x / 256 / 256 / 256 / 256 / 256 % 256) as u8,
+        (x / 256 / 256 / 256 / 256 / 256 / 256 % 256) as u8,
+        (x / 256 / 256 / 256 / 256 / 256 / 256 / 256 % 256) as u8,
+    ]
+}
+
 // ---- digits
 
 fn is_between(low: u8, high: u8, octet: u8) -> bool
