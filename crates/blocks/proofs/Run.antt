@@ -6,8 +6,9 @@ use Prim.Native.Nat.{ℕ, zero, suc, _+_, _-_, _*_, _/_, _%_, _≤_, _<_}
 use native.Mathlib.Nat.{zero-add, suc-add, zero-mul}
 use native.Mathlib.Omega.{arith}
 use lib.ListN.{length, take, drop, replicate, length-drop, length-append, length-replicate}
-use lib.Seq.{take-append-le, drop-append-le, drop-drop}
-use Rattle.blocks.specs.Blocks.{runBlocks, zeros, padded, hashed, tailLength}
+use lib.Seq.{take-append-le, drop-append-le, drop-drop, take-at}
+use Rattle.blocks.specs.declared.Tail.{Tail}
+use Rattle.blocks.specs.Blocks.{runBlocks, zeros, padded, hashed, tailLength, tailOf}
 
 module _ {S : Type 0} (f : List ℕ → S → S) where
   -- of m octets, 64 at least: a block, and then the rest
@@ -78,3 +79,27 @@ module _ (e m : List ℕ) (eight : length e ≡ 8) where
       ap (λ (t : List ℕ). runBlocks f (tailLength n / 64) t (runBlocks f (n / 64) m s)) (drop-append-le (n / 64 * 64) m padding whole)
       ∙ sym (run-append f (n / 64) (tailLength n / 64) m padding s whole)
       ∙ ap (λ (k : ℕ). runBlocks f k (padded e m) s) count
+
+  -- of the buffer that holds the tail, the used octets are the tail
+  pub tail-used : take (tailOf e m .used) (tailOf e m .octets) ≡ drop (length m / 64 * 64) (padded e m)
+  unfolding tailOf
+  tail-used = take-at (drop (length m / 64 * 64) (padded e m)) (replicate (128 - tailLength (length m)) 0) (tailLength (length m)) length-tail
+
+  pub tail-fits : tailOf e m .used ≤ 128
+  unfolding tailOf tailLength zeros
+  tail-fits = omega arith
+
+-- how a hash goes about it: r are the registers after the message's whole blocks, q those after the used octets of the tail t
+pub hashed-by-tail : {S : Type 0} (f : List ℕ → S → S) (len : ℕ → List ℕ) → ((x : ℕ) → length (len x) ≡ 8) → (s : S) (m : List ℕ) {r q : S} {t : Tail}
+    → r ≡ runBlocks f (length m / 64) m s → t ≡ tailOf (len (length m * 8)) m
+    → q ≡ runBlocks f (length (take (t .used) (t .octets)) / 64) (take (t .used) (t .octets)) r → q ≡ hashed f len s m
+unfolding hashed
+hashed-by-tail {S} f len eight s m {r} {q} {t} er et eq =
+    let e = len (length m * 8) in
+    let e₈ = eight (length m * 8) in
+    let tail = drop (length m / 64 * 64) (padded e m) in
+    let used : take (t .used) (t .octets) ≡ tail = ap (λ (u : Tail). take (u .used) (u .octets)) et ∙ tail-used e m e₈ in
+    eq
+    ∙ ap₂ (λ (x : List ℕ) (y : S). runBlocks f (length x / 64) x y) used er
+    ∙ ap (λ (k : ℕ). runBlocks f (k / 64) tail (runBlocks f (length m / 64) m s)) (length-tail e m e₈)
+    ∙ run-padded e m e₈ f s

@@ -1,0 +1,13 @@
+-- `md4::step_f` meets its contract.
+-- Assumes nothing.
+use borrow.Author.Needs.{needs}
+use Rattle.md4.specs.Md4.{step}
+use Rattle.md4.proofs.step_f.Statement.{statement}
+use Rattle.md4.proofs.step_f.Tie as tie
+
+returns : tie.Need-returns
+unfolding step
+returns c = cc
+
+pub step-f-spec : {M : Type 1} → statement M
+step-f-spec = tie.close (tie.spec (λ c κs. search needs) (λ c κs. search needs) returns)
