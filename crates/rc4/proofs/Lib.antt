@@ -1,0 +1,4 @@
+pub mod Exchange
+pub mod Turns
+pub mod Laws
+pub mod Worked

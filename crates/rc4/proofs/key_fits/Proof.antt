@@ -1,0 +1,14 @@
+-- `rc4::key_fits` meets its contract.
+-- Assumes nothing.
+use borrow.Author.Tests.{le-leb, lt-leb}
+use Rattle.rc4.proofs.key_fits.Statement.{statement}
+use Rattle.rc4.proofs.key_fits.Tie as tie
+
+returns : tie.Need-returns
+returns c = simp (le-leb _ _ (c .if1 .taken))
+
+returns-2 : tie.Need-returns-2
+returns-2 c = simp (lt-leb _ _ (c .if1 .left))
+
+pub key-fits-spec : {M : Type 1} → statement M
+key-fits-spec = tie.close (tie.spec returns returns-2)
