@@ -7,13 +7,8 @@ use native.Mathlib.Omega.{arith}
 use lib.ListN.{length, take, drop, set, replicate, length-append, length-drop, length-replicate, replicate-append-replicate}
 use lib.Seq.{set-append-seam, take-all, drop-append-le, drop-append-seam}
 use Rattle.octets.specs.Parts.{over}
-use Rattle.octets.proofs.Parts.{over-fits, over-lent}
+use Rattle.octets.proofs.Parts.{over-fits, over-lent, drop-replicate}
 use Rattle.blocks.specs.Blocks.{zeros, padded, tailLength, tailOf}
-
-drop-zeros : (n k : ℕ) → drop {A = ℕ} n (replicate (n + k) 0) ≡ replicate k 0
-drop-zeros n k =
-    ap (drop n) (sym (replicate-append-replicate n k 0))
-    ∙ ap (λ (i : ℕ). drop i (replicate n 0 ++ replicate k 0)) (sym (length-replicate {A = ℕ} n 0)) ∙ drop-append-seam (replicate n 0) (replicate k 0)
 
 -- s is the message's end, z the number of zeros between the octet 128 and the length
 module _ (s e : List ℕ) (z : ℕ) (eight : length e ≡ 8) (fits : length s + 9 + z ≤ 128) where
@@ -31,7 +26,7 @@ module _ (s e : List ℕ) (z : ℕ) (eight : length e ≡ 8) (fits : length s + 
       let n : 128 ≡ length s + suc (z + (8 + (128 - used))) = omega arith in
       over-fits s (replicate 128 0) (omega arith)
       ∙ ap (λ (i : ℕ). s ++ drop (length s) (replicate i 0)) n
-      ∙ ap (λ (x : List ℕ). s ++ x) (drop-zeros (length s) (suc (z + (8 + (128 - used)))) ∙ ap (λ (x : List ℕ). 0 ∷ x) (sym (replicate-append-replicate z (8 + (128 - used)) 0)))
+      ∙ ap (λ (x : List ℕ). s ++ x) (drop-replicate (length s) (suc (z + (8 + (128 - used)))) ∙ ap (λ (x : List ℕ). 0 ∷ x) (sym (replicate-append-replicate z (8 + (128 - used)) 0)))
 
   marked : set (over s (replicate 128 0)) (length s) 128 ≡ front ++ replicate (8 + (128 - used)) 0
   marked =
@@ -49,7 +44,7 @@ module _ (s e : List ℕ) (z : ℕ) (eight : length e ≡ 8) (fits : length s + 
       let e₂₁ : t₂ ≡ front ++ q = e₂ ∙ ap (λ (x : List ℕ). set x (length s) 128) e₁ ∙ marked in
       ap₂ (λ (x y : List ℕ). take (used - 8) x ++ (y ++ drop k (drop (used - 8) x))) e₂₁ (e₃ ∙ ap (λ (x : List ℕ). over e (take k (drop (used - 8) x))) e₂₁)
       ∙ over-lent front q e (used - 8) k front-length (omega arith) (omega (arith, length-replicate {A = ℕ} (8 + (128 - used)) 0))
-      ∙ ap (λ (x : List ℕ). front ++ (e ++ x)) (ap (λ (i : ℕ). drop i q) eight ∙ drop-zeros 8 (128 - used))
+      ∙ ap (λ (x : List ℕ). front ++ (e ++ x)) (ap (λ (i : ℕ). drop i q) eight ∙ drop-replicate 8 (128 - used))
       ∙ sym (append-assoc front e (replicate (128 - used) 0))
       ∙ ap (λ (x : List ℕ). x ++ replicate (128 - used) 0) (append-assoc s (128 ∷ replicate z 0) e)
 

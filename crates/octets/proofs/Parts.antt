@@ -2,16 +2,16 @@
 -- Assumes nothing.
 use mathlib.Core.Path.{_≡_, refl, sym, ap, ap₂, _∙_, subst}
 use mathlib.Core.Bool.{Bool, true, false, _&&_, false≢true, and-true, and-false, and-assoc}
-use mathlib.Core.List.{List, [], _∷_, _++_, append-assoc}
+use mathlib.Core.List.{List, [], _∷_, _++_, append-assoc, append-nil}
 use Prim.Native.Nat.{ℕ, zero, suc, _+_, _-_, _≤_, _<_, min}
 use native.Mathlib.Nat.{not-suc-le-zero, le-of-suc-le-suc, zero-min, min-zero, suc-min-suc, add-sub-cancel-left}
 use native.Mathlib.Omega.{arith}
 use borrow.Author.Tests.{eq-eqb, ne-eqb, eqb-true, eqb-false, leb-true, leb-false}
 use lib.Dec.{eqb, leb}
-use lib.ListN.{length, length-drop, take, drop, getD, set, take-append-drop, drop-of-length-le}
-use lib.Seq.{drop-cons, take-suc-set, drop-set-lt, append-snoc, take-at, drop-at, drop-append-le, length-take-le}
+use lib.ListN.{length, length-append, length-drop, length-replicate, replicate, replicate-append-replicate, take, drop, getD, set, take-append-drop, drop-of-length-le}
+use lib.Seq.{drop-cons, take-suc-set, drop-set-lt, append-snoc, take-at, drop-at, take-all, drop-append-le, drop-drop, length-take-le, take-append-seam, drop-append-seam}
 use lib.Bits.{bitOr, bitXor, bitAnd, or-add-and, and-le-l, and-le-r, xor-self}
-use Rattle.octets.specs.Parts.{part, over, agrees}
+use Rattle.octets.specs.Parts.{part, over, overAt, fixed, agrees}
 use Rattle.octets.proofs.Xor.{xor-none}
 
 -- ---- part
@@ -31,6 +31,11 @@ pub part-cut : (at n : ℕ) (l : List ℕ) {a k : ℕ} → a ≡ min at (length 
 part-cut at n l {a} {k} ea ek =
     let count : a + k - a ≡ min n (length (drop a l)) = add-sub-cancel-left a k ∙ ek ∙ ap (min n) (sym (length-drop a l)) in
     ap (λ (m : ℕ). take m (drop a l)) count ∙ take-min n (drop a l) ∙ ap (take n) (ap (λ (m : ℕ). drop m l) ea ∙ drop-min at l)
+
+pub drop-replicate : (n k : ℕ) → drop {A = ℕ} n (replicate (n + k) 0) ≡ replicate k 0
+drop-replicate n k =
+    ap (drop n) (sym (replicate-append-replicate n k 0))
+    ∙ ap (λ (i : ℕ). drop i (replicate n 0 ++ replicate k 0)) (sym (length-replicate {A = ℕ} n 0)) ∙ drop-append-seam (replicate n 0) (replicate k 0)
 
 -- ---- over
 
@@ -67,6 +72,43 @@ over-lent p q e a k ha he hk =
   where
     fits : length e ≤ length (take k q)
     fits = omega (arith, length-take-le k q hk)
+
+-- a copy into all that follows the place at, or the end where that comes first
+pub over-rest : (at : ℕ) (xs l : List ℕ) {a : ℕ} {t : List ℕ} → a ≡ min at (length l) → t ≡ over xs (take (length l - a) (drop a l))
+    → take a l ++ (t ++ drop (length l - a) (drop a l)) ≡ overAt at xs l
+over-rest at xs l {a} {t} ea et =
+    let fits : length (drop a l) ≤ length l - a = omega (arith, length-drop a l) in
+    ap₂ (λ (x y : List ℕ). take a l ++ (x ++ y)) (et ∙ ap (over xs) (take-all (length l - a) (drop a l) fits)) (drop-of-length-le (drop a l) fits)
+    ∙ ap (λ (x : List ℕ). take a l ++ x) (append-nil (over xs (drop a l)))
+    ∙ ap (λ (n : ℕ). take n l ++ over xs (drop n l)) ea
+    ∙ ap₂ (λ (x y : List ℕ). x ++ over xs y) (take-min at l) (drop-min at l)
+
+-- a buffer that begins with done gets xs behind it, and what lay behind that stays; l is the buffer as it was lent
+pub over-next : (l done xs : List ℕ) {b : List ℕ} → b ≡ done ++ drop (length done) l → length done + length xs ≤ length l
+    → overAt (length done) xs b ≡ (done ++ xs) ++ drop (length (done ++ xs)) l
+over-next l done xs {b} e h =
+    let rest = drop (length done) l in
+    ap (λ (x : List ℕ). take (length done) x ++ over xs (drop (length done) x)) e
+    ∙ ap₂ (λ (x y : List ℕ). x ++ over xs y) (take-append-seam done rest) (drop-append-seam done rest)
+    ∙ ap (λ (x : List ℕ). done ++ x) (over-fits xs rest (omega (arith, length-drop (length done) l)))
+    ∙ sym (append-assoc done xs (drop (length xs) rest))
+    ∙ ap (λ (x : List ℕ). (done ++ xs) ++ x) (drop-drop (length xs) (length done) l ∙ ap (λ (n : ℕ). drop n l) (sym (length-append done xs)))
+
+-- ---- fixed
+
+pub length-fixed : (n : ℕ) (l : List ℕ) → length (fixed n l) ≡ n
+length-fixed n l = length-over l (replicate n 0) ∙ length-replicate n 0
+
+pub fixed-short : (n : ℕ) (l : List ℕ) → length l ≤ n → fixed n l ≡ l ++ replicate (n - length l) 0
+fixed-short n l h =
+    over-fits l (replicate n 0) (omega (arith, length-replicate {A = ℕ} n 0))
+    ∙ ap (λ (x : List ℕ). l ++ x) (ap (λ (k : ℕ). drop {A = ℕ} (length l) (replicate k 0)) k ∙ drop-replicate (length l) (n - length l))
+  where
+    k : n ≡ length l + (n - length l)
+    k = omega arith
+
+pub fixed-same : (n : ℕ) (l : List ℕ) → length l ≡ n → fixed n l ≡ l
+fixed-same n l e = over-fills l (replicate n 0) (omega (arith, length-replicate {A = ℕ} n 0)) ∙ ap (λ (k : ℕ). take k l) (length-replicate {A = ℕ} n 0) ∙ take-all n l (omega arith)
 
 over-nothing : (l : List ℕ) → over [] l ≡ l
 unfolding over

@@ -2,7 +2,7 @@
 ghost use mathlib.Core.Path.{_≡_};
 ghost use mathlib.Core.List.{[], _∷_};
 ghost use Prim.Native.Nat.{_%_, _<_, min};
-ghost use Rattle.octets.specs.Parts.{part, over, agrees};
+ghost use Rattle.octets.specs.Parts.{part, over, overAt, agrees};
 ghost use Rattle.octets.specs.Numbers.{fromBe, toBe, fromLe, toLe};
 ghost use Rattle.octets.specs.Digits.{between, digitOf, hexOf};
 
@@ -33,6 +33,14 @@ pub fn copy(target: &mut [u8], source: &[u8])
         target[i] = source[i];
         i += 1;
     }
+}
+
+// The same from the place at on; nothing where target does not reach it.
+pub fn copy_at(target: &mut [u8], at: usize, source: &[u8])
+    ensures { λ _. ⌜ now (target .exit) ≡ overAt at (now (source .entry)) (now (target .entry)) ⌝ }
+{
+    let a = least(at, target.len());
+    copy(&mut target[a..], source);
 }
 
 // Whether a and b are the same octets. Every octet is looked at, wherever they differ, so that the time tells nothing of the place.
