@@ -110,6 +110,13 @@ fixed-short n l h =
 pub fixed-same : (n : ℕ) (l : List ℕ) → length l ≡ n → fixed n l ≡ l
 fixed-same n l e = over-fills l (replicate n 0) (omega (arith, length-replicate {A = ℕ} n 0)) ∙ ap (λ (k : ℕ). take k l) (length-replicate {A = ℕ} n 0) ∙ take-all n l (omega arith)
 
+-- a part that the list has is as it stands
+pub length-part : (a n : ℕ) (l : List ℕ) → a + n ≤ length l → length (part a n l) ≡ n
+length-part a n l h = length-take-le n (drop a l) (omega (arith, length-drop a l))
+
+pub fixed-part : (a n : ℕ) (l : List ℕ) → a + n ≤ length l → fixed n (part a n l) ≡ part a n l
+fixed-part a n l h = fixed-same n (part a n l) (length-part a n l h)
+
 over-nothing : (l : List ℕ) → over [] l ≡ l
 unfolding over
 over-nothing l = refl

@@ -26,6 +26,14 @@ pub length-ciphered : (w : State) (d : List ℕ) → length (ciphered w d) ≡ l
 unfolding ciphered
 length-ciphered w d = length-xors d (keystream (length d) w)
 
+pub length-crypted : (key d : List ℕ) → length (crypted key d) ≡ length d
+unfolding crypted
+length-crypted key d = which (keyFits key)
+  where
+    which : (b : Bool) → length (cond b (ciphered (started key) d) d) ≡ length d
+    which true = length-ciphered (started key) d
+    which false = refl
+
 -- ---- twice
 
 xors-twice : (d ks : List ℕ) → xors (xors d ks) ks ≡ d

@@ -1,0 +1,143 @@
+-- The laws of hashes, responses and sealed passwords for other crates to cite: lengths, and that opening what was sealed gives the password back.
+-- Assumes nothing.
+use mathlib.Core.Path.{_≡_, refl, sym, ap, ap₂, _∙_}
+use mathlib.Core.Bool.{Bool, true, false, cond, _||_, true≢false}
+use mathlib.Core.List.{List, [], _∷_, _++_, map, append-assoc}
+use Prim.Native.Nat.{ℕ, _+_, _-_, _%_, _^_, _≤_, _<_}
+use native.Mathlib.Nat.{mod-eq-of-lt}
+use native.Mathlib.Omega.{arith}
+use borrow.Author.Tests.{le-ltb, ne-eqb, ltb-false, eqb-false}
+use lib.Dec.{eqb, ltb}
+use lib.ListN.{length, take, drop, replicate, length-append}
+use lib.Seq.{length-take-le, take-append-le, take-all, drop-at, take-at}
+use Rattle.octets.specs.Parts.{part, fixed}
+use Rattle.octets.specs.Numbers.{fromLe, toLe}
+use Rattle.octets.proofs.Parts.{over-fills, length-fixed}
+use Rattle.octets.proofs.Numbers.{length-toLe, fromLe-toLe}
+use Rattle.md4.proofs.Laws.{length-md4}
+use Rattle.des.specs.Des.{desEncrypt}
+use Rattle.des.proofs.Sizes.{length-encrypt, length-three}
+use Rattle.rc4.specs.Rc4.{crypted}
+use Rattle.rc4.proofs.Laws.{crypted-twice, length-crypted}
+use Rattle.credentials.specs.declared.Content.{Content}
+use Rattle.credentials.specs.declared.Content.the-variants.{Over, Odd, Password}
+use Rattle.credentials.specs.declared.Opened.{Opened}
+use Rattle.credentials.specs.declared.Sealed.{Sealed}
+use Rattle.credentials.specs.Credentials.{ntHashOf, badNtPassword, lmHashOf, lmKeys, upper, stdText, responseOf, oldUnderNew, plainBlock, sealedBlock, sealRefusal, sealedAs, lengthIn, contentFor, openedAs, passwordIn}
+
+-- ---- lengths
+
+pub length-nt : (password : List ℕ) → length (ntHashOf password) ≡ 16
+unfolding ntHashOf
+length-nt password = length-md4 password
+
+pub length-keys : (password : List ℕ) → length (lmKeys password) ≡ 14
+unfolding lmKeys
+length-keys password = length-fixed 14 (map upper password)
+
+-- two blocks side by side
+two-blocks : (key₁ block₁ key₂ block₂ : List ℕ) → length (desEncrypt key₁ block₁ ++ desEncrypt key₂ block₂) ≡ 16
+two-blocks key₁ block₁ key₂ block₂ =
+    length-append (desEncrypt key₁ block₁) (desEncrypt key₂ block₂) ∙ ap₂ (λ (m n : ℕ). m + n) (length-encrypt key₁ block₁) (length-encrypt key₂ block₂)
+
+pub length-lm : (password : List ℕ) → length (lmHashOf password) ≡ 16
+unfolding lmHashOf
+length-lm password = two-blocks (part 0 7 (lmKeys password)) stdText (part 7 7 (lmKeys password)) stdText
+
+pub length-response : (hash challenge : List ℕ) → length (responseOf hash challenge) ≡ 24
+unfolding responseOf
+length-response hash challenge = length-three (fixed 21 hash) challenge
+
+pub length-old-under-new : (old new : List ℕ) → length (oldUnderNew old new) ≡ 16
+unfolding oldUnderNew
+length-old-under-new old new = two-blocks (part 0 7 new) (part 0 8 old) (part 7 7 new) (part 8 8 old)
+
+module _ (filler password : List ℕ) (room : length filler ≡ 512) (fits : length password ≤ 512) where
+  abbrev front : List ℕ
+  front = take (512 - length password) filler
+
+  front-length : length front ≡ 512 - length password
+  front-length = length-take-le (512 - length password) filler (omega arith)
+
+  -- the 512 octets before the length
+  body-length : length (front ++ password) ≡ 512
+  body-length = length-append front password ∙ omega (arith, front-length)
+
+  plain-parts : plainBlock filler password ≡ (front ++ password) ++ toLe 4 (length password)
+  unfolding plainBlock
+  plain-parts = sym (append-assoc front password (toLe 4 (length password)))
+
+  length-plain : length (plainBlock filler password) ≡ 516
+  length-plain = ap length plain-parts ∙ length-append (front ++ password) (toLe 4 (length password)) ∙ omega (arith, body-length)
+
+  pub length-sealed : (old : List ℕ) → length (sealedBlock old filler password) ≡ 516
+  unfolding sealedBlock
+  length-sealed old = length-crypted old (plainBlock filler password) ∙ length-plain
+
+  -- ---- opening what was sealed
+
+  length-read : lengthIn (plainBlock filler password) ≡ length password
+  length-read =
+      let n : ℕ = length password in
+      ap (λ (x : List ℕ). fromLe (take 4 (drop 512 x))) plain-parts
+      ∙ ap (λ (x : List ℕ). fromLe (take 4 x)) (drop-at (front ++ password) (toLe 4 n) 512 body-length)
+      ∙ ap fromLe (take-all 4 (toLe 4 n) (omega (arith, length-toLe 4 n)))
+      ∙ fromLe-toLe 4 n ∙ mod-eq-of-lt (omega arith)
+
+  body-read : fixed 512 (plainBlock filler password) ≡ front ++ password
+  body-read =
+      over-fills (plainBlock filler password) (replicate 512 0) (omega (arith, length-plain))
+      ∙ ap (take 512) plain-parts ∙ take-at (front ++ password) (toLe 4 (length password)) 512 body-length
+
+  opened-plain : (old : List ℕ) → crypted old (sealedBlock old filler password) ≡ plainBlock filler password
+  unfolding sealedBlock
+  opened-plain old = crypted-twice old (plainBlock filler password)
+
+  pub open-sealed : (old : List ℕ) → openedAs old (sealedBlock old filler password) ≡ record { content = contentFor (length password); octets = front ++ password }
+  unfolding openedAs
+  open-sealed old =
+      ap (λ (x : List ℕ). record { content = contentFor (lengthIn x); octets = fixed 512 x }) (opened-plain old)
+      ∙ ap₂ (λ (n : ℕ) (x : List ℕ). record { content = contentFor n; octets = x }) length-read body-read
+
+  -- the password, for every old hash
+  pub password-sealed : (old : List ℕ) → passwordIn (openedAs old (sealedBlock old filler password)) (length password) ≡ password
+  unfolding passwordIn
+  password-sealed old =
+      ap (λ (x : Opened). part (512 - length password) (length password) (x .octets)) (open-sealed old)
+      ∙ ap (take (length password)) (drop-at front password (512 - length password) front-length)
+      ∙ take-all (length password) password (omega arith)
+
+-- ---- what a length says
+
+pub content-password : (n : ℕ) → n ≤ 512 → n % 2 ≡ 0 → contentFor n ≡ Password n
+unfolding contentFor
+content-password n h e = simp (le-ltb 512 n h, ne-eqb (n % 2) 1 (λ o. omega (arith, o, e)))
+
+-- a password that is not refused has such a length
+pub good-password : (password : List ℕ) → badNtPassword password ≡ false → (length password ≤ 512) × (length password % 2 ≡ 0)
+good-password password e = which (ltb 512 (length password)) refl e
+  where
+    which : (b : Bool) → ltb 512 (length password) ≡ b → (b || eqb (length password % 2) 1) ≡ false → (length password ≤ 512) × (length password % 2 ≡ 0)
+    which true p q = absurd (true≢false q)
+    which false p q =
+        let even : length password % 2 ≡ 1 → ⊥ = eqb-false (length password % 2) 1 q in
+        (ltb-false 512 (length password) p, omega arith)
+
+-- ---- what sealing answers
+
+module _ (old password filler : List ℕ) where
+  -- by the refusal
+  abbrev answer : ℕ → Sealed
+  answer n = record { refusal = n; block = cond (eqb n 0) (sealedBlock old filler password) (replicate 516 0) }
+
+  pub sealed-bad : badNtPassword password ≡ true → sealedAs old password filler ≡ record { refusal = 8; block = replicate 516 0 }
+  unfolding sealedAs sealRefusal
+  sealed-bad e = ap (λ (b : Bool). answer (cond b 8 (cond (eqb (length filler) 512) 0 12))) e
+
+  pub sealed-filler : badNtPassword password ≡ false → eqb (length filler) 512 ≡ false → sealedAs old password filler ≡ record { refusal = 12; block = replicate 516 0 }
+  unfolding sealedAs sealRefusal
+  sealed-filler e f = ap₂ (λ (a b : Bool). answer (cond a 8 (cond b 0 12))) e f
+
+  pub sealed-good : badNtPassword password ≡ false → eqb (length filler) 512 ≡ true → sealedAs old password filler ≡ record { refusal = 0; block = sealedBlock old filler password }
+  unfolding sealedAs sealRefusal
+  sealed-good e f = ap₂ (λ (a b : Bool). answer (cond a 8 (cond b 0 12))) e f

@@ -1,0 +1,98 @@
+-- Hashes, responses and the sealed password (RFC 2433, appendix A), over lists of octets.
+-- Assumes nothing: these are definitions.
+use mathlib.Core.Bool.{Bool, cond, _||_}
+use mathlib.Core.List.{List, [], _∷_, _++_, map}
+use Prim.Native.Nat.{ℕ, _-_, _%_}
+use lib.Dec.{eqb, leb, ltb}
+use lib.ListN.{length, take, replicate}
+use Rattle.octets.specs.Parts.{part, fixed}
+use Rattle.octets.specs.Numbers.{fromLe, toLe}
+use Rattle.octets.specs.Digits.{between}
+use Rattle.md4.specs.Md4.{md4Of}
+use Rattle.des.specs.Des.{desEncrypt, desThree}
+use Rattle.rc4.specs.Rc4.{crypted}
+use Rattle.credentials.specs.declared.Hashed.{Hashed}
+use Rattle.credentials.specs.declared.Content.{Content}
+use Rattle.credentials.specs.declared.Content.the-variants.{Over, Odd, Password}
+use Rattle.credentials.specs.declared.Opened.{Opened}
+use Rattle.credentials.specs.declared.Sealed.{Sealed}
+
+-- ---- hashes
+
+-- A.6, NtPasswordHash(): MD4 of the password as 16-bit characters, the least significant octet first, with no terminator
+unfoldable pub ntHashOf : List ℕ → List ℕ
+ntHashOf password = md4Of password
+
+-- refusal 8: an NT password is odd or over 512 octets
+abbrev pub badNtPassword : List ℕ → Bool
+badNtPassword password = ltb 512 (length password) || eqb (length password % 2) 1
+
+-- A.2, LmPasswordHash(): a to z become A to Z, other octets stay
+abbrev pub upper : ℕ → ℕ
+upper c = cond (between 97 122 c) (c - 32) c
+
+-- A.2: the password zero-padded to 14 octets
+unfoldable pub lmKeys : List ℕ → List ℕ
+lmKeys password = fixed 14 (map upper password)
+
+-- A.3, DesHash(): the string KGS!@#$% under each half
+abbrev pub stdText : List ℕ
+stdText = 75 ∷ 71 ∷ 83 ∷ 33 ∷ 64 ∷ 35 ∷ 36 ∷ 37 ∷ []
+
+unfoldable pub lmHashOf : List ℕ → List ℕ
+lmHashOf password = desEncrypt (part 0 7 (lmKeys password)) stdText ++ desEncrypt (part 7 7 (lmKeys password)) stdText
+
+-- refusal 8: an LM password is over 14 octets
+abbrev pub badLmPassword : List ℕ → Bool
+badLmPassword password = ltb 14 (length password)
+
+-- what the public functions answer: the hash, or 8 and sixteen octets 0
+abbrev pub hashed : Bool → List ℕ → Hashed
+hashed bad hash = record { refusal = cond bad 8 0; hash = cond bad (replicate 16 0) hash }
+
+-- ---- responses
+
+-- A.7, ChallengeResponse(): the hash zero-padded to 21 octets, three keys, each encrypting the challenge
+unfoldable pub responseOf : List ℕ → List ℕ → List ℕ
+responseOf hash challenge = desThree (fixed 21 hash) challenge
+
+-- A.17, NtPasswordHashEncryptedWithBlock(): the first half under the new hash's octets 0 to 6, the second under 7 to 13
+unfoldable pub oldUnderNew : List ℕ → List ℕ → List ℕ
+oldUnderNew old new = desEncrypt (part 0 7 new) (part 0 8 old) ++ desEncrypt (part 7 7 new) (part 8 8 old)
+
+-- ---- the sealed password
+
+-- A.11, PWBLOCK: 512 octets, the password at their end and before it the first octets of the filler, and then the password's length in octets
+unfoldable pub plainBlock : List ℕ → List ℕ → List ℕ
+plainBlock filler password = take (512 - length password) filler ++ (password ++ toLe 4 (length password))
+
+-- A.12, EncryptPwBlockWithPasswordHash(): one RC4 run over all 516, keyed by the old hash
+unfoldable pub sealedBlock : List ℕ → List ℕ → List ℕ → List ℕ
+sealedBlock old filler password = crypted old (plainBlock filler password)
+
+-- refusals 8, then 12
+unfoldable pub sealRefusal : List ℕ → List ℕ → ℕ
+sealRefusal password filler = cond (badNtPassword password) 8 (cond (eqb (length filler) 512) 0 12)
+
+unfoldable pub sealedAs : List ℕ → List ℕ → List ℕ → Sealed
+sealedAs old password filler =
+    record {
+      refusal = sealRefusal password filler;
+      block = cond (eqb (sealRefusal password filler) 0) (sealedBlock old filler password) (replicate 516 0);
+    }
+
+-- the length that an opened block gives
+abbrev pub lengthIn : List ℕ → ℕ
+lengthIn plain = fromLe (part 512 4 plain)
+
+-- what a block with the length n holds: over 512, odd, or a password of that length
+unfoldable pub contentFor : ℕ → Content
+contentFor n = cond (ltb 512 n) Over (cond (eqb (n % 2) 1) Odd (Password n))
+
+-- opening a block: what it holds, and its 512 octets, of which a password is the last
+unfoldable pub openedAs : List ℕ → List ℕ → Opened
+openedAs old block = record { content = contentFor (lengthIn (crypted old block)); octets = fixed 512 (crypted old block) }
+
+-- the password of n octets in an opened block
+unfoldable pub passwordIn : Opened → ℕ → List ℕ
+passwordIn opened n = part (512 - n) n (opened .octets)

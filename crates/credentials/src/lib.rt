@@ -1,0 +1,221 @@
+// Hashes, responses and the sealed password of MS-CHAP (RFC 2433, appendix A).
+ghost use mathlib.Core.Path.{_≡_};
+ghost use mathlib.Core.List.{_++_};
+ghost use Prim.Native.Nat.{_≤_};
+ghost use lib.ListN.{length};
+ghost use Rattle.octets.specs.Parts.{part, fixed};
+ghost use Rattle.credentials.specs.Credentials.{upper, ntHashOf, badNtPassword, lmKeys, lmHashOf, badLmPassword, hashed, responseOf, oldUnderNew, plainBlock, sealedAs, contentFor, openedAs};
+
+// A hash, or a refusal (8) with sixteen octets 0. 0 is no refusal.
+pub struct Hashed {
+    pub refusal: u8,
+    pub hash: [u8; 16],
+}
+
+// A sealed password, or a refusal (8, 12) with octets 0. 0 is no refusal.
+pub struct Sealed {
+    pub refusal: u8,
+    pub block: [u8; 516],
+}
+
+// What an opened block holds: a length over 512, an odd length, or a password of this many octets.
+pub enum Content {
+    Over,
+    Odd,
+    Password(usize),
+}
+
+// An opened block: what it holds, and its octets, of which a password is the last. (An enum can hold no array.)
+pub struct Opened {
+    pub content: Content,
+    pub octets: [u8; 512],
+}
+
+// ---- hashes
+
+fn is_bad_nt_password(password: &[u8]) -> bool
+    ensures { λ r. ⌜ r ≡ badNtPassword (now (password .entry)) ⌝ }
+{
+    512 < password.len() || password.len() % 2 == 1
+}
+
+// A.6, NtPasswordHash(): the password's octets as lent, 0 to 512 of them, an even number; else refusal 8.
+pub fn nt_hash(password: &[u8]) -> Hashed
+    ensures { λ r. ⌜ r ≡ hashed (badNtPassword (now (password .entry))) (ntHashOf (now (password .entry))) ⌝ }
+{
+    if is_bad_nt_password(password) {
+        return Hashed {
+            refusal: 8,
+            hash: [0; 16],
+        };
+    }
+    let hash = md4::md4(password).digest;
+    Hashed { refusal: 0, hash }
+}
+
+fn upper_case(c: u8) -> u8
+    ensures { λ r. ⌜ r ≡ upper c ⌝ }
+{
+    if c < 97 {
+        return c;
+    }
+    if 122 < c {
+        return c;
+    }
+    c - 32
+}
+
+// The upper-cased password, zero-padded to 14 octets.
+fn lm_keys(password: &[u8]) -> [u8; 14]
+    ensures { λ r. ⌜ r ≡ lmKeys (now (password .entry)) ⌝ }
+{
+    let mut keys = [0u8; 14];
+    octets::copy(&mut keys, password);
+    let mut i: usize = 0;
+    while i < 14 {
+        keys[i] = upper_case(keys[i]);
+        i += 1;
+    }
+    keys
+}
+
+// Seven octets of s from the place at on, as a DES key.
+fn key_at(s: &[u8], at: usize) -> [u8; 7]
+    ensures { λ r. ⌜ r ≡ fixed 7 (part at 7 (now (s .entry))) ⌝ }
+{
+    let mut key = [0u8; 7];
+    octets::copy(&mut key, octets::part_of(s, at, 7));
+    key
+}
+
+// Eight octets of s from the place at on, as a DES block.
+fn block_at(s: &[u8], at: usize) -> [u8; 8]
+    ensures { λ r. ⌜ r ≡ fixed 8 (part at 8 (now (s .entry))) ⌝ }
+{
+    let mut block = [0u8; 8];
+    octets::copy(&mut block, octets::part_of(s, at, 8));
+    block
+}
+
+// Two blocks one after the other.
+fn joined(a: [u8; 8], b: [u8; 8]) -> [u8; 16]
+    ensures { λ r. ⌜ r ≡ a ++ b ⌝ }
+{
+    [
+        a[0],
+        a[1],
+        a[2],
+        a[3],
+        a[4],
+        a[5],
+        a[6],
+        a[7],
+        b[0],
+        b[1],
+        b[2],
+        b[3],
+        b[4],
+        b[5],
+        b[6],
+        b[7],
+    ]
+}
+
+// A.2, LmPasswordHash(): at most 14 octets, else refusal 8; a longer password is never cut.
+pub fn lm_hash(password: &[u8]) -> Hashed
+    ensures { λ r. ⌜ r ≡ hashed (badLmPassword (now (password .entry))) (lmHashOf (now (password .entry))) ⌝ }
+{
+    if 14 < password.len() {
+        return Hashed {
+            refusal: 8,
+            hash: [0; 16],
+        };
+    }
+    let keys = lm_keys(password);
+    let text = *b"KGS!@#$%";
+    let first = des::encrypt(key_at(&keys, 0), text);
+    let second = des::encrypt(key_at(&keys, 7), text);
+    let hash = joined(first, second);
+    Hashed { refusal: 0, hash }
+}
+
+// ---- responses
+
+// A.7, ChallengeResponse().
+pub fn challenge_response(hash: [u8; 16], challenge: [u8; 8]) -> [u8; 24]
+    ensures { λ r. ⌜ r ≡ responseOf hash challenge ⌝ }
+{
+    let mut keys = [0u8; 21];
+    octets::copy(&mut keys, &hash);
+    des::encrypt_three(keys, challenge)
+}
+
+// A.17, NtPasswordHashEncryptedWithBlock(): the old hash under the new one.
+pub fn old_under_new(old: [u8; 16], new: [u8; 16]) -> [u8; 16]
+    ensures { λ r. ⌜ r ≡ oldUnderNew old new ⌝ }
+{
+    let first = des::encrypt(key_at(&new, 0), block_at(&old, 0));
+    let second = des::encrypt(key_at(&new, 7), block_at(&old, 8));
+    joined(first, second)
+}
+
+// ---- the sealed password
+
+// The block before RC4: the filler, the password over its end, and the password's length.
+fn plain_block(password: &[u8], filler: &[u8]) -> [u8; 516]
+    requires { ⌜ (length (now password) ≤ 512) × (length (now filler) ≡ 512) ⌝ }
+    ensures { λ r. ⌜ r ≡ plainBlock (now (filler .entry)) (now (password .entry)) ⌝ }
+{
+    let n = password.len();
+    let mut block = [0u8; 516];
+    octets::copy(&mut block, filler);
+    octets::copy_at(&mut block, 512 - n, password);
+    octets::copy_at(&mut block, 512, &octets::u32_to_le(n as u32));
+    block
+}
+
+// A.12, EncryptPwBlockWithPasswordHash(): the password under the old hash. Refusals 8 (password), then 12 (filler not 512 octets).
+pub fn seal(old: [u8; 16], password: &[u8], filler: &[u8]) -> Sealed
+    ensures { λ r. ⌜ r ≡ sealedAs old (now (password .entry)) (now (filler .entry)) ⌝ }
+{
+    if is_bad_nt_password(password) {
+        return Sealed {
+            refusal: 8,
+            block: [0; 516],
+        };
+    }
+    if filler.len() != 512 {
+        return Sealed {
+            refusal: 12,
+            block: [0; 516],
+        };
+    }
+    let mut block = plain_block(password, filler);
+    rc4::rc4(&old, &mut block);
+    Sealed { refusal: 0, block }
+}
+
+// What a length of the opened block says.
+fn content_of(n: u32) -> Content
+    ensures { λ r. ⌜ r ≡ contentFor n ⌝ }
+{
+    if 512 < n {
+        return Content::Over;
+    }
+    if n % 2 == 1 {
+        return Content::Odd;
+    }
+    Content::Password(n as usize)
+}
+
+// Opens a block under the old hash.
+pub fn open(old: [u8; 16], block: [u8; 516]) -> Opened
+    ensures { λ r. ⌜ r ≡ openedAs old block ⌝ }
+{
+    let mut plain = block;
+    rc4::rc4(&old, &mut plain);
+    let content = content_of(octets::u32_from_le(plain[512], plain[513], plain[514], plain[515]));
+    let mut octets = [0u8; 512];
+    octets::copy(&mut octets, &plain);
+    Opened { content, octets }
+}

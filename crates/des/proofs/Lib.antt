@@ -1,0 +1,12 @@
+pub mod Linear
+pub mod Permute
+pub mod Entries
+pub mod Groups
+pub mod Selections
+pub mod Swaps
+pub mod Round
+pub mod Keys
+pub mod RoundTrip
+pub mod Sizes
+pub mod Parity
+pub mod Worked
