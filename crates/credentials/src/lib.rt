@@ -3,7 +3,6 @@ ghost use mathlib.Core.Path.{_≡_};
 ghost use mathlib.Core.List.{_++_};
 ghost use Prim.Native.Nat.{_≤_};
 ghost use lib.ListN.{length};
-ghost use Rattle.octets.specs.Parts.{part, fixed};
 ghost use Rattle.credentials.specs.Credentials.{upper, ntHashOf, badNtPassword, lmKeys, lmHashOf, badLmPassword, hashed, responseOf, oldUnderNew, plainBlock, sealedAs, contentFor, openedAs};
 
 // A hash, or a refusal (8) with sixteen octets 0. 0 is no refusal.
@@ -79,24 +78,6 @@ fn lm_keys(password: &[u8]) -> [u8; 14]
     keys
 }
 
-// Seven octets of s from the place at on, as a DES key.
-fn key_at(s: &[u8], at: usize) -> [u8; 7]
-    ensures { λ r. ⌜ r ≡ fixed 7 (part at 7 (now (s .entry))) ⌝ }
-{
-    let mut key = [0u8; 7];
-    octets::copy(&mut key, octets::part_of(s, at, 7));
-    key
-}
-
-// Eight octets of s from the place at on, as a DES block.
-fn block_at(s: &[u8], at: usize) -> [u8; 8]
-    ensures { λ r. ⌜ r ≡ fixed 8 (part at 8 (now (s .entry))) ⌝ }
-{
-    let mut block = [0u8; 8];
-    octets::copy(&mut block, octets::part_of(s, at, 8));
-    block
-}
-
 // Two blocks one after the other.
 fn joined(a: [u8; 8], b: [u8; 8]) -> [u8; 16]
     ensures { λ r. ⌜ r ≡ a ++ b ⌝ }
@@ -133,8 +114,8 @@ pub fn lm_hash(password: &[u8]) -> Hashed
     }
     let keys = lm_keys(password);
     let text = *b"KGS!@#$%";
-    let first = des::encrypt(key_at(&keys, 0), text);
-    let second = des::encrypt(key_at(&keys, 7), text);
+    let first = des::encrypt(octets::seven_at(&keys, 0), text);
+    let second = des::encrypt(octets::seven_at(&keys, 7), text);
     let hash = joined(first, second);
     Hashed { refusal: 0, hash }
 }
@@ -154,8 +135,8 @@ pub fn challenge_response(hash: [u8; 16], challenge: [u8; 8]) -> [u8; 24]
 pub fn old_under_new(old: [u8; 16], new: [u8; 16]) -> [u8; 16]
     ensures { λ r. ⌜ r ≡ oldUnderNew old new ⌝ }
 {
-    let first = des::encrypt(key_at(&new, 0), block_at(&old, 0));
-    let second = des::encrypt(key_at(&new, 7), block_at(&old, 8));
+    let first = des::encrypt(octets::seven_at(&new, 0), octets::eight_at(&old, 0));
+    let second = des::encrypt(octets::seven_at(&new, 7), octets::eight_at(&old, 8));
     joined(first, second)
 }
 

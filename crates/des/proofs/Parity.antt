@@ -3,7 +3,7 @@
 use mathlib.Core.Path.{_≡_, refl, sym, ap, ap₂, _∙_, subst}
 use mathlib.Core.List.{List, [], _∷_, map}
 use Prim.Native.Nat.{ℕ, zero, suc, _+_, _*_, _/_, _%_, _^_, _<_}
-use native.Mathlib.Nat.{mod-eq-of-lt, mul-assoc, add-mul, add-assoc, zero-add}
+use native.Mathlib.Nat.{mod-eq-of-lt, mul-assoc, mul-suc, add-mul, add-assoc, add-comm, zero-add}
 use native.Mathlib.Omega.{arith}
 use lib.Arith.{digits-lt, digits-mod}
 use lib.Dec.{lit<}
@@ -41,12 +41,13 @@ abbrev mask : ℕ → ℕ
 mask zero = 0
 mask (suc n) = 0xFE * 2 ^ (8 * n) + mask n
 
-eight : (n : ℕ) → 2 ^ 8 * 2 ^ (8 * n) ≡ 2 ^ (8 * suc n)
-eight n = sym (pow-add 2 8 (8 * n)) ∙ ap (λ (k : ℕ). 2 ^ k) (omega arith)
+-- one more digit of w bits
+one-more : (w n : ℕ) → 2 ^ w * 2 ^ (w * n) ≡ 2 ^ (w * suc n)
+one-more w n = sym (pow-add 2 w (w * n)) ∙ ap (λ (k : ℕ). 2 ^ k) (add-comm w (w * n) ∙ sym (mul-suc w n))
 
 mask-lt : (n : ℕ) → mask n < 2 ^ (8 * n)
 mask-lt zero = lit< tt
-mask-lt (suc n) = subst (λ (p : ℕ). mask (suc n) < p) (eight n) (digits-lt (lit< tt) (mask-lt n))
+mask-lt (suc n) = subst (λ (p : ℕ). mask (suc n) < p) (one-more 8 n) (digits-lt (lit< tt) (mask-lt n))
 
 even : (b : ℕ) → b < 256 → bitAnd b 0xFE ≡ b / 2 * 2
 even b h = and-high b 7 1 ∙ omega arith
@@ -66,9 +67,9 @@ cleared l n o =
     ∙ ap roundKeys (subst (λ (k : ℕ). bitAnd (fromBe l) (mask k) ≡ fromBe (map double (map half l))) n (masked l o))
 
 -- keys that agree but for parity have the same round keys
-pub same-halves : (a b : List ℕ) → length a ≡ 8 → length b ≡ 8 → Octets a → Octets b → map half a ≡ map half b
+pub parity-free-octets : (a b : List ℕ) → length a ≡ 8 → length b ≡ 8 → Octets a → Octets b → map half a ≡ map half b
     → roundKeys (fromBe a) ≡ roundKeys (fromBe b)
-same-halves a b na nb oa ob e =
+parity-free-octets a b na nb oa ob e =
     cleared a na oa ∙ ap (λ (l : List ℕ). roundKeys (fromBe (map double l))) e ∙ sym (cleared b nb ob)
 
 -- ---- groups of seven bits
@@ -76,30 +77,29 @@ same-halves a b na nb oa ob e =
 abbrev Sevens : List ℕ → Type 0
 Sevens l = (i : ℕ) → getD l i 0 < 128
 
-seven : (n : ℕ) → 2 ^ 7 * 2 ^ (7 * n) ≡ 2 ^ (7 * suc n)
-seven n = sym (pow-add 2 7 (7 * n)) ∙ ap (λ (k : ℕ). 2 ^ k) (omega arith)
-
 fromSevens-lt : (l : List ℕ) → Sevens l → fromSevens l < 2 ^ (7 * length l)
 fromSevens-lt [] h = lit< tt
 fromSevens-lt (s ∷ l) h =
-    subst (λ (p : ℕ). fromSevens (s ∷ l) < p) (seven (length l)) (digits-lt (h 0) (fromSevens-lt l (λ i. h (suc i))))
+    subst (λ (p : ℕ). fromSevens (s ∷ l) < p) (one-more 7 (length l)) (digits-lt (h 0) (fromSevens-lt l (λ i. h (suc i))))
+
+-- a group joined to the number before it
+regroup : (a s n x : ℕ) → a * 2 ^ (7 * suc n) + (s * 2 ^ (7 * n) + x) ≡ (a * 128 + s) * 2 ^ (7 * n) + x
+regroup a s n x =
+    let p = 2 ^ (7 * n) in
+    ap (λ (q : ℕ). a * q + (s * p + x)) (sym (one-more 7 n))
+    ∙ sym (add-assoc (a * (128 * p)) (s * p) x)
+    ∙ ap (λ (v : ℕ). v + x) (ap (λ (v : ℕ). v + s * p) (sym (mul-assoc a 128 p)) ∙ sym (add-mul (a * 128) s p))
 
 -- groups that were joined, with any number before them, are found again
 found-again : (l : List ℕ) → Sevens l → (a : ℕ) → toSevens (length l) (a * 2 ^ (7 * length l) + fromSevens l) ≡ l
 found-again [] h a = refl
 found-again (s ∷ l) h a =
     let n = length l in
-    let x = fromSevens l in
     let small = fromSevens-lt l (λ i. h (suc i)) in
-    let shape : a * 2 ^ (7 * suc n) + (s * 2 ^ (7 * n) + x) ≡ (a * 128 + s) * 2 ^ (7 * n) + x =
-    ap (λ (p : ℕ). a * p + (s * 2 ^ (7 * n) + x)) (sym (seven n)) ∙ regroup a s (2 ^ (7 * n)) x in
-    ap (toSevens (suc n)) shape
+    ap (toSevens (suc n)) (regroup a s n (fromSevens l))
     ∙ ap₂ (λ (v : ℕ) (m : List ℕ). v ∷ m)
     (ap (λ (v : ℕ). v % 128) (high (a * 128 + s) (7 * n) small) ∙ digits-mod a (h 0))
     (found-again l (λ i. h (suc i)) (a * 128 + s))
-  where
-    regroup : (a s p x : ℕ) → a * (128 * p) + (s * p + x) ≡ (a * 128 + s) * p + x
-    regroup a s p x = sym (add-assoc (a * (128 * p)) (s * p) x) ∙ ap (λ (v : ℕ). v + x) (ap (λ (v : ℕ). v + s * p) (sym (mul-assoc a 128 p)) ∙ sym (add-mul (a * 128) s p))
 
 halves-of-doubles : (l : List ℕ) → map half (map double l) ≡ l
 halves-of-doubles [] = refl
@@ -121,4 +121,4 @@ halves-kept k n o =
 -- and so its round keys
 pub restored : (k : List ℕ) → length k ≡ 8 → Octets k → roundKeys (fromBe (expandKey (dropParity k))) ≡ roundKeys (fromBe k)
 restored k n o =
-    same-halves (expandKey (dropParity k)) k (length-expand (dropParity k)) n (octets-expand (dropParity k)) o (halves-kept k n o)
+    parity-free-octets (expandKey (dropParity k)) k (length-expand (dropParity k)) n (octets-expand (dropParity k)) o (halves-kept k n o)

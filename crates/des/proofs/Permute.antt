@@ -1,14 +1,13 @@
 -- What a table makes of a block is linear, and is below the power of two of the table's length.
 -- Assumes nothing.
-use mathlib.Core.Path.{_≡_, refl, sym, ap, _∙_}
+use mathlib.Core.Path.{refl}
 use mathlib.Core.List.{List, [], _∷_}
-use Prim.Native.Nat.{ℕ, suc, _+_, _-_, _*_, _/_, _%_, _^_, _<_}
+use Prim.Native.Nat.{ℕ, suc, _+_, _-_, _*_, _/_, _^_, _<_}
 use native.Mathlib.Nat.{mod-lt, pow-suc, add-zero, add-suc, suc-add, zero-add}
 use native.Mathlib.Omega.{arith}
 use lib.Dec.{lit<}
 use lib.ListN.{length}
 use lib.Pow.{pow-pos}
-use lib.Bits.{bitXor}
 use Rattle.des.specs.Des.{bit, choose, permute}
 use Rattle.des.proofs.Linear.{Linear, lin-id, lin-shr, lin-mod, lin-digits}
 

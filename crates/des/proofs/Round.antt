@@ -4,7 +4,7 @@
 use mathlib.Core.Path.{_≡_, sym, ap, ap₂, _∙_}
 use mathlib.Core.List.{[]}
 use Prim.Native.Nat.{ℕ, _+_, _*_, _/_, _%_, _^_, _<_}
-use native.Mathlib.Nat.{div-one, zero-add, zero-mul}
+use native.Mathlib.Nat.{div-one, zero-add}
 use lib.Dec.{T}
 use lib.ListN.{getD}
 use lib.Bits.{bitXor, xor-shr, xor-mod}

@@ -1,16 +1,16 @@
 -- The lengths of what DES gives, for all lists, and that it gives octets.
 -- Assumes nothing.
-use mathlib.Core.Path.{_≡_, refl, sym, ap, ap₂, _∙_, subst}
+use mathlib.Core.Path.{_≡_, refl}
 use mathlib.Core.List.{List, [], _∷_, _++_, map}
-use Prim.Native.Nat.{ℕ, zero, suc, _+_, _*_, _/_, _%_, _^_, _<_}
+use Prim.Native.Nat.{ℕ, zero, suc, _+_, _*_, _/_, _^_, _<_}
 use native.Mathlib.Nat.{mod-lt, zero-lt-suc}
 use native.Mathlib.Omega.{arith}
 use lib.Dec.{lit<}
-use lib.ListN.{length, getD, length-append, length-map}
+use lib.ListN.{length}
 use Rattle.octets.specs.Numbers.{fromBe, toBe}
 use Rattle.octets.specs.Parts.{part}
-use Rattle.octets.proofs.Numbers.{Octets, length-toBe}
-use Rattle.des.specs.Des.{toSevens, double, half, fromSevens, expandKey, dropParity, desEncrypt, desDecrypt, desThree}
+use Rattle.octets.proofs.Numbers.{Octets}
+use Rattle.des.specs.Des.{toSevens, double, expandKey, dropParity, desEncrypt, desDecrypt, desThree}
 
 -- ---- lengths
 

@@ -1,12 +1,11 @@
 -- The five exchanges of bits that make IP, and the same in the opposite order, which make its inverse.
 -- Assumes nothing.
 use mathlib.Core.Path.{_≡_}
-use Prim.Native.Nat.{ℕ, _*_, _/_, _%_, _^_, _<_}
-use lib.Bits.{bitXor, bitAnd}
+use Prim.Native.Nat.{ℕ, _^_, _<_}
 use Rattle.des.specs.Tables.{ip, fp}
 use Rattle.des.specs.Des.{permute}
 use Rattle.des.specs.Code.{swapped}
-use Rattle.des.proofs.Linear.{Linear, agree, lin-id, lin-after, lin-xor, lin-shr, lin-mod, lin-shl, lin-mask}
+use Rattle.des.proofs.Linear.{Linear, agree, lin-id, lin-xor, lin-shr, lin-mod, lin-shl, lin-mask}
 use Rattle.des.proofs.Permute.{lin-permute}
 
 lin-swapped : (n m : ℕ) {g : ℕ → ℕ} → Linear g → Linear (λ x. swapped n m (g x))

@@ -1,7 +1,7 @@
 -- What the parts of the code compute, as numbers. Only the code's inner functions cite these; no public promise does.
 -- Assumes nothing: these are definitions.
 use mathlib.Core.List.{List, [], _∷_}
-use Prim.Native.Nat.{ℕ, zero, suc, _+_, _*_, _/_, _%_, _^_}
+use Prim.Native.Nat.{ℕ, zero, suc, _*_, _/_, _%_, _^_}
 use lib.ListN.{getD}
 use lib.Bits.{bitXor, bitAnd}
 use Rattle.des.specs.Tables.{permutation, boxes, pc2}

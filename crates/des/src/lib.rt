@@ -2,7 +2,7 @@
 mod tables;
 
 ghost use mathlib.Core.Path.{_≡_};
-ghost use mathlib.Core.List.{[], reverse};
+ghost use mathlib.Core.List.{[], _++_, reverse};
 ghost use Prim.Native.Nat.{_%_, _<_, _≤_};
 ghost use lib.ListN.{getD};
 ghost use Rattle.octets.specs.Numbers.{toBe};
@@ -311,6 +311,17 @@ pub fn decrypt(key: [u8; 7], block: [u8; 8]) -> [u8; 8]
     octets::u64_to_be(crypt_block(&selections, &places, s, octets::u64_from_be(block)))
 }
 
+// Three blocks, one after the other.
+fn joined(a: [u8; 8], b: [u8; 8], c: [u8; 8]) -> [u8; 24]
+    ensures { λ r. ⌜ r ≡ a ++ (b ++ c) ⌝ }
+{
+    let mut r = [0u8; 24];
+    octets::copy_at(&mut r, 0, &a);
+    octets::copy_at(&mut r, 8, &b);
+    octets::copy_at(&mut r, 16, &c);
+    r
+}
+
 // One block under each of the three keys of 21 octets. The tables are made once.
 pub fn encrypt_three(keys: [u8; 21], block: [u8; 8]) -> [u8; 24]
     ensures { λ r. ⌜ r ≡ desThree keys block ⌝ }
@@ -319,60 +330,14 @@ pub fn encrypt_three(keys: [u8; 21], block: [u8; 8]) -> [u8; 24]
     let places = tables::permutation_places();
     let choice = tables::second_choice_places();
     let x = octets::u64_from_be(block);
-    let k1 = [
-        keys[0],
-        keys[1],
-        keys[2],
-        keys[3],
-        keys[4],
-        keys[5],
-        keys[6],
-    ];
-    let k2 = [
-        keys[7],
-        keys[8],
-        keys[9],
-        keys[10],
-        keys[11],
-        keys[12],
-        keys[13],
-    ];
-    let k3 = [
-        keys[14],
-        keys[15],
-        keys[16],
-        keys[17],
-        keys[18],
-        keys[19],
-        keys[20],
-    ];
-    let a = encrypt_with(&selections, &places, &choice, k1, x);
-    let b = encrypt_with(&selections, &places, &choice, k2, x);
-    let c = encrypt_with(&selections, &places, &choice, k3, x);
-    [
-        a[0],
-        a[1],
-        a[2],
-        a[3],
-        a[4],
-        a[5],
-        a[6],
-        a[7],
-        b[0],
-        b[1],
-        b[2],
-        b[3],
-        b[4],
-        b[5],
-        b[6],
-        b[7],
-        c[0],
-        c[1],
-        c[2],
-        c[3],
-        c[4],
-        c[5],
-        c[6],
-        c[7],
-    ]
+    let a = encrypt_with(&selections, &places, &choice, octets::seven_at(&keys, 0), x);
+    let b = encrypt_with(&selections, &places, &choice, octets::seven_at(&keys, 7), x);
+    let c = encrypt_with(
+        &selections,
+        &places,
+        &choice,
+        octets::seven_at(&keys, 14),
+        x,
+    );
+    joined(a, b, c)
 }

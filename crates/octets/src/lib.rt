@@ -2,7 +2,7 @@
 ghost use mathlib.Core.Path.{_≡_};
 ghost use mathlib.Core.List.{[], _∷_};
 ghost use Prim.Native.Nat.{_%_, _<_, min};
-ghost use Rattle.octets.specs.Parts.{part, over, overAt, agrees};
+ghost use Rattle.octets.specs.Parts.{part, over, overAt, fixed, agrees};
 ghost use Rattle.octets.specs.Numbers.{fromBe, toBe, fromLe, toLe};
 ghost use Rattle.octets.specs.Digits.{between, digitOf, hexOf};
 
@@ -21,6 +21,24 @@ pub fn part_of(s: &[u8], at: usize, n: usize) -> &[u8]
     let a = least(at, s.len());
     let e = a + least(n, s.len() - a);
     &s[a..e]
+}
+
+// The seven octets of s from the place at on, as for a DES key; 0 for those that s does not reach.
+pub fn seven_at(s: &[u8], at: usize) -> [u8; 7]
+    ensures { λ r. ⌜ r ≡ fixed 7 (part at 7 (now (s .entry))) ⌝ }
+{
+    let mut octets = [0u8; 7];
+    copy(&mut octets, part_of(s, at, 7));
+    octets
+}
+
+// The eight octets of s from the place at on, as for a DES block or a challenge; 0 for those that s does not reach.
+pub fn eight_at(s: &[u8], at: usize) -> [u8; 8]
+    ensures { λ r. ⌜ r ≡ fixed 8 (part at 8 (now (s .entry))) ⌝ }
+{
+    let mut octets = [0u8; 8];
+    copy(&mut octets, part_of(s, at, 8));
+    octets
 }
 
 // Lays source over the front of target: what it does not reach is unchanged, and what of it finds no place is left out.

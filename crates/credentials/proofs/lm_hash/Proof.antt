@@ -29,7 +29,7 @@ returns-2 c =
     let n : length keys ≡ 14 = ap length (k .lm-keys .ensures) ∙ length-keys m in
     simp (le-ltb _ _ (k .before .if1 .left))
     (ap (λ (h : List ℕ). record { refusal = 0; hash = h })
-    (two-blocks keys stdText stdText (omega arith) (c .joined .ensures) (e₁ .encrypt .ensures) (e₂ .encrypt2 .ensures) (e₁ .before .key-at .ensures) (e₂ .before .key-at2 .ensures)
+    (two-blocks keys stdText stdText (omega arith) (c .joined .ensures) (e₁ .encrypt .ensures) (e₂ .encrypt2 .ensures) (e₁ .before .seven-at .ensures) (e₂ .before .seven-at2 .ensures)
     ∙ ap (λ (x : List ℕ). desEncrypt (part 0 7 x) stdText ++ desEncrypt (part 7 7 x) stdText) (k .lm-keys .ensures)))
 
 pub lm-hash-spec : {M : Type 1} → statement M

@@ -25,9 +25,9 @@ returns c =
     let a = e₁ .before .before .before .before .before .args in
     let n = sixteen (e₁ .before .before .before .before .before) in
     two-blocks (a .t2) (part 0 8 (a .t1)) (part 8 8 (a .t1)) (omega arith) (c .joined .ensures)
-    (e₁ .encrypt .ensures ∙ ap (λ (x : List ℕ). desEncrypt (e₁ .before .before .before .key-at .result) x) (e₁ .before .block-at .ensures ∙ fixed-part 0 8 (a .t1) (omega arith)))
-    (e₂ .encrypt2 .ensures ∙ ap (λ (x : List ℕ). desEncrypt (e₂ .before .before .before .key-at2 .result) x) (e₂ .before .block-at2 .ensures ∙ fixed-part 8 8 (a .t1) (omega arith)))
-    (e₁ .before .before .before .key-at .ensures) (e₂ .before .before .before .key-at2 .ensures)
+    (e₁ .encrypt .ensures ∙ ap (λ (x : List ℕ). desEncrypt (e₁ .before .before .before .seven-at .result) x) (e₁ .before .eight-at .ensures ∙ fixed-part 0 8 (a .t1) (omega arith)))
+    (e₂ .encrypt2 .ensures ∙ ap (λ (x : List ℕ). desEncrypt (e₂ .before .before .before .seven-at2 .result) x) (e₂ .before .eight-at2 .ensures ∙ fixed-part 8 8 (a .t1) (omega arith)))
+    (e₁ .before .before .before .seven-at .ensures) (e₂ .before .before .before .seven-at2 .ensures)
 
 pub old-under-new-spec : {M : Type 1} → statement M
 old-under-new-spec =

@@ -1,0 +1,4 @@
+pub mod Loops
+pub mod Formed
+pub mod Words
+pub mod Laws

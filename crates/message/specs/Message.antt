@@ -1,0 +1,145 @@
+-- The message of a Failure packet (RFC 2433, section 6; document 01, "What the peer reads"): what it says, and the text that the
+-- authenticator writes.
+-- Assumes nothing: these are definitions.
+use mathlib.Core.Bool.{Bool, true, false, cond, not, _&&_, _||_}
+use mathlib.Core.List.{List, [], _∷_, map}
+use mathlib.Core.Option.{Option, none, some}
+use Prim.Native.Nat.{ℕ, _+_, _*_, _/_, _%_}
+use lib.Dec.{eqb, leb, ltb}
+use lib.ListN.{length, drop, replicate}
+use Rattle.octets.specs.Digits.{digitOf, hexOf}
+use Rattle.message.specs.declared.Call.{Call}
+use Rattle.message.specs.declared.Call.the-variants.{Retry, ChangeTwo, ChangeOne, End}
+use Rattle.message.specs.declared.Verdict.{Verdict}
+use Rattle.message.specs.declared.Verdict.the-variants.{Success, Failure, Refused}
+use Rattle.message.specs.declared.Given.{Given}
+use Rattle.message.specs.declared.Reading.{Reading}
+
+-- ---- words
+
+abbrev pub withFirst : ℕ → List (List ℕ) → List (List ℕ)
+withFirst x [] = (x ∷ []) ∷ []
+withFirst x (w ∷ ws) = (x ∷ w) ∷ ws
+
+-- the text between spaces (octet 32 alone); two spaces in a row have the empty word between them
+unfoldable pub words : List ℕ → List (List ℕ)
+words [] = [] ∷ []
+words (x ∷ m) = cond (eqb x 32) ([] ∷ words m) (withFirst x (words m))
+
+-- ---- fields
+
+-- each value is below the base (an octet that is no digit has the value 16)
+abbrev pub allBelow : ℕ → List ℕ → Bool
+allBelow base [] = true
+allBelow base (d ∷ ds) = ltb d base && allBelow base ds
+
+-- the values of what stands after a letter and '='
+abbrev pub digitsOf : List ℕ → List ℕ
+digitsOf w = map digitOf (drop 2 w)
+
+-- A word is a field whole or not at all: the letter, '=' (61), and low to high digits of the base.
+unfoldable pub isField : ℕ → ℕ → ℕ → ℕ → List ℕ → Bool
+isField letter base low high [] = false
+isField letter base low high (x ∷ []) = false
+isField letter base low high (x ∷ y ∷ ds) =
+    eqb x letter && (eqb y 61 && (leb low (length ds) && (leb (length ds) high && allBelow base (map digitOf ds))))
+
+-- the values of a field's digits
+unfoldable pub fieldOf : ℕ → ℕ → ℕ → ℕ → List ℕ → Option (List ℕ)
+fieldOf letter base low high w = cond (isField letter base low high w) (some (digitsOf w)) none
+
+-- E= and V= take 1 to 10 decimal digits, R= one digit 0 or 1, C= 16 hexadecimal digits
+abbrev pub fieldE : List ℕ → Option (List ℕ)
+fieldE = fieldOf 69 10 1 10
+
+abbrev pub fieldR : List ℕ → Option (List ℕ)
+fieldR = fieldOf 82 2 1 1
+
+abbrev pub fieldV : List ℕ → Option (List ℕ)
+fieldV = fieldOf 86 10 1 10
+
+abbrev pub fieldC : List ℕ → Option (List ℕ)
+fieldC = fieldOf 67 16 16 16
+
+abbrev pub orElse : {A : Type 0} → Option A → Option A → Option A
+orElse none o = o
+orElse (some a) o = some a
+
+-- the first well-formed field of a kind counts; all other text is skipped
+abbrev pub first : (List ℕ → Option (List ℕ)) → List (List ℕ) → Option (List ℕ)
+first f [] = none
+first f (w ∷ ws) = orElse (f w) (first f ws)
+
+-- the number that digit values make after n
+abbrev pub numberFrom : ℕ → ℕ → List ℕ → ℕ
+numberFrom base n [] = n
+numberFrom base n (d ∷ ds) = numberFrom base (n * base + d) ds
+
+-- the number of a field, and what stands for a missing one
+abbrev pub numberOr : ℕ → ℕ → Option (List ℕ) → ℕ
+numberOr base missing none = missing
+numberOr base missing (some ds) = numberFrom base 0 ds
+
+-- hexadecimal digit values in pairs, as octets
+abbrev pub pairs : List ℕ → List ℕ
+pairs [] = []
+pairs (x ∷ []) = []
+pairs (x ∷ y ∷ ds) = (x * 16 + y) ∷ pairs ds
+
+-- ---- the verdict
+
+-- when a failure with the fields E, R and V calls for each of these
+abbrev pub callFits : Call → ℕ → ℕ → ℕ → Bool
+callFits Retry e r v = eqb e 691 && eqb r 1
+callFits ChangeTwo e r v = eqb e 648 && leb 2 v
+callFits ChangeOne e r v = eqb e 648 && ltb v 2
+callFits End e r v = not (eqb e 691 && eqb r 1 || eqb e 648)
+
+unfoldable pub calledFor : ℕ → ℕ → ℕ → Call
+calledFor e r v =
+    cond (callFits Retry e r v) Retry (cond (callFits ChangeTwo e r v) ChangeTwo (cond (callFits ChangeOne e r v) ChangeOne End))
+
+-- document 01's refusal number of a verdict; 0 is none
+abbrev pub numberOf : Verdict → ℕ
+numberOf Success = 0
+numberOf (Failure f) = 0
+numberOf (Refused n) = n
+
+-- C's octets beside the verdict; 00 where none is given
+abbrev pub noC : Given
+noC = record { given = false; octets = replicate 8 0 }
+
+abbrev pub givenAs : Option (List ℕ) → Given
+givenAs none = noC
+givenAs (some ds) = record { given = true; octets = pairs ds }
+
+abbrev pub refusedWith : ℕ → Reading
+refusedWith n = record { verdict = Refused n; c = noC }
+
+abbrev pub failedWith : ℕ → ℕ → ℕ → Given → Reading
+failedWith e r v c = record { verdict = Failure (record { e = e; r = r; v = v; call = calledFor e r v }); c = c }
+
+-- by the digits of E: without E, refusal 11
+abbrev pub readFields : List (List ℕ) → Option (List ℕ) → Reading
+readFields ws none = refusedWith 11
+readFields ws (some e) =
+    failedWith (numberFrom 10 0 e) (numberOr 2 0 (first fieldR ws)) (numberOr 10 1 (first fieldV ws)) (givenAs (first fieldC ws))
+
+-- what the message m says; over 256 octets, refusal 11
+unfoldable pub readMessage : List ℕ → Reading
+readMessage m = cond (ltb 256 (length m)) (refusedWith 11) (readFields (words m) (first fieldE (words m)))
+
+-- the number with which a message is refused: over 256 octets or without E, 11
+abbrev pub isNone : Option (List ℕ) → Bool
+isNone none = true
+isNone (some ds) = false
+
+unfoldable pub messageRefusal : List ℕ → ℕ
+messageRefusal m = cond (ltb 256 (length m) || isNone (first fieldE (words m))) 11 0
+
+-- ---- the text that is written: `E=691 R=1 V=2` with the numbers set, of which the three, one and one last decimal digits count
+unfoldable pub textOf : ℕ → ℕ → ℕ → List ℕ
+textOf e r v =
+    69 ∷ 61 ∷ hexOf (e / 100 % 10) ∷ hexOf (e / 10 % 10) ∷ hexOf (e % 10) ∷ 32
+    ∷ 82 ∷ 61 ∷ hexOf (r % 10) ∷ 32
+    ∷ 86 ∷ 61 ∷ hexOf (v % 10) ∷ []

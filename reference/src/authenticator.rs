@@ -1,0 +1,314 @@
+//! The box: a conversation as an explicit state machine.
+
+use crate::hashes::{self, Opened as OpenedBlock};
+use crate::packet::{self, ChangeFields, ResponseFields};
+use crate::{grown, next_identifier};
+
+/// An account record.
+#[derive(Clone, Copy, Debug, Default, PartialEq, Eq)]
+pub struct Account {
+    /// The NT hash, or none.
+    pub nt: Option<[u8; 16]>,
+    /// The LAN Manager hash, or none.
+    pub lm: Option<[u8; 16]>,
+    /// Disabled.
+    pub disabled: bool,
+    /// Barred by hours.
+    pub hours: bool,
+    /// No dial-in.
+    pub no_dialin: bool,
+    /// Expired.
+    pub expired: bool,
+}
+
+/// What a conversation awaits.
+#[derive(Clone, Copy, Debug, PartialEq, Eq)]
+pub enum Phase {
+    /// A Response.
+    Response,
+    /// A change; the kept record goes with it.
+    Change(Account),
+    /// Nothing more.
+    Ended,
+}
+
+/// A conversation.
+#[derive(Clone, Copy, Debug, PartialEq, Eq)]
+pub struct Conversation {
+    /// The awaited identifier.
+    pub id: u8,
+    /// The challenge in force.
+    pub challenge: [u8; 8],
+    /// Retries left.
+    pub retries: u8,
+    /// Whether LM is allowed.
+    pub lm: bool,
+    /// What is awaited.
+    pub phase: Phase,
+}
+
+/// The conversation that a refused opening gives.
+pub const REFUSED: Conversation = Conversation {
+    id: 0,
+    challenge: [0; 8],
+    retries: 0,
+    lm: false,
+    phase: Phase::Ended,
+};
+
+/// Retries of an opening that names none.
+pub const DEFAULT_RETRIES: u8 = 2;
+/// The most retries an opening may name.
+pub const MOST_RETRIES: u8 = 7;
+/// The change version told in each Failure.
+pub const VERSION: u8 = 2;
+
+/// What an opening gives.
+#[derive(Clone, Copy, Debug, PartialEq, Eq)]
+pub struct Opening {
+    /// The refusal's number, or 0.
+    pub refusal: u8,
+    /// The octets written: 13, or 0 on refusal.
+    pub written: usize,
+    /// The conversation; on refusal [`REFUSED`].
+    pub conversation: Conversation,
+}
+
+/// What a step gives.
+#[derive(Clone, Copy, Debug, PartialEq, Eq)]
+pub struct Answer {
+    /// The refusal's number, or 0.
+    pub refusal: u8,
+    /// The reason in the Failure written; 0 for Success and for a refusal.
+    pub reason: u16,
+    /// The octets written: 4, 17, or 0 on refusal.
+    pub written: usize,
+    /// The next conversation; on refusal the one given.
+    pub conversation: Conversation,
+    /// The record handed out by an accepted change.
+    pub record: Option<Account>,
+}
+
+/// Opens a conversation and writes its Challenge. `None` for `retries` or `lm` is an opening
+/// silent about it. Refusal 13 for retries over 7, then 2 for a buffer under 17 octets.
+pub fn open(
+    id: u8,
+    challenge: &[u8; 8],
+    retries: Option<u8>,
+    lm: Option<bool>,
+    buffer: &mut [u8],
+) -> Opening {
+    let retries = retries.unwrap_or(DEFAULT_RETRIES);
+    let refusal = if retries > MOST_RETRIES {
+        13
+    } else if buffer.len() < packet::FAILURE_LENGTH {
+        2
+    } else {
+        let written = packet::put(&packet::challenge(id, challenge), buffer);
+        let lm = lm.unwrap_or(true);
+        let conversation = Conversation {
+            id,
+            challenge: *challenge,
+            retries,
+            lm,
+            phase: Phase::Response,
+        };
+        return Opening {
+            refusal: 0,
+            written,
+            conversation,
+        };
+    };
+    Opening {
+        refusal,
+        written: 0,
+        conversation: REFUSED,
+    }
+}
+
+/// What a judged packet leads to.
+struct Judgement {
+    /// 0 for Success.
+    reason: u16,
+    retry: bool,
+    conversation: Conversation,
+    record: Option<Account>,
+}
+
+/// One step: a packet, the record of the account it names or none, and the reply buffer.
+pub fn step(
+    conversation: &Conversation,
+    packet: &[u8],
+    record: Option<&Account>,
+    buffer: &mut [u8],
+) -> Answer {
+    match judge(conversation, packet, record, buffer.len()) {
+        Err(refusal) => Answer {
+            refusal,
+            reason: 0,
+            written: 0,
+            conversation: *conversation,
+            record: None,
+        },
+        Ok(judgement) => {
+            // The packet carried the awaited identifier; the reply carries it too.
+            let id = conversation.id;
+            let reply = match judgement.reason {
+                0 => packet::success(id),
+                reason => packet::failure(id, reason, u8::from(judgement.retry), VERSION),
+            };
+            Answer {
+                refusal: 0,
+                reason: judgement.reason,
+                written: packet::put(&reply, buffer),
+                conversation: judgement.conversation,
+                record: judgement.record,
+            }
+        }
+    }
+}
+
+/// The refusals 1 to 7 in their order, then the rules of the phase.
+fn judge(
+    conversation: &Conversation,
+    packet: &[u8],
+    record: Option<&Account>,
+    room: usize,
+) -> Result<Judgement, u8> {
+    let awaited = match conversation.phase {
+        Phase::Response => packet::RESPONSE,
+        Phase::Change(_) => packet::CHANGE,
+        Phase::Ended => return Err(1),
+    };
+    if room < packet::FAILURE_LENGTH {
+        return Err(2);
+    }
+    let frame = packet::frame(packet)?;
+    if frame.code != awaited {
+        return Err(4);
+    }
+    if frame.id != conversation.id {
+        return Err(5);
+    }
+    match conversation.phase {
+        Phase::Response => Ok(judge_response(
+            conversation,
+            &packet::read_response(&frame)?,
+            record,
+        )),
+        Phase::Change(kept) => Ok(judge_change(
+            conversation,
+            &packet::read_change(&frame)?,
+            &kept,
+        )),
+        Phase::Ended => Err(1),
+    }
+}
+
+fn ended(conversation: &Conversation) -> Conversation {
+    Conversation {
+        phase: Phase::Ended,
+        ..*conversation
+    }
+}
+
+fn judge_response(
+    conversation: &Conversation,
+    fields: &ResponseFields<'_>,
+    record: Option<&Account>,
+) -> Judgement {
+    let reason = reason(conversation, fields, record);
+    let (retry, next) = match (reason, record) {
+        (691, _) if conversation.retries > 0 => {
+            let next = Conversation {
+                id: next_identifier(conversation.id),
+                challenge: grown(&conversation.challenge),
+                retries: conversation.retries - 1,
+                ..*conversation
+            };
+            (true, next)
+        }
+        (648, Some(account)) => {
+            let phase = Phase::Change(*account);
+            (
+                false,
+                Conversation {
+                    id: next_identifier(conversation.id),
+                    phase,
+                    ..*conversation
+                },
+            )
+        }
+        _ => (false, ended(conversation)),
+    };
+    Judgement {
+        reason,
+        retry,
+        conversation: next,
+        record: None,
+    }
+}
+
+/// The first reason that applies, or 0.
+fn reason(
+    conversation: &Conversation,
+    fields: &ResponseFields<'_>,
+    record: Option<&Account>,
+) -> u16 {
+    match record {
+        None => 691,
+        Some(account) if !valid(conversation, fields, account) => 691,
+        Some(account) if account.disabled => 647,
+        Some(account) if account.hours => 646,
+        Some(account) if account.no_dialin => 649,
+        Some(account) if account.expired => 648,
+        Some(_) => 0,
+    }
+}
+
+/// Whether a Response is valid for a record.
+fn valid(conversation: &Conversation, fields: &ResponseFields<'_>, account: &Account) -> bool {
+    let right = |hash: &[u8; 16]| hashes::challenge_response(hash, &conversation.challenge);
+    match (fields.flag, &account.nt, &account.lm) {
+        (true, Some(nt), _) => fields.nt == right(nt),
+        (_, _, Some(lm)) => conversation.lm && fields.lm == right(lm),
+        (_, _, None) => false,
+    }
+}
+
+fn judge_change(conversation: &Conversation, fields: &ChangeFields, kept: &Account) -> Judgement {
+    let record = accepted(conversation, fields, kept).map(|hash| Account {
+        nt: Some(hash),
+        lm: None,
+        expired: false,
+        ..*kept
+    });
+    let reason = if record.is_some() { 0 } else { 709 };
+    Judgement {
+        reason,
+        retry: false,
+        conversation: ended(conversation),
+        record,
+    }
+}
+
+/// The new NT hash of a change that is accepted.
+fn accepted(
+    conversation: &Conversation,
+    fields: &ChangeFields,
+    kept: &Account,
+) -> Option<[u8; 16]> {
+    let old_hash = kept.nt?;
+    if fields.flags & 1 == 0 {
+        return None;
+    }
+    let password = match hashes::open(&old_hash, &fields.nt_block) {
+        OpenedBlock::Password(password) => password,
+        OpenedBlock::Over | OpenedBlock::Odd => return None,
+    };
+    let new_hash = hashes::nt_hash(&password).ok()?;
+    let hash_agrees = fields.nt_old_under_new == hashes::old_under_new(&old_hash, &new_hash);
+    let response_agrees =
+        fields.nt_response == hashes::challenge_response(&new_hash, &conversation.challenge);
+    (hash_agrees && response_agrees).then_some(new_hash)
+}

@@ -1,0 +1,2041 @@
+//! Makes the cases file, and checks the results of its lines against the values that the rules
+//! print. The text is compared with `cases.txt` where that file stands beside `Cargo.toml`;
+//! `WRITE_CASES=path cargo test --release --offline --test cases` writes it.
+
+use reference::authenticator::{Account, Phase};
+use reference::packet;
+use reference::peer::{self, Turn};
+use reference::rc4::rc4;
+use reference::script::{hex, Session};
+use reference::{grown, hashes};
+
+const CH: [u8; 8] = [0x10, 0x2D, 0xB5, 0xDF, 0x08, 0x5D, 0x30, 0x41];
+const CHX: &str = "102DB5DF085D3041";
+const CH23: &str = "272DB5DF085D3041";
+const P: &[u8] = b"M\0y\0P\0w\0";
+const Q: &[u8] = b"M\0y\0N\0e\0w\0P\0w\0";
+const BADPW: &[u8] = b"b\0a\0d\0";
+const H: &str = "FC156AF7EDCD6C0EDDE3337D427F4EAC";
+const HQ: &str = "65DE9ADE0BBDA2AF5BE35786A8AF09C0";
+const L: &str = "75BA30198E6D1975AAD3B435B51404EE";
+const NR: &str = "4E9D3C8F9CFD385D5BF4D3246791956CA4C351AB409A3D61";
+const NR23: &str = "EF8A435F0EDFCA92DCE4BBF63684E55198E57BC92E85BB71";
+const NQ: &str = "17A80923C6EEC24CB45683309E701DACDB9F7834A4521B1E";
+const LR: &str = "91881D0152AB0C33C524135EC24A95EE64E23CDC2D33347D";
+const BAD: &str = "9B51C58442B95BC20F408EFCF3F7DE2674F179BCDC4A8EB1";
+const Z24: &str = "000000000000000000000000000000000000000000000000";
+const B: &str = "AA*20";
+const E691R1: &str = "453D36393120523D3120563D32";
+const E691R0: &str = "453D36393120523D3020563D32";
+const E648: &str = "453D36343820523D3020563D32";
+const E709: &str = "453D37303920523D3020563D32";
+const AA3: &str = "AAAAAA";
+
+fn bytes(digits: &str) -> Vec<u8> {
+    let digits: Vec<char> = digits.chars().filter(|c| *c != ' ').collect();
+    digits
+        .chunks(2)
+        .map(|pair| u8::from_str_radix(&pair.iter().collect::<String>(), 16).unwrap())
+        .collect()
+}
+
+fn array<const N: usize>(digits: &str) -> [u8; N] {
+    bytes(digits).try_into().unwrap()
+}
+
+fn filler() -> Vec<u8> {
+    (0..512).map(|i| ((7 * i + 3) % 256) as u8).collect()
+}
+
+fn resp(id: u8, lm: &str, nt: &str, flag: u8, name: &[u8]) -> Vec<u8> {
+    packet::response(id, &array(lm), &array(nt), flag, name)
+}
+
+/// A change as our peer writes it.
+fn change(id: u8, challenge: &[u8; 8], old: &[u8], new: &[u8]) -> Vec<u8> {
+    let mut out = vec![0; 1118];
+    let turn = Turn {
+        id,
+        challenge: *challenge,
+    };
+    assert_eq!(
+        peer::write_change(&turn, old, new, &filler(), &mut out).refusal,
+        0
+    );
+    out
+}
+
+/// A change whose opened block has any length, the other fields being those of `new`.
+fn change_with_length(length: u32, new: &[u8]) -> Vec<u8> {
+    let h = hashes::nt_hash(P).unwrap();
+    let mut packet = change(8, &CH, P, new);
+    rc4(&h, &mut packet[4..520]).unwrap();
+    packet[516..520].copy_from_slice(&length.to_le_bytes());
+    rc4(&h, &mut packet[4..520]).unwrap();
+    packet
+}
+
+fn with(packet: &[u8], edits: &[(usize, &[u8])]) -> Vec<u8> {
+    let mut out = packet.to_vec();
+    for (place, octets) in edits {
+        out[*place..place + octets.len()].copy_from_slice(octets);
+    }
+    out
+}
+
+fn text(message: &str) -> String {
+    hex(message.as_bytes())
+}
+
+/// The parts of a step's result.
+struct Stepped {
+    refusal: String,
+    reason: String,
+    written: usize,
+    buffer: Vec<u8>,
+    conversation: String,
+    record: String,
+}
+
+impl Stepped {
+    fn reply(&self) -> &[u8] {
+        &self.buffer[..self.written]
+    }
+}
+
+struct Sheet {
+    text: String,
+    session: Session,
+}
+
+impl Sheet {
+    fn copied(&mut self, line: &str) {
+        assert_eq!(self.session.line(line), line);
+        self.text.push_str(line);
+        self.text.push('\n');
+    }
+
+    fn title(&mut self, words: &str) {
+        if !self.text.is_empty() {
+            self.copied("");
+        }
+        self.copied(&format!("# {words}"));
+    }
+
+    fn note(&mut self, words: &str) {
+        self.copied(&format!("# {words}"));
+    }
+
+    /// A vector line; what is computed must be what is written.
+    fn vector(&mut self, line: &str) {
+        self.copied(line);
+    }
+
+    /// A command with its result.
+    fn ask(&mut self, command: &str) -> String {
+        let out = self.session.line(command);
+        self.text.push_str(command);
+        self.text.push('\n');
+        let rest = out.strip_prefix(command).unwrap();
+        rest.strip_prefix(" = ").unwrap_or(rest).to_string()
+    }
+
+    fn is(&mut self, command: &str, expected: &str) {
+        let result = self.ask(command);
+        assert_eq!(result, expected, "{command}");
+    }
+
+    fn begins(&mut self, command: &str, expected: &str) {
+        let result = self.ask(command);
+        assert!(result.starts_with(expected), "{command}: {result}");
+    }
+
+    fn account(&mut self, nt: &str, lm: &str, marks: &str) {
+        self.is(&format!("account {nt} {lm} {marks}"), "");
+    }
+
+    fn open(&mut self, id: u8, challenge: &str, r: &str, lm: &str) {
+        let result = self.ask(&format!("open {id} {challenge} {r} {lm} {B}"));
+        let retries = if r == "-" { "2" } else { r };
+        let allowed = if lm == "no" { "no" } else { "yes" };
+        let buffer = format!("01{id:02X}000D08{challenge}{}", hex(&[0xAA; 7]));
+        assert_eq!(
+            result,
+            format!("0 13 {buffer} {id} {challenge} {retries} {allowed} response -")
+        );
+    }
+
+    fn open7(&mut self) {
+        self.open(7, CHX, "-", "-");
+    }
+
+    /// Opens and goes on to the awaited change.
+    fn expire(&mut self, nt: &str, lm: &str) {
+        self.account(nt, lm, "0001");
+        self.open7();
+        let packet = if nt == "-" {
+            resp(7, LR, Z24, 1, b"u")
+        } else {
+            resp(7, Z24, NR, 1, b"u")
+        };
+        let answer = self.step(&packet, B);
+        assert_eq!(hex(answer.reply()), format!("04070011{E648}"));
+        assert_eq!(
+            answer.conversation,
+            format!("8 {CHX} 2 yes change {nt}/{lm}/0001")
+        );
+    }
+
+    fn step(&mut self, packet: &[u8], buffer: &str) -> Stepped {
+        let result = self.ask(&format!("step {} {buffer}", hex(packet)));
+        let words: Vec<&str> = result.split(' ').collect();
+        assert_eq!(words.len(), 11, "{result}");
+        Stepped {
+            refusal: words[0].to_string(),
+            reason: words[1].to_string(),
+            written: words[2].parse().unwrap(),
+            buffer: if words[3] == "-" {
+                Vec::new()
+            } else {
+                bytes(words[3])
+            },
+            conversation: words[4..10].join(" "),
+            record: words[10].to_string(),
+        }
+    }
+
+    /// A step that draws Success.
+    fn success(&mut self, packet: &[u8]) -> Stepped {
+        let answer = self.step(packet, B);
+        let expected = format!("03{:02X}0004{}", packet[1], hex(&[0xAA; 16]));
+        assert_eq!(
+            (answer.refusal.as_str(), answer.reason.as_str()),
+            ("0", "0"),
+            "{}",
+            hex(packet)
+        );
+        assert_eq!(hex(&answer.buffer), expected);
+        assert!(answer.conversation.ends_with(" ended -"));
+        answer
+    }
+
+    /// A step that draws a Failure.
+    fn failure(&mut self, packet: &[u8], reason: &str, r: u8) -> Stepped {
+        let answer = self.step(packet, B);
+        let message = text(&format!("E={reason} R={r} V=2"));
+        assert_eq!(
+            (answer.refusal.as_str(), answer.reason.as_str()),
+            ("0", reason),
+            "{}",
+            hex(packet)
+        );
+        assert_eq!(
+            hex(&answer.buffer),
+            format!("04{:02X}0011{message}{AA3}", packet[1])
+        );
+        assert_eq!((answer.written, answer.record.as_str()), (17, "-"));
+        answer
+    }
+
+    /// A step that is refused, and changes nothing.
+    fn refused(&mut self, packet: &[u8], buffer: &str, refusal: &str) {
+        let before = *self.session.conversation();
+        let count: usize = buffer.strip_prefix("AA*").unwrap_or("0").parse().unwrap();
+        let answer = self.step(packet, buffer);
+        assert_eq!(answer.refusal, refusal, "{}", hex(packet));
+        assert_eq!(
+            (
+                answer.reason.as_str(),
+                answer.written,
+                answer.record.as_str()
+            ),
+            ("0", 0, "-")
+        );
+        assert_eq!(answer.buffer, vec![0xAA; count]);
+        assert_eq!(before, *self.session.conversation());
+    }
+}
+
+#[test]
+fn cases() {
+    let mut sheet = Sheet {
+        text: String::new(),
+        session: Session::new(),
+    };
+    vectors(&mut sheet);
+    frames(&mut sheet);
+    names(&mut sheet);
+    writers(&mut sheet);
+    ciphers(&mut sheet);
+    conversations(&mut sheet);
+    responses(&mut sheet);
+    changes(&mut sheet);
+    readers(&mut sheet);
+    turns(&mut sheet);
+    refusals(&mut sheet);
+    slips(&mut sheet);
+    table_of_twelve(&mut sheet);
+    exchanges(&mut sheet);
+    damaged(&mut sheet);
+    malformed(&mut sheet);
+
+    // The whole file, run afresh, gives the lines that were checked.
+    let again = reference::script::run(&sheet.text);
+    assert_eq!(again.lines().count(), sheet.text.lines().count());
+    assert!(sheet.text.len() < 300_000, "{}", sheet.text.len());
+    if let Ok(path) = std::env::var("WRITE_CASES") {
+        std::fs::write(path, &sheet.text).unwrap();
+    }
+    let beside = concat!(env!("CARGO_MANIFEST_DIR"), "/cases.txt");
+    if let Ok(stored) = std::fs::read_to_string(beside) {
+        assert!(
+            stored == sheet.text,
+            "cases.txt is not what this test makes"
+        );
+    }
+}
+
+fn vectors(s: &mut Sheet) {
+    s.copied("# Cases for both programs. Packets, blocks and responses stand as literal octets.");
+    s.title("RFC 1320, A.5");
+    s.copied(":md4");
+    for (message, digest) in [
+        ("", "31D6CFE0D16AE931B73C59D7E0C089C0"),
+        ("a", "BDE52CB31DE33E46245E05FBDBD6FB24"),
+        ("abc", "A448017AAF21D8525FC10AE87AA6729D"),
+        ("message digest", "D9130A8164549FE818874806E1C7014B"),
+        (
+            "abcdefghijklmnopqrstuvwxyz",
+            "D79E1C308AA5BBCDEEA8ED63DF412DA9",
+        ),
+        (
+            "ABCDEFGHIJKLMNOPQRSTUVWXYZabcdefghijklmnopqrstuvwxyz0123456789",
+            "043F8582F241DB351CE627E153E7F0E4",
+        ),
+        (
+            "12345678901234567890123456789012345678901234567890123456789012345678901234567890",
+            "E33B4DDC9C38F2199C3E7B164FCC0536",
+        ),
+    ] {
+        s.vector(&format!("{} {digest}", text(message)));
+    }
+    s.note("padding edges, and the most octets");
+    for size in [
+        1, 54, 55, 56, 57, 63, 64, 65, 119, 120, 121, 127, 128, 129, 511, 512, 513, 4095, 4096,
+    ] {
+        let digest = hex(&reference::md4::digest(&vec![0; size]));
+        s.vector(&format!("00*{size} {digest}"));
+    }
+
+    s.title("RFC 6229: each key, each offset");
+    s.copied(":rc4");
+    let ascending: Vec<u8> = (1..=32).collect();
+    let task_force = bytes("1ADA31D5CF688221C109163908EBE51DEBB46227C6CC8B37641910833222772A");
+    let offsets = [
+        0, 16, 240, 256, 496, 512, 752, 768, 1008, 1024, 1520, 1536, 2032, 2048, 3056, 3072, 4080,
+        4096,
+    ];
+    for size in [5, 7, 8, 10, 16, 24, 32] {
+        for key in [&ascending[..size], &task_force[32 - size..]] {
+            for offset in offsets {
+                let stream = hex(&reference::rc4::keystream(key, offset).unwrap());
+                s.vector(&format!("{} {offset} {stream}", hex(key)));
+            }
+        }
+    }
+    s.note("keys of 1 and 256 octets");
+    for key in ["00", "FF", "01*256"] {
+        let octets = if key == "01*256" {
+            vec![1; 256]
+        } else {
+            bytes(key)
+        };
+        let stream = hex(&reference::rc4::keystream(&octets, 0).unwrap());
+        s.vector(&format!("{key} 0 {stream}"));
+    }
+
+    s.title("FIPS 81, the ECB example");
+    s.copied(":des");
+    s.vector("0123456789ABCDEF 4E6F772069732074 3FA40E8A984D4815");
+    s.vector("0123456789ABCDEF 68652074696D6520 6A271787AB8883F9");
+    s.vector("0123456789ABCDEF 666F7220616C6C20 893D51EC4B563B53");
+    s.note("a key with its parity bits and without");
+    s.vector("133457799BBCDFF1 0123456789ABCDEF 85E813540F0AB405");
+    s.vector("123456789ABCDEF0 0123456789ABCDEF 85E813540F0AB405");
+    s.note("NBS SP 500-20, the S-box test");
+    for line in [
+        "7CA110454A1A6E57 01A1D6D039776742 690F5B0D9A26939B",
+        "0131D9619DC1376E 5CD54CA83DEF57DA 7A389D10354BD271",
+        "07A1133E4A0B2686 0248D43806F67172 868EBB51CAB4599A",
+        "3849674C2602319E 51454B582DDF440A 7178876E01F19B2A",
+        "04B915BA43FEB5B6 42FD443059577FA2 AF37FB421F8C4095",
+        "0113B970FD34F2CE 059B5E0851CF143A 86A560F10EC6D85B",
+        "0170F175468FB5E6 0756D8E0774761D2 0CD3DA020021DC09",
+        "43297FAD38E373FE 762514B829BF486A EA676B2CB7DB2B7A",
+        "07A7137045DA2A16 3BDD119049372802 DFD64A815CAF1A0F",
+        "04689104C2FD3B2F 26955F6835AF609A 5C513C9C4886C088",
+        "37D06BB516CB7546 164D5E404F275232 0A2AEEAE3FF4AB77",
+        "1F08260D1AC2465E 6B056E18759F5CCA EF1BF03E5DFA575A",
+        "584023641ABA6176 004BD6EF09176062 88BF0DB6D70DEE56",
+        "025816164629B007 480D39006EE762F2 A1F9915541020B56",
+        "49793EBC79B3258F 437540C8698F3CFA 6FBF1CAFCFFD0556",
+        "4FB05E1515AB73A7 072D43A077075292 2F22E49BAB7CA1AC",
+        "49E95D6D4CA229BF 02FE55778117F12A 5A6B612CC26CCE4A",
+        "018310DC409B26D6 1D9D5C5018F728C2 5F4C038ED12B2E41",
+        "1C587F1C13924FEF 305532286D6F295A 63FAC0D034D9F793",
+    ] {
+        s.vector(line);
+    }
+    let des_line = |key: u64, plain: u64| {
+        let cipher = reference::des::encrypt_with_parity(&key.to_be_bytes(), &plain.to_be_bytes());
+        format!("{key:016X} {plain:016X} {}", hex(&cipher))
+    };
+    s.note("each bit of the text by itself");
+    for bit in (0..64).rev() {
+        s.vector(&des_line(0x0101010101010101, 1 << bit));
+    }
+    s.note("each bit of the key by itself, the parity bits too");
+    for bit in (0..64).rev() {
+        s.vector(&des_line(1 << bit, 0));
+    }
+    s.note("weak keys");
+    for key in [
+        0x0101010101010101,
+        0xFEFEFEFEFEFEFEFE,
+        0x1F1F1F1F0E0E0E0E,
+        0xE0E0E0E0F1F1F1F1,
+        u64::MAX,
+        0,
+    ] {
+        s.vector(&des_line(key, 0x0123456789ABCDEF));
+    }
+    s.copied("");
+    s.copied(":cases");
+}
+
+fn frames(s: &mut Sheet) {
+    let good = resp(7, Z24, NR, 1, b"u");
+    s.title("R-SRC-1: code 5 is unknown; a change is awaited");
+    s.expire(H, L);
+    let mut v1 = bytes("05080048");
+    v1.resize(72, 0);
+    s.refused(&v1, B, "4");
+    s.title("R-SRC-2, R-FRAME-4, R-READ-3: the peer reads a Challenge, its name ignored");
+    s.is("challenge 0107000D080102030405060708", "7 0102030405060708");
+    s.is(
+        "challenge 0107000F0801020304050607086162",
+        "7 0102030405060708",
+    );
+    s.is(
+        "challenge 0107000E08010203040506070841",
+        "7 0102030405060708",
+    );
+    s.is(
+        "challenge 01FF000D08FFFFFFFFFFFFFFFF0000",
+        "255 FFFFFFFFFFFFFFFF",
+    );
+    s.title("R-SRC-3: the Challenge carries the lent octets");
+    s.open7();
+    s.title("R-FRAME-1: Length, most significant octet first");
+    let name = "75*256";
+    s.begins(
+        &format!("writeresponse 7 {CHX} {} {name} AA*310", hex(P)),
+        "0 310 0207013631",
+    );
+    s.account(H, "-", "0000");
+    s.open7();
+    s.success(&resp(7, Z24, NR, 1, &[b'u'; 256]));
+    s.open7();
+    s.refused(&with(&good, &[(2, &[0x37, 0x00])]), B, "3");
+    s.title("R-FRAME-2: octets after Length are padding");
+    let mut padded = good.clone();
+    padded.extend_from_slice(b"xyz");
+    s.open7();
+    s.success(&padded);
+    s.is(
+        &format!("name {} {}", hex(&padded), text("HOME")),
+        &format!("{} 75", text("HOME")),
+    );
+    s.title("R-FRAME-3: a message ends at Length");
+    s.is(
+        &format!("reply 9 04090011{E691R1}393939"),
+        "failure 691 1 - 2 retry",
+    );
+    s.title("R-FRAME-5: the responses in their places");
+    s.open7();
+    s.success(&good);
+    s.open7();
+    s.failure(&resp(7, NR, Z24, 1, b"u"), "691", 1);
+    s.title("R-FRAME-6: a Success may have a message");
+    s.is("reply 9 030900066869", "success");
+    s.is(&format!("reply 9 03090130{}", "41".repeat(300)), "success");
+    s.title("R-FRAME-7: a Failure without a message");
+    s.is("reply 9 04090004", "refused 11");
+    s.title("R-FRAME-10: Success to identifier 255");
+    s.open(255, CHX, "-", "-");
+    s.success(&resp(255, Z24, NR, 1, b"u"));
+    s.title("R-FRAME-11: Response Lengths 54, 55, 56, 309, 310, 311");
+    for (size, refused) in [
+        (0, true),
+        (1, false),
+        (2, false),
+        (255, false),
+        (256, false),
+        (257, true),
+    ] {
+        s.open7();
+        let packet = resp(7, Z24, NR, 1, &vec![b'u'; size]);
+        if refused {
+            s.refused(&packet, B, "6");
+        } else {
+            s.success(&packet);
+        }
+    }
+    s.note("Length 310 of 311 octets lent; Length 311 of 310");
+    let long = resp(7, Z24, NR, 1, &[b'u'; 257]);
+    s.open7();
+    s.refused(&long[..310], B, "3");
+    s.success(&with(&long, &[(2, &[1, 0x36])]));
+}
+
+fn names(s: &mut Sheet) {
+    let home = text("HOME");
+    let good = resp(7, Z24, NR, 1, b"u");
+    let named = |name: &[u8]| hex(&resp(7, Z24, NR, 1, name));
+    s.title("R-NAME-1 to -4: the name's parts");
+    for (name, domain, account) in [
+        (&b"A\\B\\C"[..], text("A"), text("B\\C")),
+        (b"u", home.clone(), text("u")),
+        (b"\\u", "-".into(), text("u")),
+        (b"DOM\\", text("DOM"), "-".into()),
+        (b"\\", "-".into(), "-".into()),
+        (b"\\\\", "-".into(), text("\\")),
+        (b"DOM\\user", text("DOM"), text("user")),
+        (b"user/DOM", home.clone(), text("user/DOM")),
+        (b"u\0\xFF", home.clone(), "7500FF".into()),
+    ] {
+        s.is(
+            &format!("name {} {home}", named(name)),
+            &format!("{domain} {account}"),
+        );
+    }
+    let mut long = vec![b'd'; 255];
+    long.push(b'\\');
+    s.is(
+        &format!("name {} {home}", named(&long)),
+        &format!("{} -", "64".repeat(255)),
+    );
+    s.is(&format!("name {} -", named(b"u")), "- 75");
+    s.is(
+        &format!("name {} 48*300", named(b"u")),
+        &format!("{} 75", "48".repeat(300)),
+    );
+    s.is(
+        &format!("name {}5C78 {home}", named(b"u")),
+        &format!("{home} 75"),
+    );
+    s.title("R-NAME-5: packets that fail 3");
+    for packet in ["-", "02", "020700", "02070003", "02070000", "02070038"] {
+        s.is(&format!("name {packet} {home}"), "- -");
+    }
+    s.is(&format!("name {} {home}", hex(&good[..54])), "- -");
+    s.title("R-NAME-6: packets of another code");
+    s.is(
+        &format!("name {} {home}", hex(&change(8, &CH, P, Q))),
+        "- -",
+    );
+    for code in [0, 1, 3, 4, 5, 6, 255] {
+        s.is(
+            &format!("name {} {home}", hex(&with(&good, &[(0, &[code])]))),
+            "- -",
+        );
+    }
+    s.title("R-NAME-7: Length or size wrong");
+    s.is(
+        &format!("name {} {home}", hex(&with(&good, &[(4, &[0x30])]))),
+        "- -",
+    );
+    s.is(
+        &format!("name {} {home}", hex(&with(&good, &[(4, &[0x32])]))),
+        "- -",
+    );
+    s.is(
+        &format!("name {} {home}", hex(&resp(7, Z24, NR, 1, b""))),
+        "- -",
+    );
+    s.is(
+        &format!("name {} {home}", hex(&with(&good, &[(2, &[0, 0x36])]))),
+        "- -",
+    );
+    s.is(&format!("name {} {home}", named(&[b'u'; 257])), "- -");
+    s.is(&format!("name 02070004 {home}"), "- -");
+    s.is(
+        &format!("name {} {home}", named(&[b'u'; 256])),
+        &format!("{home} {}", "75".repeat(256)),
+    );
+    s.title("R-NAME-8: the flag");
+    for flag in [2, 255] {
+        s.is(
+            &format!("name {} {home}", hex(&resp(7, Z24, NR, flag, b"u"))),
+            "- -",
+        );
+    }
+    s.is(
+        &format!("name {} {home}", hex(&resp(7, Z24, NR, 0, b"u"))),
+        &format!("{home} 75"),
+    );
+    s.title("R-NAME-9: any identifier, in any conversation");
+    for id in [0, 99, 255] {
+        s.is(
+            &format!("name {} {home}", hex(&resp(id, Z24, NR, 1, b"u"))),
+            &format!("{home} 75"),
+        );
+    }
+}
+
+fn writers(s: &mut Sheet) {
+    let f = hex(&filler());
+    s.title("R-WRITE-1, -2, R-SRC-5: a Response, in buffers of 55 and 60 octets");
+    let packet = format!("0207003731{Z24}{NR}0175");
+    s.is(
+        &format!("writeresponse 7 {CHX} {} 75 AA*55", hex(P)),
+        &format!("0 55 {packet}"),
+    );
+    s.is(
+        &format!("writeresponse 7 {CHX} {} 75 AA*60", hex(P)),
+        &format!("0 55 {packet}AAAAAAAAAA"),
+    );
+    s.begins(
+        &format!("writeresponse 0 {CHX} - 75 AA*60"),
+        "0 55 0200003731",
+    );
+    s.begins(
+        &format!("writeresponse 255 {CHX} FF*512 {} AA*64", text("DOM\\user")),
+        "0 62 02FF003E31",
+    );
+    s.title("R-FRAME-8, R-WRITE-3, -4: a change, in buffers of 1118 and 1121 octets");
+    let chg = hex(&change(8, &CH, P, Q));
+    assert_eq!(
+        sha256(&change(8, &CH, P, Q)),
+        "6b4ebe5cbf58ef68b4dbe74e6205be61ea4cecfff77c109f9cc7042d9b803398"
+    );
+    let command = format!("writechange 8 {CHX} {} {} {f}", hex(P), hex(Q));
+    s.is(&format!("{command} AA*1118"), &format!("0 1118 {chg}"));
+    s.is(
+        &format!("{command} AA*1121"),
+        &format!("0 1118 {chg}AAAAAA"),
+    );
+    assert!(chg.starts_with("0608045EC3509FA25F3DFD43"));
+    assert_eq!(&chg[2 * 520..2 * 536], "71BD6CBA24586C0A1354F1B611CB4CAF");
+    assert_eq!(&chg[2 * 536..2 * 1092], "00".repeat(556));
+    assert_eq!(&chg[2 * 1092..2 * 1116], NQ);
+    assert_eq!(&chg[2 * 1116..], "0001");
+    s.note("passwords of 0 and 512 octets, old and new");
+    for (old, new) in [
+        ("-", "-"),
+        ("-", "6100*1"),
+        ("61*512", "-"),
+        ("-", "62*512"),
+        ("61*512", "62*512"),
+    ] {
+        let new = if new == "6100*1" { "6100" } else { new };
+        s.begins(
+            &format!("writechange 255 {CHX} {old} {new} 5A*512 AA*1118"),
+            "0 1118 06FF045E",
+        );
+    }
+    s.title("R-WRITE-5: the flags' order at the box");
+    s.expire(H, L);
+    let chg = change(8, &CH, P, Q);
+    s.refused(&with(&chg, &[(1116, &[1, 0])]), B, "7");
+    s.success(&chg);
+}
+
+fn ciphers(s: &mut Sheet) {
+    let h: [u8; 16] = array(H);
+    let f = hex(&filler());
+    s.title("R-HASH-1, -2: MD4");
+    s.is(
+        &format!("md4 {}", text("abc")),
+        "A448017AAF21D8525FC10AE87AA6729D",
+    );
+    s.is("md4 00*4096", "49521032570264865CE2E7CFAB69F1AE");
+    s.is("md4 00*4097", "refused 8");
+    s.begins("md4 00*55", "2DF5A83F");
+    s.begins("md4 00*56", "7B9B4593");
+    s.is("md4 -", "31D6CFE0D16AE931B73C59D7E0C089C0");
+    s.ask("md4 FF*4096");
+    s.title("R-HASH-3: RC4 and its keys");
+    let whole: Vec<u8> = (0..=255).collect();
+    s.is(&format!("rc4 {} 00*8", hex(&whole)), "5E2EB7B20D86864F");
+    s.is("rc4 - 00*8", "refused 8 0000000000000000");
+    s.is("rc4 01*257 0102030405", "refused 8 0102030405");
+    s.is("rc4 - -", "refused 8 -");
+    s.is("rc4 01 -", "-");
+    s.is("rc4 0102030405 00*16", "B2396305F03DC027CCC3524A0A1118A8");
+    s.is(
+        "rc4 0102030405 B2396305F03DC027CCC3524A0A1118A8",
+        "00000000000000000000000000000000",
+    );
+    s.ask("rc4 00 FF*300");
+    s.ask("rc4 7F*256 00*16");
+    s.title("R-HASH-4, -5: NT passwords of 8, 0, 512, 1, 3, 511, 513, 514 octets");
+    s.is(&format!("nthash {}", hex(P)), H);
+    s.is(&format!("nthash {}", hex(Q)), HQ);
+    s.begins(&format!("nthash {}0000", hex(P)), "505EFFCC");
+    s.begins("nthash 004D007900500077", "D7993732");
+    s.is("nthash -", "31D6CFE0D16AE931B73C59D7E0C089C0");
+    s.is(
+        &format!("nthash {}", "6100".repeat(256)),
+        "9118F6CE48955B5CA2BE01329E7F959E",
+    );
+    for size in [1, 3, 511, 513, 514, 4096] {
+        s.is(&format!("nthash 61*{size}"), "refused 8");
+    }
+    s.ask("nthash 61*510");
+    s.ask("nthash 61*512");
+    s.title("R-HASH-6 to -8, R-SRC-4, -6: LM passwords of 0, 1, 4, 7, 8, 14, 15 octets");
+    s.is(&format!("lmhash {}", text("MyPw")), L);
+    s.is("lmhash -", "AAD3B435B51404EEAAD3B435B51404EE");
+    s.ask(&format!("lmhash {}", text("abcdefg")));
+    s.ask(&format!("lmhash {}", text("abcdefgh")));
+    s.is(
+        &format!("lmhash {}", text("abcdefghijklmn")),
+        "E0C510199CC66ABD8C51EC214BEBDEA1",
+    );
+    s.is(
+        &format!("lmhash {}", text("ABCDEFGHIJKLMN")),
+        "E0C510199CC66ABD8C51EC214BEBDEA1",
+    );
+    s.is(&format!("lmhash {}", text("abcdefghijklmno")), "refused 8");
+    s.is("lmhash 00*14", "AAD3B435B51404EEAAD3B435B51404EE");
+    s.is("lmhash 00*15", "refused 8");
+    s.note("octets 5B, 60, 61, 7A, 7B, E9, FF");
+    s.begins("lmhash 5B", "50A7E324");
+    s.ask("lmhash 40");
+    s.ask("lmhash 60");
+    s.ask("lmhash 61");
+    s.ask("lmhash 7A");
+    s.is("lmhash 7B", "9B3F51919237C9E8AAD3B435B51404EE");
+    s.begins("lmhash E9", "167B787A");
+    s.ask("lmhash C9");
+    s.ask("lmhash FF*14");
+    s.title("R-HASH-9, -10, RFC 2433 B.3: keys");
+    s.is("expand FC156AF7EDCD6C", "FC0A5A5E7E6E34D8");
+    s.is("dropparity FD0B5B5E7F6E34D9", "FC156AF7EDCD6C");
+    s.is("expand 0EDDE3337D427F", "0E6E786636EA08FE");
+    s.is("dropparity 0E6E796737EA08FE", "0EDDE3337D427F");
+    s.is("dropparity 0123456789ABCDEF", "00451338957377");
+    s.is("dropparity 0101010101010101", "00000000000000");
+    s.is("expand 00000000000001", "0000000000000002");
+    s.is("expand 80000000000000", "8000000000000000");
+    s.is("des 00451338957377 4E6F772069732074", "3FA40E8A984D4815");
+    s.is("undes 00451338957377 3FA40E8A984D4815", "4E6F772069732074");
+    let first = s.ask("dropparity 133457799BBCDFF1");
+    let second = s.ask("dropparity 123456789ABCDEF0");
+    assert_eq!(first, second);
+    s.is(&format!("des {first} 0123456789ABCDEF"), "85E813540F0AB405");
+    s.title("R-HASH-11, RFC 2433 B.2: responses");
+    s.is(&format!("response {H} {CHX}"), NR);
+    s.is(&format!("response {H} {CH23}"), NR23);
+    s.is(&format!("response {HQ} {CHX}"), NQ);
+    s.is(&format!("response {L} {CHX}"), LR);
+    s.is(&format!("desthree {H}0000000000 {CHX}"), NR);
+    s.is(&format!("des {} {CHX}", &H[..14]), &NR[..16]);
+    s.is("des 4EAC0000000000 102DB5DF085D3041", &NR[32..]);
+    s.ask("response 00*16 00*8");
+    s.ask("response FF*16 FF*8");
+    s.title("R-HASH-12 to -14: sealed blocks of 14, 0, 2, 510, 512 octets");
+    let q = s.ask(&format!("seal {H} {} {f}", hex(Q)));
+    assert!(q.starts_with("C3509FA25F3DFD43") && q.ends_with("AE36AB02"));
+    s.is(&format!("unseal {H} {q}"), &format!("14 {}", hex(Q)));
+    let clear = s.ask(&format!("rc4 {H} {q}"));
+    assert!(clear.starts_with("030A1118"));
+    assert!(clear.ends_with(
+        "858C939A4D0079004E006500770050007700 0E000000"
+            .replace(' ', "")
+            .as_str()
+    ));
+    for (password, expected) in [
+        ("-", "0 -".to_string()),
+        ("61*512", format!("512 {}", "61".repeat(512))),
+    ] {
+        let block = s.ask(&format!("seal {H} {password} {f}"));
+        s.is(&format!("unseal {H} {block}"), &expected);
+    }
+    s.ask(&format!("seal {H} 6200 5A*512"));
+    s.ask(&format!("seal {H} 61*510 5A*512"));
+    s.ask(&format!("seal {} - 00*512", "00*16"));
+    s.note("refused: 8 for 1, 513, 514 octets, then 12 for a filler of 0, 511, 513");
+    for (password, filler, refusal) in [
+        ("61", "5A*512", 8),
+        ("61*513", "5A*512", 8),
+        ("61*514", "5A*512", 8),
+        ("61*514", "-", 8),
+        ("-", "-", 12),
+        ("61*512", "-", 12),
+        ("61*14", "5A*511", 12),
+        ("61*14", "5A*513", 12),
+    ] {
+        s.is(
+            &format!("seal {H} {password} {filler}"),
+            &format!("refused {refusal}"),
+        );
+    }
+    s.title(
+        "R-HASH-13: opened lengths 514, 513, 7, 511, 65550, 14 in the top octet, 4294967295, 2",
+    );
+    for (length, expected) in [
+        (514u32, "over"),
+        (513, "over"),
+        (7, "odd"),
+        (511, "odd"),
+        (65_550, "over"),
+        (14 << 24, "over"),
+        (u32::MAX, "over"),
+        (2, "2 2020"),
+    ] {
+        let mut block = [0x20u8; 516];
+        block[512..].copy_from_slice(&length.to_le_bytes());
+        rc4(&h, &mut block).unwrap();
+        s.is(&format!("unseal {H} {}", hex(&block)), expected);
+    }
+    s.note("a block of zeros, and a block opened with another hash");
+    s.ask(&format!("unseal {H} 00*516"));
+    s.ask(&format!("unseal {HQ} {q}"));
+    s.title("R-HASH-15: the old hash under the new");
+    s.is(
+        &format!("oldnew {H} {HQ}"),
+        "71BD6CBA24586C0A1354F1B611CB4CAF",
+    );
+    let exchanged = s.ask(&format!("oldnew {HQ} {H}"));
+    assert!(exchanged.starts_with("6C79C7FC"));
+    s.ask(&format!("oldnew {H} {H}"));
+}
+
+fn conversations(s: &mut Sheet) {
+    let good = resp(7, Z24, NR, 1, b"u");
+    let bad = resp(7, Z24, BAD, 1, b"u");
+    s.title("R-CONV-1: the same inputs twice");
+    s.account(H, L, "0000");
+    for _ in 0..2 {
+        s.open7();
+        s.failure(&bad, "691", 1);
+    }
+    s.title("R-CONV-3: what no rule names stays");
+    s.open(255, CHX, "2", "yes");
+    let answer = s.success(&resp(255, Z24, NR, 1, b"u"));
+    assert_eq!(answer.conversation, format!("255 {CHX} 2 yes ended -"));
+    s.title("R-CONV-4: the kept record is dropped at the end");
+    s.expire(H, L);
+    let answer = s.success(&change(8, &CH, P, Q));
+    assert_eq!(answer.conversation, format!("8 {CHX} 2 yes ended -"));
+    assert_eq!(answer.record, format!("{HQ}/-/0000"));
+    s.title("R-OPEN-1: any identifier");
+    for id in [0, 1, 128, 255] {
+        s.open(id, CHX, "-", "-");
+    }
+    s.title("R-OPEN-2, R-REF-15: r from 0 to 7; 8, 9 and 255 refused");
+    for r in 0..8 {
+        s.open(7, CHX, &r.to_string(), "-");
+    }
+    for r in [8, 9, 128, 255] {
+        s.is(
+            &format!("open 7 {CHX} {r} yes AA*17"),
+            &format!("13 0 {} 0 0000000000000000 0 no ended -", "AA".repeat(17)),
+        );
+    }
+    s.account(H, "-", "0000");
+    s.open(7, CHX, "0", "-");
+    let answer = s.failure(&bad, "691", 0);
+    assert_eq!(answer.conversation, format!("7 {CHX} 0 yes ended -"));
+    s.title("R-OPEN-3: a silent opening has 2 retries");
+    s.open7();
+    s.failure(&bad, "691", 1);
+    s.failure(&resp(8, Z24, BAD, 1, b"u"), "691", 1);
+    s.failure(&resp(9, Z24, BAD, 1, b"u"), "691", 0);
+    s.title("r = 7: seven retries");
+    s.open(250, CHX, "7", "-");
+    for n in 0..8u8 {
+        s.failure(
+            &resp(250u8.wrapping_add(n), Z24, BAD, 1, b"u"),
+            "691",
+            u8::from(n < 7),
+        );
+    }
+    s.refused(&resp(1, Z24, BAD, 1, b"u"), B, "1");
+    s.title("R-OPEN-4: LM allowed by a silent opening and by yes, not by no");
+    s.account("-", L, "0000");
+    for (lm, allowed) in [("-", true), ("yes", true), ("no", false)] {
+        for flag in [0, 1] {
+            s.open(7, CHX, "-", lm);
+            let packet = resp(7, LR, Z24, flag, b"u");
+            if allowed {
+                s.success(&packet);
+            } else {
+                s.failure(&packet, "691", 1);
+            }
+        }
+    }
+    s.title("R-REC-1: a hash of zeros is not none");
+    let zeros = hex(&hashes::challenge_response(&[0; 16], &CH));
+    s.account("00000000000000000000000000000000", "-", "0000");
+    s.open7();
+    s.success(&resp(7, Z24, &zeros, 1, b"u"));
+    s.account("-", "-", "0000");
+    s.open7();
+    s.failure(&resp(7, Z24, &zeros, 1, b"u"), "691", 1);
+    s.note("the same for LM");
+    s.account("-", "00*16", "0000");
+    s.open7();
+    s.success(&resp(7, &zeros, Z24, 0, b"u"));
+    s.account(H, "-", "0000");
+    s.open7();
+    s.failure(&resp(7, &zeros, Z24, 0, b"u"), "691", 1);
+    s.title("R-REC-2: no record");
+    s.is("account -", "");
+    s.open7();
+    s.failure(&good, "691", 1);
+}
+
+fn responses(s: &mut Sheet) {
+    let good = resp(7, Z24, NR, 1, b"u");
+    let bad = resp(7, Z24, BAD, 1, b"u");
+    s.title("R-VALID-1: the whole NT response counts");
+    s.account(H, L, "0000");
+    s.open7();
+    s.failure(&with(&good, &[(52, &[0x60])]), "691", 1);
+    s.open7();
+    s.failure(&with(&good, &[(29, &[0x4F])]), "691", 1);
+    s.title("R-VALID-2: flag 1 and no NT hash");
+    s.account("-", L, "0000");
+    s.open7();
+    s.success(&resp(7, LR, Z24, 1, b"u"));
+    s.open7();
+    s.failure(&resp(7, Z24, LR, 1, b"u"), "691", 1);
+    s.open(7, CHX, "-", "no");
+    s.failure(&resp(7, LR, Z24, 1, b"u"), "691", 1);
+    s.title("R-VALID-3: flag 0 goes to LM");
+    s.account(H, L, "0000");
+    s.open7();
+    s.success(&resp(7, LR, BAD, 0, b"u"));
+    s.open7();
+    s.failure(&resp(7, Z24, NR, 0, b"u"), "691", 1);
+    s.open(7, CHX, "-", "no");
+    s.failure(&resp(7, LR, NR, 0, b"u"), "691", 1);
+    s.open7();
+    s.failure(&with(&resp(7, LR, NR, 0, b"u"), &[(28, &[0x7C])]), "691", 1);
+    s.title("R-VALID-4: neither hash");
+    s.account("-", "-", "0000");
+    for flag in [0, 1] {
+        s.open7();
+        s.failure(&resp(7, Z24, Z24, flag, b"u"), "691", 1);
+    }
+    s.title("R-VALID-5: no way back to LM");
+    s.account(H, L, "0000");
+    s.open7();
+    s.failure(&resp(7, LR, BAD, 1, b"u"), "691", 1);
+    s.title("R-VALID-6: the grown challenge after a retry");
+    s.open7();
+    let answer = s.failure(&bad, "691", 1);
+    assert_eq!(answer.conversation, format!("8 {CH23} 1 yes response -"));
+    s.success(&resp(8, Z24, NR23, 1, b"u"));
+    s.open7();
+    s.failure(&bad, "691", 1);
+    s.failure(&resp(8, Z24, NR, 1, b"u"), "691", 1);
+    s.note("LM after a retry");
+    let lr23 = hex(&hashes::challenge_response(&array(L), &grown(&CH)));
+    s.open7();
+    s.failure(&bad, "691", 1);
+    s.success(&resp(8, &lr23, Z24, 0, b"u"));
+    s.title("R-REASON-1: 691 before the marks");
+    for marks in ["1000", "0100", "0010", "0001", "1111"] {
+        s.account(H, L, marks);
+        s.open7();
+        s.failure(&bad, "691", 1);
+    }
+    s.title("R-REASON-2 to -4: all marks, by NT, by LM with flag 0, by LM with flag 1");
+    for (nt, lm, packet) in [
+        (H, "-", good.clone()),
+        (H, L, resp(7, LR, Z24, 0, b"u")),
+        ("-", L, resp(7, LR, NR, 1, b"DOM\\u")),
+    ] {
+        for marks in 0..16u8 {
+            let [disabled, hours, dialin, expired] = [
+                marks & 8 != 0,
+                marks & 4 != 0,
+                marks & 2 != 0,
+                marks & 1 != 0,
+            ];
+            let reason = match (disabled, hours, dialin, expired) {
+                (true, _, _, _) => "647",
+                (_, true, _, _) => "646",
+                (_, _, true, _) => "649",
+                (_, _, _, true) => "648",
+                _ => "0",
+            };
+            s.account(nt, lm, &format!("{marks:04b}"));
+            s.open7();
+            if reason == "0" {
+                s.success(&packet);
+            } else {
+                let answer = s.failure(&packet, reason, 0);
+                if reason == "648" {
+                    assert_eq!(
+                        answer.conversation,
+                        format!("8 {CHX} 2 yes change {nt}/{lm}/0001")
+                    );
+                } else {
+                    assert_eq!(answer.conversation, format!("7 {CHX} 2 yes ended -"));
+                }
+            }
+        }
+    }
+    s.title("R-NEXT-1: r = 1");
+    s.account(H, "-", "0000");
+    s.open(7, CHX, "1", "no");
+    let answer = s.failure(&bad, "691", 1);
+    assert_eq!(answer.conversation, format!("8 {CH23} 0 no response -"));
+    s.failure(&resp(8, Z24, BAD, 1, b"u"), "691", 0);
+    s.title("R-NEXT-2: identifier 255, then 0");
+    s.open(255, CHX, "-", "-");
+    let answer = s.failure(&resp(255, Z24, BAD, 1, b"u"), "691", 1);
+    assert!(answer.conversation.starts_with("0 "));
+    s.success(&resp(0, Z24, NR23, 1, b"u"));
+    s.title("R-NEXT-3: challenge octets E8, E9, FF");
+    for (before, after) in [("E8", "FF"), ("E9", "00"), ("FF", "16")] {
+        s.open(7, &format!("{before}02030405060708"), "-", "-");
+        let answer = s.failure(&bad, "691", 1);
+        assert_eq!(
+            answer.conversation,
+            format!("8 {after}02030405060708 1 yes response -")
+        );
+    }
+    s.title("R-NEXT-4: expired, identifier 255");
+    s.account(H, L, "0001");
+    s.open(255, CHX, "3", "no");
+    let answer = s.failure(&resp(255, Z24, NR, 1, b"u"), "648", 0);
+    assert_eq!(
+        answer.conversation,
+        format!("0 {CHX} 3 no change {H}/{L}/0001")
+    );
+    s.title("R-REPLY-2: the answered identifier");
+    s.open(9, CHX, "-", "-");
+    let answer = s.failure(&resp(9, Z24, BAD, 1, b"u"), "691", 1);
+    assert_eq!(hex(answer.reply()), format!("04090011{E691R1}"));
+    s.title("R-REPLY-3: no record and an invalid response, the same answer");
+    s.is("account -", "");
+    s.open7();
+    let none = s.failure(&bad, "691", 1);
+    s.account(H, L, "1111");
+    s.open7();
+    let invalid = s.failure(&bad, "691", 1);
+    assert_eq!(
+        (none.buffer, none.conversation),
+        (invalid.buffer, invalid.conversation)
+    );
+    s.note("with no retries left");
+    s.is("account -", "");
+    s.open(7, CHX, "0", "-");
+    let none = s.failure(&bad, "691", 0);
+    s.account(H, L, "1111");
+    s.open(7, CHX, "0", "-");
+    let invalid = s.failure(&bad, "691", 0);
+    assert_eq!(
+        (none.buffer, none.conversation),
+        (invalid.buffer, invalid.conversation)
+    );
+    s.title("R-REPLY-4: the later octets of the buffer stay, in buffers of 17, 18 and 40 octets");
+    s.account(H, L, "0000");
+    for size in [17, 18, 40] {
+        s.open7();
+        let answer = s.step(&good, &format!("AA*{size}"));
+        assert_eq!(
+            hex(&answer.buffer),
+            format!("03070004{}", "AA".repeat(size - 4))
+        );
+        s.open7();
+        s.step(&bad, &format!("AA*{size}"));
+    }
+    s.is(
+        &format!("open 7 {CHX} - - 0102030405060708090A0B0C0D0E0F1011"),
+        &format!("0 13 0107000D08{CHX}0E0F1011 7 {CHX} 2 yes response -"),
+    );
+}
+
+fn changes(s: &mut Sheet) {
+    let chg = change(8, &CH, P, Q);
+    let renewed = format!("{HQ}/-/0000");
+    s.title("R-CHANGE-1: the kept record has no NT hash");
+    s.expire("-", L);
+    s.failure(&chg, "709", 0);
+    s.title("R-CHANGE-2: flags 0, 2, 3");
+    for (flags, accepted) in [([0, 0], false), ([0, 2], false), ([0, 3], true)] {
+        s.expire(H, L);
+        let packet = with(&chg, &[(1116, &flags)]);
+        if accepted {
+            assert_eq!(s.success(&packet).record, renewed);
+        } else {
+            let answer = s.failure(&packet, "709", 0);
+            assert_eq!(hex(answer.reply()), format!("04080011{E709}"));
+        }
+    }
+    s.title("R-CHANGE-3, R-PROG-1: block lengths 0 and 512 accepted, other fields right");
+    let empty = change(8, &CH, P, b"");
+    s.expire(H, L);
+    assert_eq!(
+        s.success(&empty).record,
+        "31D6CFE0D16AE931B73C59D7E0C089C0/-/0000"
+    );
+    let longest = vec![0x61; 512];
+    s.expire(H, L);
+    let hash = hex(&hashes::nt_hash(&longest).unwrap());
+    assert_eq!(
+        s.success(&change(8, &CH, P, &longest)).record,
+        format!("{hash}/-/0000")
+    );
+    s.note("block lengths 513, 514, 7, 65550");
+    for length in [513, 514, 7, 65_550] {
+        s.expire(H, L);
+        s.failure(&change_with_length(length, Q), "709", 0);
+    }
+    s.note("a shorter even length: another password, 709");
+    s.expire(H, L);
+    s.failure(&change_with_length(12, Q), "709", 0);
+    s.title("R-CHANGE-4: the old hash under the new");
+    s.expire(H, L);
+    s.failure(&with(&chg, &[(528, &bytes("D14243A8B2D2B1BE"))]), "709", 0);
+    s.title("R-CHANGE-5: the NT response of the old hash, and to the grown challenge");
+    s.expire(H, L);
+    s.failure(&with(&chg, &[(1092, &bytes(NR))]), "709", 0);
+    s.expire(H, L);
+    let other = hashes::challenge_response(&array(HQ), &grown(&CH));
+    s.failure(&with(&chg, &[(1092, &other)]), "709", 0);
+    s.title("R-CHANGE-6: LM fields and bit 1 ignored");
+    s.expire(H, L);
+    let filled = with(&chg, &[(536, &[0xFF; 556]), (1116, &[0, 3])]);
+    assert_eq!(s.success(&filled).record, renewed);
+    s.title("R-CHANGE-7, R-SER-8: the record handed out; the new password may be the old one");
+    s.expire(H, "-");
+    assert_eq!(
+        s.success(&change(8, &CH, P, P)).record,
+        format!("{H}/-/0000")
+    );
+    s.title("R-CHANGE-8 to -10: 709 ends; nothing more is answered");
+    s.expire(H, L);
+    let wrong_old = change(8, &CH, BADPW, Q);
+    let answer = s.failure(&wrong_old, "709", 0);
+    assert_eq!(answer.conversation, format!("8 {CHX} 2 yes ended -"));
+    s.refused(&chg, B, "1");
+    s.refused(&resp(8, Z24, NR, 1, b"u"), "-", "1");
+    s.title("R-CHANGE-11: the record lent to the change has no effect");
+    s.expire(H, L);
+    s.is("account -", "");
+    assert_eq!(s.success(&chg).record, renewed);
+    s.expire(H, L);
+    s.account("11*16", "22*16", "1111");
+    assert_eq!(s.success(&chg).record, renewed);
+    s.title("a padded change");
+    s.expire(H, L);
+    let mut padded = chg.clone();
+    padded.extend_from_slice(&[0xEE; 5]);
+    assert_eq!(s.success(&padded).record, renewed);
+    s.title("a LM Response (flag 0) of a record that has both hashes, expired, then the change");
+    s.account(H, L, "0001");
+    s.open(7, CHX, "0", "yes");
+    let answer = s.failure(&resp(7, LR, Z24, 0, b"u"), "648", 0);
+    assert_eq!(
+        answer.conversation,
+        format!("8 {CHX} 0 yes change {H}/{L}/0001")
+    );
+    assert_eq!(s.success(&chg).record, renewed);
+}
+
+fn readers(s: &mut Sheet) {
+    s.title("R-READ-1, -2: replies and their identifier");
+    s.is("reply 9 030A0004", "refused 5");
+    s.is("reply 9 03090004", "success");
+    s.is("reply 255 03FF0004", "success");
+    s.title("R-MSG-1: 256 octets read, 257 refused");
+    s.is(
+        &format!("failure {}{}", text("E=691"), "20".repeat(251)),
+        "691 0 - 1 end",
+    );
+    s.is(
+        &format!("failure {}{}", text("E=691"), "20".repeat(252)),
+        "refused 11",
+    );
+    s.is(
+        &format!("reply 9 04090104{}{}", text("E=691"), "20".repeat(251)),
+        "failure 691 0 - 1 end",
+    );
+    s.is(
+        &format!("reply 9 04090105{}{}", text("E=691"), "20".repeat(252)),
+        "refused 11",
+    );
+    s.is(
+        &format!("reply 9 04090104{}{}99", text("E=691"), "20".repeat(251)),
+        "failure 691 0 - 1 end",
+    );
+    s.is(
+        &format!("failure {}{}", "20".repeat(251), text("E=691")),
+        "691 0 - 1 end",
+    );
+    s.is("failure -", "refused 11");
+    s.is("failure 20*256", "refused 11");
+    s.title("R-MSG-2 to -11, R-CALL-1 to -4: messages");
+    for (message, expected) in [
+        ("E=691 R=1 V=2", "691 1 - 2 retry"),
+        ("E=691\tR=1", "refused 11"),
+        ("E=691\nR=1", "refused 11"),
+        ("E=691\0R=1", "refused 11"),
+        ("E=691 R=1 V=2\n", "691 1 - 1 retry"),
+        ("  E=691   R=1 ", "691 1 - 1 retry"),
+        ("xE=691 E=648", "648 0 - 1 change1"),
+        ("E=69x1E=5 E=648", "648 0 - 1 change1"),
+        ("E=9999999999", "9999999999 0 - 1 end"),
+        ("E=4294967296", "4294967296 0 - 1 end"),
+        ("E=4294967987 R=1", "4294967987 1 - 1 end"),
+        ("E=0000000691 R=1", "691 1 - 1 retry"),
+        ("E=00000000691", "refused 11"),
+        ("E=00000000691 E=1", "1 0 - 1 end"),
+        ("E=", "refused 11"),
+        ("E= 691", "refused 11"),
+        ("E =691", "refused 11"),
+        ("E", "refused 11"),
+        ("E=+1", "refused 11"),
+        ("E=-1", "refused 11"),
+        ("E=691,", "refused 11"),
+        ("E=691R=1", "refused 11"),
+        ("E==691", "refused 11"),
+        ("EE=691", "refused 11"),
+        ("E=0", "0 0 - 1 end"),
+        ("E=691 R=12", "691 0 - 1 end"),
+        ("E=691 R=01", "691 0 - 1 end"),
+        ("E=691 R=2", "691 0 - 1 end"),
+        ("E=691 R=", "691 0 - 1 end"),
+        ("E=691 R=2 R=1", "691 1 - 1 retry"),
+        ("R=1 E=691", "691 1 - 1 retry"),
+        ("E=691 E=648 R=0 R=1", "691 0 - 1 end"),
+        ("E=1 C=0123456789abcdeF", "1 0 0123456789ABCDEF 1 end"),
+        ("E=1 C=00aBcdef01234567", "1 0 00ABCDEF01234567 1 end"),
+        ("E=1 C=0123456789ABCD", "1 0 - 1 end"),
+        ("E=1 C=0123456789ABCDE", "1 0 - 1 end"),
+        ("E=1 C=0123456789ABCDEF0", "1 0 - 1 end"),
+        ("E=1 C=0123456789ABCDEF01", "1 0 - 1 end"),
+        ("E=1 C=0123456789ABCDEG", "1 0 - 1 end"),
+        (
+            "E=1 C=0123456789ABCDEG C=FFFFFFFFFFFFFFFF",
+            "1 0 FFFFFFFFFFFFFFFF 1 end",
+        ),
+        (
+            "C=0011223344556677 C=8899AABBCCDDEEFF E=691",
+            "691 0 0011223344556677 1 end",
+        ),
+        (
+            "E=691 R=1 C=0000000000000000",
+            "691 1 0000000000000000 1 retry",
+        ),
+        ("E=648 R=0 V=3 extra", "648 0 - 3 change2"),
+        ("extra E=648 text V=2 R=0 more", "648 0 - 2 change2"),
+        ("E=648", "648 0 - 1 change1"),
+        ("E=5", "5 0 - 1 end"),
+        ("e=691 E=5", "5 0 - 1 end"),
+        ("E=5 r=1 v=2 c=0123456789ABCDEF", "5 0 - 1 end"),
+        ("E=646 R=1", "646 1 - 1 end"),
+        ("E=691", "691 0 - 1 end"),
+        ("E=648 R=1 V=3", "648 1 - 3 change2"),
+        ("E=648 V=9999999999", "648 0 - 9999999999 change2"),
+        ("E=648 V=10000000000", "648 0 - 1 change1"),
+        ("E=648 V=4294967296", "648 0 - 4294967296 change2"),
+        ("E=648 V=2", "648 0 - 2 change2"),
+        ("E=648 V=1", "648 0 - 1 change1"),
+        ("E=648 V=0", "648 0 - 0 change1"),
+        ("E=648 V=0000000002", "648 0 - 2 change2"),
+        ("E=648 V=x V=2", "648 0 - 2 change2"),
+        ("E=709 R=1 V=2", "709 1 - 2 end"),
+        ("E=647 R=0 V=2", "647 0 - 2 end"),
+        ("E=649 R=0 V=2", "649 0 - 2 end"),
+        ("R=1 V=2", "refused 11"),
+        (
+            "M=Bad E=691 R=1 C=102DB5DF085D3041 V=2 M=text",
+            "691 1 102DB5DF085D3041 2 retry",
+        ),
+    ] {
+        s.is(&format!("failure {}", text(message)), expected);
+    }
+    s.note("octets above 7F, and the fullwidth of a word");
+    s.is(
+        &format!("failure FFFE20{}", text("E=691 R=1")),
+        "691 1 - 1 retry",
+    );
+    s.is(
+        &format!("failure {}A0{}", text("E=691"), text("R=1")),
+        "refused 11",
+    );
+    s.title("replies that are failures");
+    for (message, expected) in [
+        (E691R1, "failure 691 1 - 2 retry"),
+        (E691R0, "failure 691 0 - 2 end"),
+        (E648, "failure 648 0 - 2 change2"),
+        (E709, "failure 709 0 - 2 end"),
+    ] {
+        s.is(&format!("reply 8 04080011{message}"), expected);
+    }
+}
+
+fn turns(s: &mut Sheet) {
+    let failure = |id: u8, message: &str| {
+        let length = 4 + message.len();
+        format!("04{id:02X}{:04X}{}", length, text(message))
+    };
+    s.title("R-TURN-1: a retry takes C");
+    let next = "8 0123456789ABCDEF";
+    s.is(
+        &format!(
+            "turn 7 {CHX} {}",
+            failure(7, "E=691 R=1 C=0123456789ABCDEF")
+        ),
+        next,
+    );
+    let nt = "2406C122F5D6D934CA96020272A269FD843BFE321A566F26";
+    s.is(
+        &format!("writeresponse {next} {} 75 AA*55", hex(P)),
+        &format!("0 55 0208003731{Z24}{nt}0175"),
+    );
+    s.title("R-TURN-2: else the 23 rule, twice");
+    let e691 = "E=691 R=1 V=2";
+    s.is(
+        &format!("turn 7 {CHX} {}", failure(7, e691)),
+        &format!("8 {CH23}"),
+    );
+    s.is(
+        &format!("turn 8 {CH23} {}", failure(8, e691)),
+        "9 3E2DB5DF085D3041",
+    );
+    s.is(
+        &format!("turn 8 0123456789ABCDEF {}", failure(8, e691)),
+        "9 1823456789ABCDEF",
+    );
+    s.is(
+        &format!("turn 8 E902030405060708 {}", failure(8, e691)),
+        "9 0002030405060708",
+    );
+    s.title("R-TURN-3: however often the reply is read");
+    for _ in 0..3 {
+        s.is(
+            &format!("turn 7 {CHX} {}", failure(7, e691)),
+            &format!("8 {CH23}"),
+        );
+    }
+    s.title("R-TURN-4: a change uses the last response's challenge");
+    s.is(
+        &format!(
+            "turn 7 {CHX} {}",
+            failure(7, "E=648 R=0 C=0123456789ABCDEF V=2")
+        ),
+        &format!("8 {CHX}"),
+    );
+    s.is(
+        &format!("turn 7 {CHX} {}", failure(7, "E=648 R=0 V=2")),
+        &format!("8 {CHX}"),
+    );
+    s.title("R-TURN-5: identifier 255, then 0");
+    s.is(
+        &format!("turn 255 {CHX} {}", failure(255, e691)),
+        &format!("0 {CH23}"),
+    );
+    s.is(
+        &format!("turn 255 {CHX} {}", failure(255, "E=648 R=0 V=2")),
+        &format!("0 {CHX}"),
+    );
+    s.title("no next turn: success, end, version 1 change, refusals 3, 5, 11");
+    let same = format!("7 {CHX}");
+    for packet in [
+        "03070004".to_string(),
+        failure(7, "E=691 R=0 V=2"),
+        failure(7, "E=646 R=1 C=0123456789ABCDEF"),
+        failure(7, "E=648 R=1 V=1 C=0123456789ABCDEF"),
+        failure(7, "E=648"),
+        failure(7, "R=1 V=2"),
+        failure(8, e691),
+        "0407".to_string(),
+        "-".to_string(),
+        format!("0107000D08{CHX}"),
+    ] {
+        s.is(&format!("turn 7 {CHX} {packet}"), &same);
+    }
+}
+
+fn refusals(s: &mut Sheet) {
+    let good = resp(7, Z24, NR, 1, b"u");
+    let chg = change(8, &CH, P, Q);
+    s.title("R-REF-1: the conversation has ended, before anything else");
+    s.account(H, L, "0000");
+    s.open7();
+    s.success(&good);
+    s.refused(&good, B, "1");
+    s.refused(&[], "AA*3", "1");
+    s.refused(&good, "-", "1");
+    s.note("and after a refused opening");
+    s.is(
+        &format!("open 7 {CHX} 8 yes {B}"),
+        &format!("13 0 {} 0 0000000000000000 0 no ended -", "AA".repeat(20)),
+    );
+    s.refused(&resp(0, Z24, NR, 1, b"u"), B, "1");
+    s.title("R-REF-2: reply buffers of 16 and 17 octets, also at the opening");
+    s.is(
+        &format!("open 7 {CHX} - - AA*16"),
+        &format!("2 0 {} 0 0000000000000000 0 no ended -", "AA".repeat(16)),
+    );
+    s.is(
+        &format!("open 7 {CHX} - - -"),
+        "2 0 - 0 0000000000000000 0 no ended -",
+    );
+    s.begins(&format!("open 7 {CHX} - - AA*17"), "0 13 0107000D08");
+    s.refused(&good, "AA*16", "2");
+    s.refused(&good, "AA*4", "2");
+    s.refused(&good, "-", "2");
+    let answer = s.step(&good, "AA*17");
+    assert_eq!(answer.refusal, "0");
+    s.title("R-REF-3: the frame");
+    s.open7();
+    for packet in [
+        "",
+        "02",
+        "0207",
+        "020700",
+        "0207003731",
+        "02070003",
+        "02070000",
+        "0207FFFF",
+    ] {
+        s.refused(&bytes(packet), B, "3");
+    }
+    s.refused(&with(&good, &[(2, &[0, 3])]), B, "3");
+    s.refused(&with(&good, &[(2, &[0, 0x38])]), B, "3");
+    s.refused(&good[..54], B, "3");
+    s.title("R-REF-4: the code");
+    s.refused(&with(&chg, &[(1, &[7])]), B, "4");
+    for code in [0, 1, 3, 4, 5, 6, 7, 255] {
+        s.refused(&with(&good, &[(0, &[code])]), B, "4");
+    }
+    s.title("R-REF-5: the identifier");
+    for id in [6, 8, 0, 255] {
+        s.refused(&resp(id, Z24, NR, 1, b"u"), B, "5");
+    }
+    s.title("R-REF-6: Response Length or size");
+    s.refused(&bytes("02070004"), B, "6");
+    s.refused(&bytes("0207000531"), B, "6");
+    s.refused(&resp(7, Z24, NR, 1, b""), B, "6");
+    s.refused(&with(&good, &[(2, &[0, 0x36])]), B, "6");
+    s.refused(&resp(7, Z24, NR, 1, &[b'u'; 257]), B, "6");
+    s.refused(&with(&good, &[(4, &[48])]), B, "6");
+    s.refused(&with(&good, &[(4, &[50])]), B, "6");
+    s.refused(&with(&good, &[(4, &[0])]), B, "6");
+    s.title("R-REF-7: the Response's flag");
+    for flag in [2, 3, 128, 255] {
+        s.refused(&resp(7, Z24, NR, flag, b"u"), B, "7");
+    }
+    s.note("after all these the conversation still takes the right Response");
+    s.success(&good);
+    s.title("a change awaited: refusals 2, 3, 4, 5, 6, 7");
+    s.expire(H, L);
+    s.refused(&chg[..1117], "AA*16", "2");
+    s.refused(&chg[..1117], B, "3");
+    s.refused(&resp(8, Z24, NR, 1, b"u"), B, "4");
+    s.refused(&with(&chg, &[(1, &[7])]), B, "5");
+    s.refused(&with(&chg, &[(1, &[9])]), B, "5");
+    s.refused(&with(&chg[..1117], &[(2, &[4, 0x5D])]), B, "6");
+    let mut longer = chg.clone();
+    longer.push(0);
+    s.refused(&with(&longer, &[(2, &[4, 0x5F])]), B, "6");
+    s.refused(&bytes("06080004"), B, "6");
+    for flags in [[0, 4], [0x80, 1], [1, 1], [0, 5], [0xFF, 0xFF]] {
+        s.refused(&with(&chg, &[(1116, &flags)]), B, "7");
+    }
+    s.note("and the change is still accepted");
+    s.success(&chg);
+    s.title("R-REF-8: passwords of the writers");
+    let aa = |size: usize| "AA".repeat(size);
+    for password in ["61", "616263", "61*511", "61*513", "61*514"] {
+        s.is(
+            &format!("writeresponse 7 {CHX} {password} 75 AA*60"),
+            &format!("8 0 {}", aa(60)),
+        );
+        s.is(
+            &format!("writechange 8 {CHX} {password} 6100 5A*512 AA*20"),
+            &format!("8 0 {}", aa(20)),
+        );
+        s.is(
+            &format!("writechange 8 {CHX} 6100 {password} 5A*512 AA*20"),
+            &format!("8 0 {}", aa(20)),
+        );
+    }
+    s.title("R-REF-9: the output buffer");
+    s.is(
+        &format!("writeresponse 7 {CHX} {} 75 AA*54", hex(P)),
+        &format!("9 0 {}", aa(54)),
+    );
+    s.is(
+        &format!("writeresponse 7 {CHX} {} 75*256 AA*309", hex(P)),
+        &format!("9 0 {}", aa(309)),
+    );
+    s.is(&format!("writeresponse 7 {CHX} {} 75 -", hex(P)), "9 0 -");
+    s.is(
+        &format!("writechange 8 {CHX} {} {} 5A*512 AA*1117", hex(P), hex(Q)),
+        &format!("9 0 {}", aa(1117)),
+    );
+    s.is(
+        &format!("writechange 8 {CHX} {} {} 5A*512 -", hex(P), hex(Q)),
+        "9 0 -",
+    );
+    s.title("R-REF-10: the name to be written");
+    s.is(
+        &format!("writeresponse 7 {CHX} {} - AA*60", hex(P)),
+        &format!("10 0 {}", aa(60)),
+    );
+    s.is(
+        &format!("writeresponse 7 {CHX} {} 75*257 AA*400", hex(P)),
+        &format!("10 0 {}", aa(400)),
+    );
+    s.begins(
+        &format!("writeresponse 7 {CHX} {} 75*256 AA*310", hex(P)),
+        "0 310 0207013631",
+    );
+    s.title("R-REF-11 to -13: the peer's readers");
+    s.is("reply 9 0109000D080102030405060708", "refused 11");
+    s.is("reply 9 02090004", "refused 11");
+    s.is("reply 9 05090004", "refused 11");
+    s.is("reply 9 06090004", "refused 11");
+    s.is("reply 9 00090004", "refused 11");
+    s.is(&format!("challenge 04090011{E691R1}"), "refused 11");
+    s.is("challenge 0207000D080102030405060708", "refused 11");
+    s.is("challenge 0107000C0801020304050607", "refused 11");
+    s.is("challenge 0107000C080102030405060708", "refused 11");
+    s.is("challenge 0107000D070102030405060708", "refused 11");
+    s.is("challenge 0107000D090102030405060708", "refused 11");
+    s.is("challenge 01070004", "refused 11");
+    s.is("challenge 0107000408", "refused 11");
+    s.is("challenge 0107000508", "refused 11");
+    s.is(
+        &format!("reply 9 0409000B{}", text("R=1 V=2")),
+        "refused 11",
+    );
+    s.note("3 before all");
+    for packet in [
+        "-",
+        "01",
+        "010700",
+        "01070003",
+        "0107000E080102030405060708",
+    ] {
+        s.is(&format!("challenge {packet}"), "refused 3");
+    }
+    for packet in [
+        "-", "03", "030900", "03090003", "03090005", "03080000", "01080005",
+    ] {
+        s.is(&format!("reply 9 {packet}"), "refused 3");
+    }
+    s.title("R-REF-14: the filler");
+    for size in [0, 1, 511, 513] {
+        let filler = if size == 0 {
+            "-".to_string()
+        } else {
+            format!("5A*{size}")
+        };
+        s.is(
+            &format!("writechange 8 {CHX} {} 61*512 {filler} AA*20", hex(P)),
+            &format!("12 0 {}", aa(20)),
+        );
+    }
+    s.title("R-ORD-1: the box's order");
+    let mut packet = resp(8, Z24, NR, 9, b"u");
+    packet[0] = 3;
+    packet[3] = 0x36;
+    s.account(H, L, "0000");
+    s.open7();
+    s.refused(&packet, "AA*16", "2");
+    s.refused(&packet, "AA*17", "4");
+    packet[0] = 2;
+    s.refused(&packet, "AA*17", "5");
+    packet[1] = 7;
+    s.refused(&packet, "AA*17", "6");
+    packet[3] = 0x37;
+    s.refused(&packet, "AA*17", "7");
+    packet[53] = 1;
+    let answer = s.step(&packet, "AA*17");
+    assert_eq!(answer.refusal, "0");
+    s.title("R-ORD-2: the opening's order");
+    s.is(
+        &format!("open 7 {CHX} 8 - -"),
+        "13 0 - 0 0000000000000000 0 no ended -",
+    );
+    s.is(
+        &format!("open 7 {CHX} 7 - -"),
+        "2 0 - 0 0000000000000000 0 no ended -",
+    );
+    s.title("R-ORD-3: the peer's reader");
+    s.is("reply 9 01080004", "refused 5");
+    s.is(&format!("reply 9 0408000B{}", text("R=1 V=2")), "refused 5");
+    s.is("reply 9 0108FFFF", "refused 3");
+    s.title("R-ORD-4: the peer's writers");
+    s.is(&format!("writeresponse 7 {CHX} 616263 - -"), "8 0 -");
+    s.is(&format!("writeresponse 7 {CHX} 6162 - -"), "10 0 -");
+    s.is(&format!("writeresponse 7 {CHX} 6162 75 -"), "9 0 -");
+    s.is(&format!("writechange 8 {CHX} 616263 6162 - -"), "8 0 -");
+    s.is(&format!("writechange 8 {CHX} 6162 616263 - -"), "8 0 -");
+    s.is(&format!("writechange 8 {CHX} 6162 6162 - -"), "12 0 -");
+    s.is(&format!("writechange 8 {CHX} 6162 6162 5A*512 -"), "9 0 -");
+}
+
+fn slips(s: &mut Sheet) {
+    let chg = change(8, &CH, P, Q);
+    let f = hex(&filler());
+    s.title("R-SLIP-1: a change with A.9's second key");
+    let h: [u8; 16] = array(H);
+    let hq: [u8; 16] = array(HQ);
+    let key: [u8; 7] = hq[..7].try_into().unwrap();
+    let second = reference::des::encrypt(&key, &h[8..].try_into().unwrap());
+    assert_eq!(hex(&second), "D14243A8B2D2B1BE");
+    s.expire(H, L);
+    s.failure(&with(&chg, &[(528, &second)]), "709", 0);
+    s.title("R-SLIP-2: a change whose response is made from the old hash");
+    s.expire(H, L);
+    s.failure(
+        &with(&chg, &[(1092, &hashes::challenge_response(&h, &CH))]),
+        "709",
+        0,
+    );
+    s.title("R-SLIP-3: RC4 started anew for the length");
+    let mut length = 14u32.to_le_bytes();
+    rc4(&h, &mut length).unwrap();
+    assert_eq!(hex(&length), "CE5A8EBA");
+    s.expire(H, L);
+    s.failure(&with(&chg, &[(516, &length)]), "709", 0);
+    let sealed = s.ask(&format!("seal {H} {} {f}", hex(Q)));
+    assert!(sealed.ends_with("AE36AB02"));
+    s.title("R-SLIP-4: LM right, NT wrong, flag 1");
+    s.account(H, L, "0000");
+    s.open7();
+    s.failure(&resp(7, LR, BAD, 1, b"u"), "691", 1);
+}
+
+fn table_of_twelve(s: &mut Sheet) {
+    s.title("the table of twelve: a to l");
+    s.account(H, "-", "0000");
+    s.open(255, "E802030405060708", "1", "-");
+    let answer = s.failure(&resp(255, Z24, Z24, 1, b"u"), "691", 1);
+    assert_eq!(answer.conversation, "0 FF02030405060708 0 yes response -");
+    s.open(7, "E902030405060708", "1", "-");
+    let answer = s.failure(&resp(7, Z24, Z24, 1, b"u"), "691", 1);
+    assert_eq!(answer.conversation, "8 0002030405060708 0 yes response -");
+    s.is("expand FFFFFFFFFFFFFF", "FEFEFEFEFEFEFEFE");
+    s.is("expand 01000000000000", "0080000000000000");
+    s.begins(
+        "open 7 0102030405060708 - - AA*17",
+        "0 13 0107000D080102030405060708AAAAAAAA ",
+    );
+    s.open(9, CHX, "-", "-");
+    let answer = s.failure(&resp(9, Z24, BAD, 1, b"u"), "691", 1);
+    assert_eq!(hex(answer.reply()), "04090011453D36393120523D3120563D32");
+    s.open7();
+    let mut packet = bytes("0207003631");
+    packet.resize(54, 0);
+    s.refused(&packet, B, "6");
+    let mut packet = bytes("0207013731");
+    packet.resize(311, 0);
+    s.refused(&packet, B, "6");
+    for (length, expected) in [(514u32, "over"), (7, "odd")] {
+        let mut block = [0u8; 516];
+        block[512..].copy_from_slice(&length.to_le_bytes());
+        rc4(&array::<16>(H), &mut block).unwrap();
+        s.is(&format!("unseal {H} {}", hex(&block)), expected);
+    }
+    s.is(
+        &format!("failure {}", text("E=648 R=0 V=3 extra")),
+        "648 0 - 3 change2",
+    );
+    s.is(&format!("failure {}", text("R=1 V=2")), "refused 11");
+}
+
+/// Our peer against our box, each packet taken from what was written before.
+struct Peer {
+    turn: String,
+    last: String,
+}
+
+impl Peer {
+    /// Opens, and has the peer read the Challenge.
+    fn meet(s: &mut Sheet, id: u8, r: &str) -> Peer {
+        let result = s.ask(&format!("open {id} {CHX} {r} - {B}"));
+        let buffer = result.split(' ').nth(2).unwrap();
+        let turn = s.ask(&format!("challenge {}", &buffer[..26]));
+        assert_eq!(turn, format!("{id} {CHX}"));
+        Peer {
+            turn,
+            last: String::new(),
+        }
+    }
+
+    /// Writes a packet, hands it to the box, reads the reply.
+    fn send(&mut self, s: &mut Sheet, command: &str, verdict: &str) -> Stepped {
+        let result = s.ask(command);
+        let words: Vec<&str> = result.split(' ').collect();
+        assert_eq!(words[0], "0");
+        let size: usize = words[1].parse().unwrap();
+        let answer = s.step(&bytes(&words[2][..2 * size]), B);
+        let id = self.turn.split(' ').next().unwrap().to_string();
+        let reply = hex(answer.reply());
+        s.is(&format!("reply {id} {reply}"), verdict);
+        self.last = s.ask(&format!("turn {} {reply}", self.turn));
+        std::mem::swap(&mut self.turn, &mut self.last);
+        answer
+    }
+
+    fn respond(&mut self, s: &mut Sheet, password: &[u8], verdict: &str) -> Stepped {
+        let command = format!(
+            "writeresponse {} {} {} AA*64",
+            self.turn,
+            hex(password),
+            text("DOM\\user")
+        );
+        self.send(s, &command, verdict)
+    }
+
+    fn change(&mut self, s: &mut Sheet, old: &[u8], new: &[u8], verdict: &str) -> Stepped {
+        let command = format!(
+            "writechange {} {} {} {} AA*1118",
+            self.turn,
+            hex(old),
+            hex(new),
+            hex(&filler())
+        );
+        self.send(s, &command, verdict)
+    }
+}
+
+fn exchanges(s: &mut Sheet) {
+    let retry = "failure 691 1 - 2 retry";
+    let end = "failure 691 0 - 2 end";
+    let renew = "failure 648 0 - 2 change2";
+    s.title("RFC 2433 B.1.1: successful authentication");
+    s.account(H, L, "0000");
+    let mut peer = Peer::meet(s, 7, "-");
+    peer.respond(s, P, "success");
+    s.title("RFC 2433 B.1.2: failed authentication with no retry allowed");
+    let mut peer = Peer::meet(s, 7, "0");
+    peer.respond(s, BADPW, end);
+    s.title("RFC 2433 B.1.3: successful authentication after retry");
+    let mut peer = Peer::meet(s, 255, "-");
+    peer.respond(s, BADPW, retry);
+    assert_eq!(peer.turn, format!("0 {CH23}"));
+    peer.respond(s, P, "success");
+    s.title("RFC 2433 B.1.4: failed hack attack with 3 attempts allowed");
+    let mut peer = Peer::meet(s, 7, "2");
+    peer.respond(s, b"", retry);
+    peer.respond(s, BADPW, retry);
+    assert_eq!(peer.turn, "9 3E2DB5DF085D3041");
+    peer.respond(s, Q, end);
+    s.refused(&resp(10, Z24, NR, 1, b"u"), B, "1");
+    s.title("RFC 2433 B.1.5: successful authentication with password change");
+    s.account(H, L, "0001");
+    let mut peer = Peer::meet(s, 7, "-");
+    peer.respond(s, P, renew);
+    assert_eq!(peer.turn, format!("8 {CHX}"));
+    let answer = peer.change(s, P, Q, "success");
+    assert_eq!(answer.record, format!("{HQ}/-/0000"));
+    s.note("the record handed out lets the new password in, and the old one not");
+    s.is("relend", "");
+    let mut peer = Peer::meet(s, 7, "-");
+    peer.respond(s, Q, "success");
+    s.is("relend", "");
+    let mut peer = Peer::meet(s, 7, "0");
+    peer.respond(s, P, end);
+    s.title("RFC 2433 B.1.6: successful authentication with retry and password change");
+    s.account(H, L, "0001");
+    let mut peer = Peer::meet(s, 254, "1");
+    peer.respond(s, BADPW, retry);
+    s.refused(&bytes("010203"), B, "3");
+    peer.respond(s, P, renew);
+    assert_eq!(peer.turn, format!("0 {CH23}"));
+    let longest = vec![0x41; 512];
+    let answer = peer.change(s, P, &longest, "success");
+    assert_eq!(answer.conversation, format!("0 {CH23} 0 yes ended -"));
+    s.is("relend", "");
+    let mut peer = Peer::meet(s, 1, "0");
+    peer.respond(s, &longest, "success");
+    s.title("a change with the wrong old password: 709, no record, nothing relent");
+    s.account(H, L, "0001");
+    let mut peer = Peer::meet(s, 7, "7");
+    peer.respond(s, P, renew);
+    let answer = peer.change(s, BADPW, Q, "failure 709 0 - 2 end");
+    assert_eq!(answer.record, "-");
+    s.is("relend", "");
+    let mut peer = Peer::meet(s, 7, "0");
+    peer.respond(s, P, renew);
+    s.title("each reason, read by the peer");
+    for (marks, verdict) in [
+        ("1111", "failure 647 0 - 2 end"),
+        ("0111", "failure 646 0 - 2 end"),
+        ("0011", "failure 649 0 - 2 end"),
+        ("0001", "failure 648 0 - 2 change2"),
+        ("0000", "success"),
+    ] {
+        s.account(H, "-", marks);
+        let mut peer = Peer::meet(s, 7, "-");
+        peer.respond(s, P, verdict);
+    }
+}
+
+fn damaged(s: &mut Sheet) {
+    let good = resp(7, Z24, NR, 1, b"DOM\\u");
+    s.title("a Response with one bit changed, octet by octet");
+    s.account(H, L, "0000");
+    for place in [0, 1, 2, 3, 4, 5, 28, 29, 36, 37, 44, 45, 52, 53, 54, 58] {
+        for bit in [0x01, 0x80] {
+            s.open7();
+            let packet = with(&good, &[(place, &[good[place] ^ bit])]);
+            let answer = s.step(&packet, B);
+            let expected = match (place, bit) {
+                (0, _) => "4",
+                (1, _) => "5",
+                (2, _) => "3",
+                (3, 1) => "0",
+                (3, _) => "3",
+                (4, _) => "6",
+                (53, 0x80) => "7",
+                _ => "0",
+            };
+            assert_eq!(answer.refusal, expected, "{place} {bit}");
+            s.ask(&format!("name {} {}", hex(&packet), text("HOME")));
+        }
+    }
+    s.title("a change with one bit changed, field by field");
+    let chg = change(8, &CH, P, Q);
+    for (place, reason) in [
+        (4, "0"),
+        (501, "0"),
+        (502, "709"),
+        (515, "709"),
+        (516, "709"),
+        (519, "709"),
+        (520, "709"),
+        (535, "709"),
+        (536, "0"),
+        (1091, "0"),
+        (1092, "709"),
+        (1115, "709"),
+    ] {
+        s.expire(H, L);
+        let answer = s.step(&with(&chg, &[(place, &[chg[place] ^ 0x10])]), B);
+        assert_eq!(
+            (answer.refusal.as_str(), answer.reason.as_str()),
+            ("0", reason),
+            "{place}"
+        );
+    }
+    s.title("a whole packet cut short at each of its first octets, for each reader");
+    s.open7();
+    for size in 0..8 {
+        s.refused(&good[..size], B, "3");
+    }
+    let failure = bytes(&format!("04090011{E691R1}"));
+    for size in 0..=17 {
+        let part = hex(&failure[..size]);
+        s.is(
+            &format!("reply 9 {part}"),
+            if size < 17 {
+                "refused 3"
+            } else {
+                "failure 691 1 - 2 retry"
+            },
+        );
+    }
+    s.title("a Failure cut short by its Length");
+    for size in 4..=17u8 {
+        let packet = with(&failure, &[(3, &[size])]);
+        s.ask(&format!("reply 9 {}", hex(&packet)));
+        s.ask(&format!("turn 9 {CHX} {}", hex(&packet)));
+    }
+}
+
+fn malformed(s: &mut Sheet) {
+    s.title("malformed lines");
+    for line in [
+        "unknown",
+        "md4",
+        "md4 0",
+        "md4 GG",
+        "md4 0a",
+        "md4 00 00",
+        "md4  00",
+        "md4 00*",
+        "md4 *3",
+        "md4 0000*3",
+        "md4 00*x",
+        "des 00*7",
+        "des 00*8 00*8",
+        "undes 00*7 00*7",
+        "desthree 00*20 00*8",
+        "expand 00*8",
+        "dropparity 00*7",
+        "response 00*15 00*8",
+        "response 00*16 -",
+        "seal 00*15 - 00*512",
+        "unseal 00*16 00*515",
+        "oldnew 00*16 00*17",
+        "account",
+        "account - -",
+        "account - - 000",
+        "account - - 00000",
+        "account - - 0002",
+        "account 00 - 0000",
+        "open 256 0000000000000000 - - AA*20",
+        "open 7 00 - - AA*20",
+        "open 7 0000000000000000 - maybe AA*20",
+        "open 7 0000000000000000 x - AA*20",
+        "step 00",
+        "relend now",
+        "reply 9",
+        "reply x 00",
+        "turn 9 00 00",
+        "writeresponse 7 00*8 - 75",
+        "writechange 7 00*8 - - 00*512",
+        ":unknown",
+        "MD4 00",
+        " md4 00",
+        "md4 00 ",
+    ] {
+        s.is(line, "error");
+    }
+    s.note("the octet strings: none, zero times, once");
+    s.is("md4 00*0", "31D6CFE0D16AE931B73C59D7E0C089C0");
+    s.is(
+        "rc4 01 00*1",
+        &hex(&reference::rc4::keystream(&[1], 0).unwrap()[..1]),
+    );
+}
+
+/// R-CHANGE-7 and O-8, O-9: values that no opening makes.
+#[test]
+fn conversations_made_by_hand() {
+    use reference::authenticator::{step, Conversation};
+    let kept = Account {
+        nt: Some(array(H)),
+        lm: Some(array(L)),
+        disabled: true,
+        hours: true,
+        no_dialin: true,
+        expired: true,
+    };
+    let mut conversation = Conversation {
+        id: 8,
+        challenge: CH,
+        retries: 200,
+        lm: true,
+        phase: Phase::Change(kept),
+    };
+    let mut buffer = [0xAA; 20];
+    let answer = step(&conversation, &change(8, &CH, P, Q), None, &mut buffer);
+    let handed = Account {
+        nt: Some(array(HQ)),
+        lm: None,
+        expired: false,
+        ..kept
+    };
+    assert_eq!(
+        (answer.refusal, answer.reason, answer.record),
+        (0, 0, Some(handed))
+    );
+    assert_eq!(
+        answer.conversation,
+        Conversation {
+            phase: Phase::Ended,
+            ..conversation
+        }
+    );
+    conversation.phase = Phase::Change(Account::default());
+    let answer = step(
+        &conversation,
+        &change(8, &CH, P, Q),
+        Some(&kept),
+        &mut buffer,
+    );
+    assert_eq!(
+        (answer.refusal, answer.reason, answer.record),
+        (0, 709, None)
+    );
+    conversation.phase = Phase::Response;
+    let answer = step(
+        &conversation,
+        &resp(8, Z24, BAD, 1, b"u"),
+        None,
+        &mut buffer,
+    );
+    assert_eq!(
+        (
+            answer.reason,
+            answer.conversation.retries,
+            answer.conversation.id
+        ),
+        (691, 199, 9)
+    );
+}
+
+/// SHA-256, for the one digest that the rules print.
+fn sha256(input: &[u8]) -> String {
+    let primes: Vec<u64> = (2..312)
+        .filter(|n| (2..*n).all(|d| n % d != 0))
+        .take(64)
+        .collect();
+    let fraction =
+        |root: fn(f64) -> f64, prime: u64| (root(prime as f64).fract() * 4294967296.0) as u32;
+    let k: Vec<u32> = primes.iter().map(|p| fraction(f64::cbrt, *p)).collect();
+    let mut state: Vec<u32> = primes[..8]
+        .iter()
+        .map(|p| fraction(f64::sqrt, *p))
+        .collect();
+    let mut data = input.to_vec();
+    data.push(0x80);
+    while data.len() % 64 != 56 {
+        data.push(0);
+    }
+    data.extend_from_slice(&(8 * input.len() as u64).to_be_bytes());
+    for block in data.chunks(64) {
+        let mut w: Vec<u32> = block
+            .chunks(4)
+            .map(|c| u32::from_be_bytes(c.try_into().unwrap()))
+            .collect();
+        for t in 16..64 {
+            let (a, b) = (w[t - 15], w[t - 2]);
+            let s0 = a.rotate_right(7) ^ a.rotate_right(18) ^ (a >> 3);
+            let s1 = b.rotate_right(17) ^ b.rotate_right(19) ^ (b >> 10);
+            w.push(
+                w[t - 16]
+                    .wrapping_add(s0)
+                    .wrapping_add(w[t - 7])
+                    .wrapping_add(s1),
+            );
+        }
+        let mut v = state.clone();
+        for t in 0..64 {
+            let s1 = v[4].rotate_right(6) ^ v[4].rotate_right(11) ^ v[4].rotate_right(25);
+            let choice = (v[4] & v[5]) ^ (!v[4] & v[6]);
+            let t1 = v[7]
+                .wrapping_add(s1)
+                .wrapping_add(choice)
+                .wrapping_add(k[t])
+                .wrapping_add(w[t]);
+            let s0 = v[0].rotate_right(2) ^ v[0].rotate_right(13) ^ v[0].rotate_right(22);
+            let majority = (v[0] & v[1]) ^ (v[0] & v[2]) ^ (v[1] & v[2]);
+            v.rotate_right(1);
+            v[4] = v[4].wrapping_add(t1);
+            v[0] = t1.wrapping_add(s0.wrapping_add(majority));
+        }
+        for (old, new) in state.iter_mut().zip(v) {
+            *old = old.wrapping_add(new);
+        }
+    }
+    state.iter().map(|word| format!("{word:08x}")).collect()
+}

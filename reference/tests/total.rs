@@ -1,0 +1,286 @@
+//! Every input draws an answer or a numbered refusal; a refusal changes nothing. The inputs come
+//! from a fixed generator, so each run is the same.
+
+use reference::authenticator::{self, Account, Conversation, Phase};
+use reference::peer::{self, Turn, Verdict};
+use reference::script::Session;
+use reference::{hashes, message, packet};
+
+struct Random(u64);
+
+impl Random {
+    fn next(&mut self) -> u64 {
+        self.0 = self
+            .0
+            .wrapping_mul(6364136223846793005)
+            .wrapping_add(1442695040888963407);
+        self.0 >> 33
+    }
+
+    fn below(&mut self, limit: usize) -> usize {
+        self.next() as usize % limit
+    }
+
+    fn octets(&mut self, size: usize) -> Vec<u8> {
+        (0..size).map(|_| self.next() as u8).collect()
+    }
+
+    fn array<const N: usize>(&mut self) -> [u8; N] {
+        self.octets(N).try_into().unwrap()
+    }
+}
+
+/// A packet near to a right one.
+fn packet_near(random: &mut Random, id: u8) -> Vec<u8> {
+    let size = [
+        0, 1, 3, 4, 5, 13, 17, 54, 55, 56, 310, 311, 1117, 1118, 1119,
+    ][random.below(15)];
+    let mut packet = random.octets(size);
+    if size >= 4 && random.below(8) > 0 {
+        packet[0] = match (random.below(4), size) {
+            (0, _) => random.below(8) as u8,
+            (_, 1117..) => 6,
+            (_, 54..) => 2,
+            _ => 1,
+        };
+        packet[1] = if random.below(8) > 0 { id } else { packet[1] };
+        let length = if random.below(8) > 0 {
+            size
+        } else {
+            random.below(size + 3)
+        };
+        packet[2..4].copy_from_slice(&(length as u16).to_be_bytes());
+    }
+    if size > 54 && random.below(8) > 0 {
+        packet[4] = 49;
+        packet[53] = random.below(3) as u8;
+    }
+    if size >= 1118 && random.below(8) > 0 {
+        packet[1116] = 0;
+        packet[1117] = random.below(5) as u8;
+    }
+    packet
+}
+
+#[test]
+fn steps() {
+    let mut random = Random(1);
+    let mut judged = 0;
+    for _ in 0..60_000 {
+        let account = Account {
+            nt: (random.below(4) > 0).then(|| random.array()),
+            lm: (random.below(4) > 0).then(|| random.array()),
+            disabled: random.below(2) > 0,
+            hours: random.below(2) > 0,
+            no_dialin: random.below(2) > 0,
+            expired: random.below(2) > 0,
+        };
+        let phase = match random.below(8) {
+            0 => Phase::Ended,
+            1..=3 => Phase::Change(account),
+            _ => Phase::Response,
+        };
+        let before = Conversation {
+            id: random.next() as u8,
+            challenge: random.array(),
+            retries: random.below(9) as u8,
+            lm: random.below(2) > 0,
+            phase,
+        };
+        let packet = packet_near(&mut random, before.id);
+        let room = [0, 16, 17, 17, 20, 20, 20, 20][random.below(8)];
+        let lent = random.octets(room);
+        let mut buffer = lent.clone();
+        let record = (random.below(2) > 0).then_some(account);
+        let answer = authenticator::step(&before, &packet, record.as_ref(), &mut buffer);
+        if answer.refusal > 0 {
+            assert!(answer.refusal <= 7);
+            assert_eq!((answer.reason, answer.written, answer.record), (0, 0, None));
+            assert_eq!(answer.conversation, before);
+            assert_eq!(buffer, lent);
+        } else {
+            judged += 1;
+            assert!(answer.written == 4 || answer.written == 17);
+            assert_eq!(buffer[answer.written..], lent[answer.written..]);
+            assert_eq!(buffer[1], before.id);
+            // The peer reads what the box wrote.
+            match peer::read_reply(before.id, &buffer) {
+                Ok(Verdict::Success) => assert_eq!(answer.reason, 0),
+                Ok(Verdict::Failure(fields)) => {
+                    assert_eq!(
+                        (fields.e, fields.c, fields.v),
+                        (u64::from(answer.reason), None, 2)
+                    );
+                }
+                Err(refusal) => panic!("{refusal}"),
+            }
+        }
+        packet::domain(&packet, b"HOME");
+        packet::account(&packet);
+        let _ = peer::read_challenge(&packet);
+    }
+    assert!(judged > 1_000, "{judged}");
+}
+
+#[test]
+fn peer_to_box_and_back() {
+    let mut random = Random(2);
+    for _ in 0..2_000 {
+        let size = 2 * random.below(257);
+        let old = random.octets(size);
+        let size = 2 * random.below(257);
+        let new = random.octets(size);
+        let id = random.next() as u8;
+        let challenge: [u8; 8] = random.array();
+        let record = Account {
+            nt: hashes::nt_hash(&old).ok(),
+            expired: true,
+            ..Account::default()
+        };
+        let mut reply = [0u8; 17];
+        let opened = authenticator::open(id, &challenge, Some(0), None, &mut reply);
+        let turn = peer::read_challenge(&reply).unwrap();
+        assert_eq!(turn, Turn { id, challenge });
+        let mut out = vec![0u8; 1118];
+        let size = 1 + random.below(256);
+        let name = random.octets(size);
+        let written = peer::write_response(&turn, &old, &name, &mut out);
+        let first = authenticator::step(&opened.conversation, &out, Some(&record), &mut reply);
+        assert_eq!((written.written, first.reason), (54 + name.len(), 648));
+        let next = peer::next_turn(&turn, &peer::read_reply(turn.id, &reply));
+        peer::write_change(&next, &old, &new, &random.octets(512), &mut out);
+        let second = authenticator::step(&first.conversation, &out, None, &mut reply);
+        assert_eq!(
+            (second.reason, second.conversation.phase),
+            (0, Phase::Ended)
+        );
+        assert_eq!(second.record.unwrap().nt, hashes::nt_hash(&new).ok());
+        assert_eq!(peer::read_reply(next.id, &reply), Ok(Verdict::Success));
+    }
+}
+
+/// The message reader against one that cuts whole words.
+#[test]
+fn messages() {
+    fn digits(word: &[u8], letter: u8, most: usize) -> Option<u64> {
+        let rest = word.strip_prefix(&[letter, b'='])?;
+        let fits = (1..=most).contains(&rest.len()) && rest.iter().all(u8::is_ascii_digit);
+        if fits {
+            std::str::from_utf8(rest).ok()?.parse().ok()
+        } else {
+            None
+        }
+    }
+    fn cut(text: &[u8]) -> Option<message::Fields> {
+        if text.len() > 256 {
+            return None;
+        }
+        let words: Vec<&[u8]> = text.split(|octet| *octet == b' ').collect();
+        let c = words.iter().find_map(|word| {
+            let rest = word.strip_prefix(b"C=")?;
+            let fits = rest.len() == 16 && rest.iter().all(u8::is_ascii_hexdigit);
+            if fits {
+                u64::from_str_radix(std::str::from_utf8(rest).ok()?, 16).ok()
+            } else {
+                None
+            }
+        });
+        Some(message::Fields {
+            e: words.iter().find_map(|word| digits(word, b'E', 10))?,
+            r: words
+                .iter()
+                .find_map(|word| digits(word, b'R', 1).filter(|r| *r < 2))
+                .unwrap_or(0) as u8,
+            c: c.map(u64::to_be_bytes),
+            v: words
+                .iter()
+                .find_map(|word| digits(word, b'V', 10))
+                .unwrap_or(1),
+        })
+    }
+    let mut random = Random(3);
+    let pieces: [&[u8]; 24] = [
+        b"E=691",
+        b"E=648",
+        b"R=1",
+        b"R=0",
+        b"R=",
+        b"V=",
+        b"V=2",
+        b"C=0123456789abCDEF",
+        b"C=01234567",
+        b"89",
+        b" ",
+        b" ",
+        b" ",
+        b"  ",
+        b"=",
+        b"E",
+        b"0",
+        b"x",
+        b"\t",
+        b"99999999",
+        b"\xFF",
+        b"e=1",
+        b"E=",
+        b"E=0000000001",
+    ];
+    let mut read = 0;
+    for _ in 0..60_000 {
+        let mut text = Vec::new();
+        for _ in 0..random.below(14) {
+            text.extend_from_slice(pieces[random.below(24)]);
+            if random.below(2) > 0 {
+                text.push(b' ');
+            }
+        }
+        let result = message::read(&text);
+        assert_eq!(result.ok(), cut(&text), "{text:?}");
+        read += usize::from(result.is_ok());
+    }
+    assert!(read > 10_000, "{read}");
+}
+
+#[test]
+fn script_lines() {
+    let mut random = Random(4);
+    let words = [
+        "md4",
+        "rc4",
+        "des",
+        "unseal",
+        "account",
+        "open",
+        "step",
+        "reply",
+        "turn",
+        "name",
+        "failure",
+        "writechange",
+        "relend",
+        "-",
+        "7",
+        "00",
+        "00*8",
+        "00*16",
+        "AA*20",
+        "256",
+        "0000",
+        "yes",
+        "",
+        "é",
+        ":",
+        "*",
+        "0*",
+        "00*99999999999",
+    ];
+    let mut session = Session::new();
+    for _ in 0..60_000 {
+        let count = 1 + random.below(7);
+        let line = (0..count)
+            .map(|_| words[random.below(words.len())])
+            .collect::<Vec<_>>()
+            .join(" ");
+        assert!(session.line(&line).starts_with(&line));
+    }
+}
