@@ -23,7 +23,7 @@ use Rattle.credentials.specs.declared.Content.{Content}
 use Rattle.credentials.specs.declared.Content.the-variants.{Over, Odd, Password}
 use Rattle.credentials.specs.declared.Opened.{Opened}
 use Rattle.credentials.specs.declared.Sealed.{Sealed}
-use Rattle.credentials.specs.Credentials.{ntHashOf, badNtPassword, lmHashOf, lmKeys, upper, stdText, responseOf, oldUnderNew, plainBlock, sealedBlock, sealRefusal, sealedAs, lengthIn, contentFor, openedAs, passwordIn}
+use Rattle.credentials.specs.Credentials.{ntHashOf, badNtPassword, lmHashOf, lmKeys, upper, stdText, responseOf, oldUnderNew, plainBlock, sealedBlock, sealRefusal, sealedAs, lengthIn, contentFor, Sound, openedAs, passwordIn}
 
 -- ---- lengths
 
@@ -113,6 +113,21 @@ pub content-password : (n : ℕ) → n ≤ 512 → n % 2 ≡ 0 → contentFor n 
 unfolding contentFor
 content-password n h e = simp (le-ltb 512 n h, ne-eqb (n % 2) 1 (λ o. omega (arith, o, e)))
 
+sound-for : (n : ℕ) → Sound (contentFor n)
+unfolding contentFor
+sound-for n = which (ltb 512 n) (eqb (n % 2) 1) refl refl
+  where
+    which : (a b : Bool) → ltb 512 n ≡ a → eqb (n % 2) 1 ≡ b → Sound (cond a Over (cond b Odd (Password n)))
+    which true b p q = tt
+    which false true p q = tt
+    which false false p q =
+        let even : n % 2 ≡ 1 → ⊥ = eqb-false (n % 2) 1 q in
+        (ltb-false 512 n p, omega arith)
+
+pub sound-opened : (old block : List ℕ) → Sound (openedAs old block .content)
+unfolding openedAs
+sound-opened old block = sound-for (lengthIn (crypted old block))
+
 -- a password that is not refused has such a length
 pub good-password : (password : List ℕ) → badNtPassword password ≡ false → (length password ≤ 512) × (length password % 2 ≡ 0)
 good-password password e = which (ltb 512 (length password)) refl e
@@ -122,6 +137,10 @@ good-password password e = which (ltb 512 (length password)) refl e
     which false p q =
         let even : length password % 2 ≡ 1 → ⊥ = eqb-false (length password % 2) 1 q in
         (ltb-false 512 (length password) p, omega arith)
+
+-- and one of such a length is not refused
+pub small-even : (password : List ℕ) → length password ≤ 512 → length password % 2 ≡ 0 → badNtPassword password ≡ false
+small-even password h e = simp (le-ltb 512 (length password) h, ne-eqb (length password % 2) 1 (λ o. omega (arith, o, e)))
 
 -- ---- what sealing answers
 

@@ -2,7 +2,8 @@
 -- Assumes nothing: these are definitions.
 use mathlib.Core.Bool.{Bool, cond, _||_}
 use mathlib.Core.List.{List, [], _∷_, _++_, map}
-use Prim.Native.Nat.{ℕ, _-_, _%_}
+use mathlib.Core.Path.{_≡_}
+use Prim.Native.Nat.{ℕ, _-_, _%_, _≤_}
 use lib.Dec.{eqb, leb, ltb}
 use lib.ListN.{length, take, replicate}
 use Rattle.octets.specs.Parts.{part, fixed}
@@ -88,6 +89,12 @@ lengthIn plain = fromLe (part 512 4 plain)
 -- what a block with the length n holds: over 512, odd, or a password of that length
 unfoldable pub contentFor : ℕ → Content
 contentFor n = cond (ltb 512 n) Over (cond (eqb (n % 2) 1) Odd (Password n))
+
+-- a password's length as an opened block gives it
+abbrev pub Sound : Content → Type 0
+Sound Over = Unit {0}
+Sound Odd = Unit {0}
+Sound (Password n) = (n ≤ 512) × (n % 2 ≡ 0)
 
 -- opening a block: what it holds, and its 512 octets, of which a password is the last
 unfoldable pub openedAs : List ℕ → List ℕ → Opened

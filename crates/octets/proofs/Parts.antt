@@ -4,12 +4,12 @@ use mathlib.Core.Path.{_≡_, refl, sym, ap, ap₂, _∙_, subst}
 use mathlib.Core.Bool.{Bool, true, false, _&&_, false≢true, and-true, and-false, and-assoc}
 use mathlib.Core.List.{List, [], _∷_, _++_, append-assoc, append-nil}
 use Prim.Native.Nat.{ℕ, zero, suc, _+_, _-_, _≤_, _<_, min}
-use native.Mathlib.Nat.{not-suc-le-zero, le-of-suc-le-suc, zero-min, min-zero, suc-min-suc, add-sub-cancel-left}
+use native.Mathlib.Nat.{not-suc-le-zero, le-of-suc-le-suc, zero-min, min-zero, suc-min-suc, add-sub-cancel-left, zero-add, suc-add}
 use native.Mathlib.Omega.{arith}
 use borrow.Author.Tests.{eq-eqb, ne-eqb, eqb-true, eqb-false, leb-true, leb-false}
 use lib.Dec.{eqb, leb}
 use lib.ListN.{length, length-append, length-drop, length-replicate, replicate, replicate-append-replicate, take, drop, getD, set, take-append-drop, drop-of-length-le}
-use lib.Seq.{drop-cons, take-suc-set, drop-set-lt, append-snoc, take-at, drop-at, take-all, drop-append-le, drop-drop, length-take-le, take-append-seam, drop-append-seam}
+use lib.Seq.{drop-cons, take-suc-set, drop-set-lt, append-snoc, take-at, drop-at, take-all, drop-append-le, drop-drop, take-add, length-take-le, take-append-seam, drop-append-seam}
 use lib.Bits.{bitOr, bitXor, bitAnd, or-add-and, and-le-l, and-le-r, xor-self}
 use Rattle.octets.specs.Parts.{part, over, overAt, fixed, agrees}
 use Rattle.octets.proofs.Xor.{xor-none}
@@ -31,6 +31,10 @@ pub part-cut : (at n : ℕ) (l : List ℕ) {a k : ℕ} → a ≡ min at (length 
 part-cut at n l {a} {k} ea ek =
     let count : a + k - a ≡ min n (length (drop a l)) = add-sub-cancel-left a k ∙ ek ∙ ap (min n) (sym (length-drop a l)) in
     ap (λ (m : ℕ). take m (drop a l)) count ∙ take-min n (drop a l) ∙ ap (take n) (ap (λ (m : ℕ). drop m l) ea ∙ drop-min at l)
+
+-- two parts, the second where the first ends, are one part
+pub part-join : (a k j : ℕ) (l : List ℕ) → part a k l ++ part (a + k) j l ≡ part a (k + j) l
+part-join a k j l = sym (take-add k j (drop a l) ∙ ap (λ (x : List ℕ). part a k l ++ take j x) (drop-drop k a l))
 
 pub drop-replicate : (n k : ℕ) → drop {A = ℕ} n (replicate (n + k) 0) ≡ replicate k 0
 drop-replicate n k =
@@ -125,6 +129,20 @@ onto-nothing : (xs : List ℕ) → over xs [] ≡ []
 unfolding over
 onto-nothing [] = refl
 onto-nothing (x ∷ xs) = refl
+
+-- two copies, the second where the first ends, are one copy of both
+pub over-join : (at : ℕ) (xs ys l : List ℕ) → overAt (at + length xs) ys (overAt at xs l) ≡ overAt at (xs ++ ys) l
+unfolding over
+over-join zero xs ys l = ap (λ (n : ℕ). overAt n ys (over xs l)) (zero-add (length xs)) ∙ front xs l
+  where
+    front : (xs l : List ℕ) → overAt (length xs) ys (over xs l) ≡ over (xs ++ ys) l
+    front [] l = refl
+    front (x ∷ xs) [] = onto-nothing ys
+    front (x ∷ xs) (y ∷ l) = ap (λ (m : List ℕ). x ∷ m) (front xs l)
+over-join (suc at) xs ys [] =
+    ap₂ (λ (n : ℕ) (m : List ℕ). overAt n ys m) (suc-add at (length xs)) (onto-nothing xs) ∙ onto-nothing ys ∙ sym (onto-nothing (xs ++ ys))
+over-join (suc at) xs ys (y ∷ l) =
+    ap (λ (n : ℕ). overAt n ys (overAt (suc at) xs (y ∷ l))) (suc-add at (length xs)) ∙ ap (λ (m : List ℕ). y ∷ m) (over-join at xs ys l)
 
 -- one turn of the loop: the octet at i is copied, and the rest of xs is still to be laid over the rest of l
 pub over-turn : (xs l : List ℕ) (i : ℕ) → i < length xs → i < length l

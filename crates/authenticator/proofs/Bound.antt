@@ -1,0 +1,77 @@
+-- How many packets a conversation can still judge: each judged packet lowers it, and no step raises it. So of any steps at all the authenticator
+-- judges at most r + 2.
+-- Assumes nothing.
+use mathlib.Core.Bool.{Bool, true, false, cond, _&&_}
+use mathlib.Core.List.{List}
+use mathlib.Core.Option.{Option, none, some}
+use mathlib.Core.Path.{_≡_, refl, sym, ap, _∙_, subst}
+use Prim.Native.Nat.{ℕ, _+_, _-_, _≤_, _<_}
+use native.Mathlib.Omega.{arith}
+use borrow.Author.Tests.{eqb-true, eqb-false, ltb-true}
+use lib.Dec.{eqb, ltb}
+use Rattle.packets.specs.Response.{responseIn}
+use Rattle.packets.specs.Change.{changeIn}
+use Rattle.authenticator.specs.Conversation.{isEnded, ended, retried, keeping}
+use Rattle.authenticator.specs.Opening.{Opening, retriesOf, firstConversation}
+use Rattle.authenticator.specs.Refusal.{refusalOf}
+use Rattle.authenticator.specs.Response.{Drawn, reasonOf, mayRetry, afterReason, responseDrawn}
+use Rattle.authenticator.specs.Change.{newHash, drawnBy, changeDrawn}
+use Rattle.authenticator.specs.Step.{drawnIn, drawn, Outcome, judgedAs}
+use Rattle.authenticator.specs.Steps.{Lent, stepOn, nextAfter, refusalAt, judged}
+use Rattle.authenticator.specs.declared.Account.{Account}
+use Rattle.authenticator.specs.declared.Lookup.{Lookup}
+use Rattle.authenticator.specs.declared.Conversation.{Conversation}
+use Rattle.authenticator.specs.declared.Phase.{Phase}
+use Rattle.authenticator.specs.declared.Phase.the-variants.{Response, Change, Ended}
+use Rattle.authenticator.proofs.Steps.{judged-step, number-step, live-and-roomy, refused-same, judged-one, judged-none}
+
+abbrev left : Phase → ℕ → ℕ
+left Response r = r + 2
+left Change r = 1
+left Ended r = 0
+
+abbrev pub leftIn : Conversation → ℕ
+leftIn c = left (c .phase) (c .retries)
+
+pub left-first : (o : Opening) → leftIn (firstConversation o) ≡ retriesOf (o .retries) + 2
+left-first o = refl
+
+-- a retry, a kept record, the end
+after-less : (c : Conversation) (a : Account) (e : ℕ) → c .phase ≡ Response → leftIn (afterReason c a e) < c .retries + 2
+after-less c a e ph = which (eqb e 691) (ltb 0 (c .retries)) (eqb e 648) refl
+  where
+    which : (t u x : Bool) → ltb 0 (c .retries) ≡ u → leftIn (cond (t && u) (retried c) (cond x (keeping c a) (ended c))) < c .retries + 2
+    which true true x h = subst (λ (y : Phase). left y (c .retries - 1) < c .retries + 2) (sym ph) (omega (arith, ltb-true 0 (c .retries) h))
+    which true false true h = omega arith
+    which true false false h = omega arith
+    which false u true h = omega arith
+    which false u false h = omega arith
+
+change-less : (c : Conversation) (o : Option (List ℕ)) → leftIn (drawnBy c o .next) < 1
+change-less c none = omega arith
+change-less c (some h) = omega arith
+
+phase-less : (ph : Phase) (c : Conversation) (p : List ℕ) (l : Lookup) → c .phase ≡ ph → isEnded ph ≡ false
+    → leftIn (drawnIn ph c p l .next) < left ph (c .retries)
+unfolding responseDrawn changeDrawn
+phase-less Response c p l e live = after-less c (l .account) (reasonOf c l (responseIn p)) e
+phase-less Change c p l e live = change-less c (newHash c (changeIn p))
+phase-less Ended c p l e live = let z : _≡_ {A = ℕ} 0 1 = cc in absurd (omega arith)
+
+drawn-less : (c : Conversation) (p : List ℕ) (l : Lookup) → isEnded (c .phase) ≡ false → leftIn (drawn c p l .next) < leftIn c
+unfolding drawn
+drawn-less c p l live = phase-less (c .phase) c p l refl live
+
+-- for any packet, record and buffer
+pub judged-less : (c : Conversation) (s : Lent) → judged c s + leftIn (nextAfter c s) ≤ leftIn c
+judged-less c s = which (eqb (refusalAt c s) 0) refl
+  where
+    which : (t : Bool) → eqb (refusalAt c s) 0 ≡ t → judged c s + leftIn (nextAfter c s) ≤ leftIn c
+    which true e =
+        let z = eqb-true (refusalAt c s) 0 e in
+        let ok : refusalOf c (s .packet) (s .buffer) ≡ 0 = sym (number-step c (s .packet) (s .account) (s .buffer)) ∙ z in
+        let next = ap (λ (o : Outcome). leftIn (o .answer .next)) (judged-step c (s .packet) (s .account) (s .buffer) ok) in
+        omega (arith, judged-one c s z, next, drawn-less c (s .packet) (s .account) (live-and-roomy c (s .packet) (s .buffer) ok .0))
+    which false e =
+        let n = eqb-false (refusalAt c s) 0 e in
+        omega (arith, judged-none c s n, ap leftIn (refused-same c s n))

@@ -1,0 +1,189 @@
+-- One step: its refusal number, what a refused packet leaves as it was, when a packet is judged, and that it is judged exactly when it draws a
+-- reply.
+-- Assumes nothing.
+use mathlib.Core.Bool.{Bool, true, false, cond, not, _||_}
+use mathlib.Core.List.{List, [], _∷_, _++_}
+use mathlib.Core.Logic.{_≢_}
+use mathlib.Core.Option.{Option, none, some}
+use mathlib.Core.Path.{_≡_, refl, sym, ap, _∙_}
+use Prim.Native.Nat.{ℕ, _+_, _≤_, _<_}
+use native.Mathlib.Omega.{arith}
+use borrow.Author.Tests.{lt-ltb, le-ltb, le-leb, eq-eqb, ne-eqb, eqb-true, eqb-false, ltb-true, ltb-false}
+use lib.Dec.{eqb, ltb, leb}
+use lib.ListN.{length, take, drop}
+use lib.Seq.{take-append-seam}
+use Rattle.message.specs.Message.{textOf}
+use Rattle.message.proofs.Laws.{length-text}
+use Rattle.packets.specs.Frame.{octet, badFrame, headed}
+use Rattle.packets.specs.Response.{responseIn, badResponseSize, badResponseFlag, responseRefusal}
+use Rattle.packets.specs.Change.{changeIn, badChangeSize, badChangeFlags, changeRefusal}
+use Rattle.packets.specs.Reply.{successPacket, failurePacket}
+use Rattle.packets.proofs.Writing.{fits, length-success, length-failure}
+use Rattle.authenticator.specs.Conversation.{awaitedCode, isEnded}
+use Rattle.authenticator.specs.Opening.{badRoom}
+use Rattle.authenticator.specs.Refusal.{badCode, badId, bodyRefusal, refusalOf}
+use Rattle.authenticator.specs.Response.{Drawn, version, mayRetry, reasonOf, responseDrawn}
+use Rattle.authenticator.specs.Change.{newHash, drawnBy, changeDrawn}
+use Rattle.authenticator.specs.Step.{numberOf, drawnIn, drawn, Outcome, judgedAs, refusedAs, step}
+use Rattle.authenticator.specs.Steps.{Lent, stepOn, nextAfter, refusalAt, Refused, replyOf, judged}
+use Rattle.authenticator.specs.declared.Lookup.{Lookup}
+use Rattle.authenticator.specs.declared.Conversation.{Conversation}
+use Rattle.authenticator.specs.declared.Phase.{Phase}
+use Rattle.authenticator.specs.declared.Phase.the-variants.{Response, Change, Ended}
+
+-- ---- judged or refused
+
+module _ (c : Conversation) (p : List ℕ) (l : Lookup) (b : List ℕ) where
+  pub judged-step : refusalOf c p b ≡ 0 → step c p l b ≡ judgedAs (drawn c p l) b
+  unfolding step
+  judged-step e = rw e
+
+  pub refused-step : refusalOf c p b ≢ 0 → step c p l b ≡ refusedAs (refusalOf c p b) c b
+  unfolding step
+  refused-step n = rw (ne-eqb (refusalOf c p b) 0 n)
+
+  pub number-step : numberOf (step c p l b .answer .kind) ≡ refusalOf c p b
+  number-step = which (eqb (refusalOf c p b) 0) refl
+    where
+      which : (t : Bool) → eqb (refusalOf c p b) 0 ≡ t → numberOf (step c p l b .answer .kind) ≡ refusalOf c p b
+      which true e =
+          let z = eqb-true (refusalOf c p b) 0 e in
+          ap (λ (o : Outcome). numberOf (o .answer .kind)) (judged-step z) ∙ sym z
+      which false e = ap (λ (o : Outcome). numberOf (o .answer .kind)) (refused-step (eqb-false (refusalOf c p b) 0 e))
+
+-- a refused step leaves the conversation and the buffer as they were, writes nothing and hands out no record
+pub refused-whole : (c : Conversation) (s : Lent) → Refused c s → stepOn c s ≡ refusedAs (refusalAt c s) c (s .buffer)
+refused-whole c s h =
+    let n = number-step c (s .packet) (s .account) (s .buffer) in
+    refused-step c (s .packet) (s .account) (s .buffer) (λ e. h (n ∙ e)) ∙ ap (λ (k : ℕ). refusedAs k c (s .buffer)) (sym n)
+
+pub refused-same : (c : Conversation) (s : Lent) → Refused c s → nextAfter c s ≡ c
+refused-same c s h = ap (λ (o : Outcome). o .answer .next) (refused-whole c s h)
+
+-- ---- the checks
+
+-- what a packet and a buffer need
+pub record Passes (c : Conversation) (p b : List ℕ) : Type 0 where
+  pub live : isEnded (c .phase) ≡ false
+  pub room : 17 ≤ length b
+  pub frame : badFrame p ≡ false
+  pub code : octet 0 p ≡ awaitedCode (c .phase)
+  pub id : octet 1 p ≡ c .id
+  pub body : bodyRefusal (c .phase) p ≡ 0
+
+-- five tests and the body's
+pass : (t₁ t₂ t₃ t₄ t₅ : Bool) (n : ℕ) → t₁ ≡ false → t₂ ≡ false → t₃ ≡ false → t₄ ≡ false → t₅ ≡ false → n ≡ 0
+    → _≡_ {A = ℕ} (cond t₁ 1 (cond t₂ 2 (cond t₃ 3 (cond t₄ 4 (cond t₅ 5 n))))) 0
+pass t₁ t₂ t₃ t₄ t₅ n h₁ h₂ h₃ h₄ h₅ e = rw (h₁, h₂, h₃, h₄, h₅, e)
+
+pub passes : (c : Conversation) (p b : List ℕ) → Passes c p b → refusalOf c p b ≡ 0
+unfolding refusalOf
+passes c p b h =
+    pass (isEnded (c .phase)) (badRoom b) (badFrame p) (badCode (c .phase) p) (badId (c .id) p) (bodyRefusal (c .phase) p) (h .live)
+    (le-ltb (length b) 17 (h .room)) (h .frame) (ap not (eq-eqb (octet 0 p) (awaitedCode (c .phase)) (h .code)))
+    (ap not (eq-eqb (octet 1 p) (c .id) (h .id))) (h .body)
+
+-- a live conversation: a number that is not 2 says that the buffer has room
+pub roomy : (c : Conversation) (s : Lent) → isEnded (c .phase) ≡ false → refusalAt c s ≢ 2 → 17 ≤ length (s .buffer)
+unfolding refusalOf
+roomy c s live two =
+    ltb-false (length (s .buffer)) 17
+    (which (isEnded (c .phase)) (badRoom (s .buffer)) _ live (λ e. two (number-step c (s .packet) (s .account) (s .buffer) ∙ e)))
+  where
+    which : (t₁ t₂ : Bool) (n : ℕ) → t₁ ≡ false → cond t₁ 1 (cond t₂ 2 n) ≢ 2 → t₂ ≡ false
+    which t₁ true n e h = absurd (h (rw e))
+    which t₁ false n e h = refl
+
+-- ---- the numbers that a step can have
+
+six-or-seven : (t u : Bool) → (cond t 6 (cond u 7 0) ≤ 7) × _≢_ {A = ℕ} (cond t 6 (cond u 7 0)) 2
+six-or-seven true u = (omega arith, λ e. omega arith)
+six-or-seven false true = (omega arith, λ e. omega arith)
+six-or-seven false false = (omega arith, λ e. omega arith)
+
+body-number : (ph : Phase) (p : List ℕ) → (bodyRefusal ph p ≤ 7) × (bodyRefusal ph p ≢ 2)
+unfolding responseRefusal changeRefusal
+body-number Response p = six-or-seven (badResponseSize p) (badResponseFlag p)
+body-number Change p = six-or-seven (badChangeSize p) (badChangeFlags p)
+body-number Ended p = (omega arith, λ e. omega arith)
+
+-- 1 to 7 or none, and 2 for a buffer with no room alone
+pub number-range : (c : Conversation) (p b : List ℕ) → (refusalOf c p b ≤ 7) × (refusalOf c p b ≡ 2 → length b < 17)
+unfolding refusalOf
+number-range c p b =
+    which (isEnded (c .phase)) (badRoom b) (badFrame p) (badCode (c .phase) p) (badId (c .id) p) (bodyRefusal (c .phase) p) (body-number (c .phase) p) refl
+  where
+    which : (t₁ t₂ t₃ t₄ t₅ : Bool) (n : ℕ) → (n ≤ 7) × (n ≢ 2) → badRoom b ≡ t₂
+        → (cond t₁ 1 (cond t₂ 2 (cond t₃ 3 (cond t₄ 4 (cond t₅ 5 n)))) ≤ 7) × (_≡_ {A = ℕ} (cond t₁ 1 (cond t₂ 2 (cond t₃ 3 (cond t₄ 4 (cond t₅ 5 n))))) 2 → length b < 17)
+    which true t₂ t₃ t₄ t₅ n h r = (omega arith, λ e. absurd (omega arith))
+    which false true t₃ t₄ t₅ n h r = (omega arith, λ e. ltb-true (length b) 17 r)
+    which false false true t₄ t₅ n h r = (omega arith, λ e. absurd (omega arith))
+    which false false false true t₅ n h r = (omega arith, λ e. absurd (omega arith))
+    which false false false false true n h r = (omega arith, λ e. absurd (omega arith))
+    which false false false false false n h r = (h .0, λ e. absurd (h .1 e))
+
+-- a judged packet met a live conversation and a buffer with room
+pub live-and-roomy : (c : Conversation) (p b : List ℕ) → refusalOf c p b ≡ 0 → (isEnded (c .phase) ≡ false) × (17 ≤ length b)
+unfolding refusalOf
+live-and-roomy c p b e = which (isEnded (c .phase)) (badRoom b) _ refl refl e
+  where
+    which : (t₁ t₂ : Bool) (n : ℕ) → isEnded (c .phase) ≡ t₁ → badRoom b ≡ t₂ → cond t₁ 1 (cond t₂ 2 n) ≡ 0 → (isEnded (c .phase) ≡ false) × (17 ≤ length b)
+    which true t₂ n p q z = absurd (omega arith)
+    which false true n p q z = absurd (omega arith)
+    which false false n p q z = (p, ltb-false (length b) 17 q)
+
+-- ---- the reply
+
+-- a reply has some octets, and 17 are enough
+abbrev pub Fits : List ℕ → Type 0
+Fits reply = (0 < length reply) × (length reply ≤ 17)
+
+pub success-fits : (id : ℕ) → Fits (successPacket id)
+success-fits id = let n = length-success id in (omega arith, omega arith)
+
+pub failure-fits : (id e r v : ℕ) → Fits (failurePacket id (textOf e r v))
+failure-fits id e r v = let n = length-failure id (textOf e r v) in let m = length-text e r v in (omega arith, omega arith)
+
+response-fits : (t : Bool) (id e r : ℕ) → Fits (cond t (successPacket id) (failurePacket id (textOf e r version)))
+response-fits true id e r = success-fits id
+response-fits false id e r = failure-fits id e r version
+
+change-fits : (c : Conversation) (o : Option (List ℕ)) → Fits (drawnBy c o .reply)
+change-fits c none = failure-fits (c .id) 709 0 version
+change-fits c (some h) = success-fits (c .id)
+
+phase-fits : (ph : Phase) (c : Conversation) (p : List ℕ) (l : Lookup) → isEnded ph ≡ false → Fits (drawnIn ph c p l .reply)
+unfolding responseDrawn changeDrawn
+phase-fits Response c p l e = response-fits (eqb (reasonOf c l (responseIn p)) 0) (c .id) (reasonOf c l (responseIn p)) (cond (mayRetry c (reasonOf c l (responseIn p))) 1 0)
+phase-fits Change c p l e = change-fits c (newHash c (changeIn p))
+phase-fits Ended c p l e = let z : _≡_ {A = ℕ} 0 1 = cc in absurd (omega arith)
+
+pub drawn-fits : (c : Conversation) (p : List ℕ) (l : Lookup) → isEnded (c .phase) ≡ false → Fits (drawn c p l .reply)
+unfolding drawn
+drawn-fits c p l live = phase-fits (c .phase) c p l live
+
+-- a reader of what was written takes the packet
+pub taken : (packet b : List ℕ) → length packet ≤ length b → take (length packet) (headed packet b) ≡ packet
+taken packet b h = ap (take (length packet)) (fits packet b h .1) ∙ take-append-seam packet (drop (length packet) b)
+
+pub reply-of : (d : Drawn) (b : List ℕ) → length (d .reply) ≤ length b → replyOf (judgedAs d b) ≡ d .reply
+reply-of d b h = taken (d .reply) b h
+
+-- "a packet is judged exactly when it draws a reply": 1 where the step is not refused, and 0 where it is
+module _ (c : Conversation) (s : Lent) where
+  pub judged-one : refusalAt c s ≡ 0 → judged c s ≡ 1
+  judged-one e =
+      let ok : refusalOf c (s .packet) (s .buffer) ≡ 0 = sym (number-step c (s .packet) (s .account) (s .buffer)) ∙ e in
+      let live = live-and-roomy c (s .packet) (s .buffer) ok .0 in
+      ap (λ (o : Outcome). cond {A = ℕ} (ltb 0 (o .answer .written)) 1 0) (judged-step c (s .packet) (s .account) (s .buffer) ok)
+      ∙ ap (λ (t : Bool). cond {A = ℕ} t 1 0) (lt-ltb 0 _ (drawn-fits c (s .packet) (s .account) live .0))
+
+  pub judged-none : Refused c s → judged c s ≡ 0
+  judged-none h = ap (λ (o : Outcome). cond {A = ℕ} (ltb 0 (o .answer .written)) 1 0) (refused-whole c s h)
+
+  pub judged-exactly : judged c s ≡ cond (eqb (refusalAt c s) 0) 1 0
+  judged-exactly = which (eqb (refusalAt c s) 0) refl
+    where
+      which : (t : Bool) → eqb (refusalAt c s) 0 ≡ t → judged c s ≡ cond t 1 0
+      which true e = judged-one (eqb-true (refusalAt c s) 0 e)
+      which false e = judged-none (eqb-false (refusalAt c s) 0 e)

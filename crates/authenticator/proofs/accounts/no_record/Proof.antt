@@ -1,0 +1,11 @@
+-- `authenticator::accounts::no_record` meets its contract.
+-- Assumes nothing.
+use borrow.Author.Needs.{needs}
+use Rattle.authenticator.proofs.accounts.no_record.Statement.{statement}
+use Rattle.authenticator.proofs.accounts.no_record.Tie as tie
+
+returns : tie.Need-returns
+returns c = cc
+
+pub no-record-spec : {M : Type 1} → statement M
+no-record-spec = tie.close (tie.spec (λ c κs. search needs) returns)

@@ -1,0 +1,46 @@
+-- The conversation and its successors (document 01, "How the box judges").
+-- Assumes nothing: these are definitions.
+use mathlib.Core.Bool.{Bool, true, false}
+use mathlib.Core.List.{List}
+use Prim.Native.Nat.{ℕ, _-_}
+use lib.ListN.{replicate}
+use Rattle.packets.specs.Next.{nextId, grown}
+use Rattle.authenticator.specs.Account.{blank}
+use Rattle.authenticator.specs.declared.Account.{Account}
+use Rattle.authenticator.specs.declared.Terms.{Terms}
+use Rattle.authenticator.specs.declared.Conversation.{Conversation}
+use Rattle.authenticator.specs.declared.Phase.{Phase}
+use Rattle.authenticator.specs.declared.Phase.the-variants.{Response, Change, Ended}
+
+-- the code of the packet that each phase awaits; 0 is none
+abbrev pub awaitedCode : Phase → ℕ
+awaitedCode Response = 2
+awaitedCode Change = 6
+awaitedCode Ended = 0
+
+abbrev pub isEnded : Phase → Bool
+isEnded Response = false
+isEnded Change = false
+isEnded Ended = true
+
+-- every successor keeps the terms
+abbrev pub successor : Conversation → ℕ → List ℕ → ℕ → Phase → Account → Conversation
+successor c id challenge retries phase kept =
+    record { terms = c .terms; id = id; challenge = challenge; retries = retries; phase = phase; kept = kept }
+
+-- the end: the kept record is dropped
+abbrev pub ended : Conversation → Conversation
+ended c = successor c (c .id) (c .challenge) (c .retries) Ended blank
+
+-- another Response is awaited
+abbrev pub retried : Conversation → Conversation
+retried c = successor c (nextId (c .id)) (grown (c .challenge)) (c .retries - 1) (c .phase) (c .kept)
+
+-- a change is awaited, and the record is kept; the challenge stays
+abbrev pub keeping : Conversation → Account → Conversation
+keeping c a = successor c (nextId (c .id)) (c .challenge) (c .retries) Change a
+
+-- what a refused opening hands out
+abbrev pub closed : Conversation
+closed =
+    record { terms = record { lm = false }; id = 0; challenge = replicate 8 0; retries = 0; phase = Ended; kept = blank }

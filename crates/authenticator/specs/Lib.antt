@@ -1,0 +1,9 @@
+pub mod Account
+pub mod Conversation
+pub mod Opening
+pub mod Refusal
+pub mod Response
+pub mod Change
+pub mod Step
+pub mod Steps
+pub mod Code

@@ -1,0 +1,37 @@
+-- The refusals of a step, one test each, and their order (document 01, "Refusal numbers").
+-- Assumes nothing: these are definitions.
+use mathlib.Core.Bool.{Bool, cond, not}
+use mathlib.Core.List.{List}
+use Prim.Native.Nat.{ℕ}
+use lib.Dec.{eqb}
+use Rattle.packets.specs.Frame.{octet, badFrame}
+use Rattle.packets.specs.Response.{responseRefusal}
+use Rattle.packets.specs.Change.{changeRefusal}
+use Rattle.authenticator.specs.Conversation.{awaitedCode, isEnded}
+use Rattle.authenticator.specs.Opening.{badRoom}
+use Rattle.authenticator.specs.declared.Conversation.{Conversation}
+use Rattle.authenticator.specs.declared.Phase.{Phase}
+use Rattle.authenticator.specs.declared.Phase.the-variants.{Response, Change, Ended}
+
+-- refusal 4 and refusal 5
+abbrev pub badCode : Phase → List ℕ → Bool
+badCode phase p = not (eqb (octet 0 p) (awaitedCode phase))
+
+abbrev pub badId : ℕ → List ℕ → Bool
+badId id p = not (eqb (octet 1 p) id)
+
+-- 6, then 7, by the packet that is awaited
+abbrev pub bodyRefusal : Phase → List ℕ → ℕ
+bodyRefusal Response p = responseRefusal p
+bodyRefusal Change p = changeRefusal p
+bodyRefusal Ended p = 0
+
+-- 1 to 7 in that order; 0: the packet is judged
+unfoldable pub refusalOf : Conversation → List ℕ → List ℕ → ℕ
+refusalOf c p buffer =
+    cond (isEnded (c .phase)) 1
+    (cond (badRoom buffer) 2
+    (cond (badFrame p) 3
+    (cond (badCode (c .phase) p) 4
+    (cond (badId (c .id) p) 5
+    (bodyRefusal (c .phase) p)))))

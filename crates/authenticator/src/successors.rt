@@ -1,0 +1,98 @@
+// The conversations that a step can lead to. Every successor is made in one place and keeps the terms.
+ghost use mathlib.Core.Path.{_≡_};
+ghost use Prim.Native.Nat.{_-_};
+ghost use Rattle.authenticator.specs.Conversation.{successor, ended, retried, keeping, closed};
+use crate::Account;
+use crate::Conversation;
+use crate::Phase;
+use crate::Terms;
+use crate::accounts::blank_account;
+
+// 0 stays 0.
+fn one_less(n: u8) -> u8
+    ensures { λ r. ⌜ r ≡ n - 1 ⌝ }
+{
+    if n == 0 { 0 } else { n - 1 }
+}
+
+impl Conversation {
+    fn successor(
+        self,
+        id: u8,
+        challenge: [u8; 8],
+        retries: u8,
+        phase: Phase,
+        kept: Account,
+    ) -> Conversation
+        ensures { λ r. ⌜ r ≡ successor self id challenge retries phase kept ⌝ }
+    {
+        let terms = self.terms;
+        Conversation {
+            terms,
+            id,
+            challenge,
+            retries,
+            phase,
+            kept,
+        }
+    }
+
+    // The end.
+    pub fn to_end(self) -> Conversation
+        ensures { λ r. ⌜ r ≡ ended self ⌝ }
+    {
+        let challenge = self.challenge;
+        self.successor(
+            self.id,
+            challenge,
+            self.retries,
+            Phase::Ended,
+            blank_account(),
+        )
+    }
+
+    // Another Response is awaited; with no retries left they stay at 0.
+    pub fn to_retry(self) -> Conversation
+        ensures { λ r. ⌜ r ≡ retried self ⌝ }
+    {
+        let challenge = self.challenge;
+        let phase = self.phase;
+        let kept = self.kept;
+        self.successor(
+            packets::next_id(self.id),
+            packets::grown_challenge(challenge),
+            one_less(self.retries),
+            phase,
+            kept,
+        )
+    }
+
+    // A change is awaited, and the record is kept.
+    pub fn to_change(self, account: Account) -> Conversation
+        ensures { λ r. ⌜ r ≡ keeping self account ⌝ }
+    {
+        let challenge = self.challenge;
+        self.successor(
+            packets::next_id(self.id),
+            challenge,
+            self.retries,
+            Phase::Change,
+            account,
+        )
+    }
+}
+
+// What a refused opening hands out.
+pub fn closed_conversation() -> Conversation
+    ensures { λ r. ⌜ r ≡ closed ⌝ }
+{
+    let kept = blank_account();
+    Conversation {
+        terms: Terms { lm: false },
+        id: 0,
+        challenge: [0; 8],
+        retries: 0,
+        phase: Phase::Ended,
+        kept,
+    }
+}

@@ -1,0 +1,138 @@
+-- What is written reads back field for field, with any padding t behind it.
+-- Assumes nothing.
+use mathlib.Core.Path.{_≡_, refl, sym, ap, ap₂, _∙_}
+use mathlib.Core.Bool.{false}
+use mathlib.Core.List.{List, [], _∷_, _++_, append-assoc}
+use Prim.Native.Nat.{ℕ, _+_, _-_, _≤_, _<_}
+use native.Mathlib.Nat.{mod-eq-of-lt}
+use native.Mathlib.Omega.{arith}
+use borrow.Author.Tests.{le-ltb, eq-eqb}
+use lib.ListN.{length, take, drop, getD}
+use lib.Seq.{take-at, getD-drop}
+use Rattle.octets.specs.Parts.{fixed}
+use Rattle.octets.specs.Numbers.{fromBe, toBe}
+use Rattle.octets.proofs.Parts.{fixed-same}
+use Rattle.octets.proofs.Numbers.{fromBe-toBe}
+use Rattle.message.specs.Message.{readMessage, failedWith, textOf, noC}
+use Rattle.message.proofs.Laws.{read-text, length-text}
+use Rattle.packets.specs.Frame.{octet, lengthOf, framed, badFrame}
+use Rattle.packets.specs.Response.{responsePacket, responseIn, nameIn, badResponseSize, responseRefusal}
+use Rattle.packets.specs.Change.{changePacket, changeIn, badChangeSize, changeRefusal}
+use Rattle.packets.specs.Reply.{challengePacket, successPacket, failurePacket, readChallenge, readReply, succeeded}
+use Rattle.packets.specs.declared.Response.{Response}
+use Rattle.packets.specs.declared.Change.{Change}
+use Rattle.packets.proofs.Fields.{response-same, asked-same, change-same}
+use Rattle.packets.proofs.Framing.{frame-good, field}
+use Rattle.packets.proofs.Writing.{Sized, length-answers, length-fields}
+
+-- a field of fixed length
+fixed-part : (k : ℕ) (l x : List ℕ) → l ≡ x → length x ≡ k → fixed k l ≡ x
+fixed-part k l x e h = ap (fixed k) e ∙ fixed-same k x h
+
+-- the octet with which the rest begins
+octet-at : (a : ℕ) (p : List ℕ) (x : ℕ) (rest : List ℕ) → drop a p ≡ x ∷ rest → octet a p ≡ x
+octet-at a p x rest e = ap (λ (i : ℕ). getD p i 0) (omega arith) ∙ sym (getD-drop a p 0 0) ∙ ap (λ (l : List ℕ). getD l 0 0) e
+
+-- ---- Response
+
+-- what the box finds in p: the identifier i, the fields f and the name n
+pub record ResponseBack (i : ℕ) (f : Response) (n p : List ℕ) : Type 0 where
+  pub frame : badFrame p ≡ false
+  pub code : octet 0 p ≡ 2
+  pub id : octet 1 p ≡ i
+  pub fields : responseIn p ≡ f
+  pub name : nameIn p ≡ n
+  pub size : badResponseSize p ≡ false
+  pub fit : f .flag < 2 → responseRefusal p ≡ 0
+
+pub response-back : (id : ℕ) (f : Response) (name t : List ℕ) → length (f .lm) ≡ 24 → length (f .nt) ≡ 24 → 1 ≤ length name → length name ≤ 256
+    → ResponseBack id f name (responsePacket id f name ++ t)
+unfolding responsePacket responseRefusal
+response-back id f name t lm nt least most =
+    let p = responsePacket id f name ++ t in
+    let d : List ℕ = 49 ∷ (f .lm ++ (f .nt ++ (f .flag ∷ name))) in
+    let long = length-answers f name lm nt in
+    let g = frame-good 2 id d t (omega arith) in
+    let all : lengthOf p ≡ 54 + length name = g .long ∙ omega arith in
+    let named : lengthOf p - 54 ≡ length name = omega (arith, all) in
+    let start : drop 5 p ≡ f .lm ++ (f .nt ++ (f .flag ∷ (name ++ t))) = simp append-assoc in
+    let l = field p 5 24 (f .lm) (f .nt ++ (f .flag ∷ (name ++ t))) start lm in
+    let n = field p 29 24 (f .nt) (f .flag ∷ (name ++ t)) (l .1) nt in
+    let k = field p 53 1 (f .flag ∷ []) (name ++ t) (n .1) refl in
+    let flag : octet 53 p ≡ f .flag = octet-at 53 p (f .flag) (name ++ t) (n .1) in
+    let size : badResponseSize p ≡ false = simp (le-ltb (lengthOf p) 55 (omega arith), le-ltb 310 (lengthOf p) (omega arith)) in
+    record {
+      frame = g .good;
+      code = refl;
+      id = refl;
+      fields = response-same (fixed-part 24 _ (f .lm) (l .0) lm) (fixed-part 24 _ (f .nt) (n .0) nt) flag;
+      name = ap₂ (λ (i : ℕ) (x : List ℕ). take i x) named (k .1) ∙ take-at name t (length name) refl;
+      size = size;
+      fit = λ h. simp (size, le-ltb 1 (octet 53 p) (omega arith));
+    }
+
+-- ---- Change Password
+
+-- the same for the fields f of a change
+pub record ChangeBack (i : ℕ) (f : Change) (p : List ℕ) : Type 0 where
+  pub frame : badFrame p ≡ false
+  pub code : octet 0 p ≡ 6
+  pub id : octet 1 p ≡ i
+  pub fields : changeIn p ≡ f
+  pub size : badChangeSize p ≡ false
+  pub fit : f .flags < 4 → changeRefusal p ≡ 0
+
+pub change-back : (id : ℕ) (f : Change) (t : List ℕ) → Sized f → f .flags < 65536 → ChangeBack id f (changePacket id f ++ t)
+unfolding changePacket changeRefusal
+change-back id f t s small =
+    let p = changePacket id f ++ t in
+    let g = frame-good 6 id (f .block ++ (f .proof ++ (f .lmblock ++ (f .lmproof ++ (f .lm ++ (f .nt ++ toBe 2 (f .flags))))))) t (omega (arith, length-fields f s)) in
+    let all : lengthOf p ≡ 1118 = g .long ∙ omega (arith, length-fields f s) in
+    let start : drop 4 p ≡ f .block ++ (f .proof ++ (f .lmblock ++ (f .lmproof ++ (f .lm ++ (f .nt ++ (toBe 2 (f .flags) ++ t)))))) = simp append-assoc in
+    let x₁ = field p 4 516 (f .block) _ start (s .block) in
+    let x₂ = field p 520 16 (f .proof) _ (x₁ .1) (s .proof) in
+    let x₃ = field p 536 516 (f .lmblock) _ (x₂ .1) (s .lmblock) in
+    let x₄ = field p 1052 16 (f .lmproof) _ (x₃ .1) (s .lmproof) in
+    let x₅ = field p 1068 24 (f .lm) _ (x₄ .1) (s .lm) in
+    let x₆ = field p 1092 24 (f .nt) _ (x₅ .1) (s .nt) in
+    let x₇ = field p 1116 1 (_ ∷ []) _ (x₆ .1) refl in
+    let flags : changeIn p .flags ≡ f .flags =
+    ap₂ (λ (a b : ℕ). fromBe (a ∷ b ∷ [])) (octet-at 1116 p _ _ (x₆ .1)) (octet-at 1117 p _ _ (x₇ .1)) ∙ fromBe-toBe 2 (f .flags) ∙ mod-eq-of-lt small in
+    let size : badChangeSize p ≡ false = simp (eq-eqb (lengthOf p) 1118 all) in
+    record {
+      frame = g .good;
+      code = refl;
+      id = refl;
+      fields =
+          change-same
+          (fixed-part 516 _ (f .block) (x₁ .0) (s .block)) (fixed-part 16 _ (f .proof) (x₂ .0) (s .proof))
+          (fixed-part 516 _ (f .lmblock) (x₃ .0) (s .lmblock)) (fixed-part 16 _ (f .lmproof) (x₄ .0) (s .lmproof))
+          (fixed-part 24 _ (f .lm) (x₅ .0) (s .lm)) (fixed-part 24 _ (f .nt) (x₆ .0) (s .nt)) flags;
+      size = size;
+      fit = λ h. simp (size, le-ltb 3 (changeIn p .flags) (omega arith));
+    }
+
+-- ---- what the peer reads
+
+pub challenge-back : (id : ℕ) (c t : List ℕ) → length c ≡ 8 → readChallenge (challengePacket id c ++ t) ≡ record { refusal = 0; id = id; challenge = c }
+unfolding challengePacket readChallenge
+challenge-back id c t e =
+    let g = frame-good 1 id (length c ∷ c) t (omega arith) in
+    let p = framed 1 id (length c ∷ c) ++ t in
+    let size : lengthOf p ≡ 13 = g .long ∙ omega arith in
+    simp (g .good, le-ltb (lengthOf p) 13 (omega arith), eq-eqb (length c) 8 e) (asked-same refl refl (fixed-part 8 _ c (take-at c t 8 e) e))
+
+pub success-back : (id : ℕ) (t : List ℕ) → readReply id (successPacket id ++ t) ≡ succeeded
+unfolding successPacket readReply
+success-back id t = simp ((frame-good 3 id [] t (omega arith)) .good, eq-eqb id id refl)
+
+pub failure-back : (id : ℕ) (m t : List ℕ) → length m < 65532 → readReply id (failurePacket id m ++ t) ≡ readMessage m
+unfolding failurePacket readReply
+failure-back id m t h =
+    let g = frame-good 4 id m t (omega arith) in
+    simp (g .good, eq-eqb id id refl) (ap readMessage (g .body))
+
+-- the box's own message
+pub failure-read : (id e r v : ℕ) (t : List ℕ) → e < 1000 → r < 2 → v < 10
+    → readReply id (failurePacket id (textOf e r v) ++ t) ≡ failedWith e r v noC
+failure-read id e r v t he hr hv = failure-back id (textOf e r v) t (omega (arith, length-text e r v)) ∙ read-text e r v he hr hv

@@ -1,0 +1,111 @@
+-- What is read is what stands at those octets, and written again it is the packet up to its Length.
+-- Assumes nothing.
+use mathlib.Core.Path.{_≡_, refl, sym, ap, ap₂, _∙_}
+use mathlib.Core.Bool.{Bool, true, false, cond, not, _||_}
+use mathlib.Core.List.{List, [], _∷_, _++_}
+use Prim.Native.Nat.{ℕ, suc, _+_, _-_, _≤_}
+use native.Mathlib.Omega.{arith}
+use borrow.Author.Tests.{ltb-false, eqb-true}
+use lib.Dec.{eqb, ltb}
+use lib.ListN.{length, take}
+use Rattle.octets.specs.Parts.{part, fixed}
+use Rattle.octets.proofs.Parts.{fixed-part, part-join}
+use Rattle.octets.proofs.Numbers.{toBe-fromBe, Octets}
+use Rattle.octets.proofs.Listed.{part-written}
+use Rattle.packets.specs.Frame.{octet, lengthOf, framed, badFrame}
+use Rattle.packets.specs.Response.{responsePacket, responseIn, nameIn, responseRefusal}
+use Rattle.packets.specs.Change.{changePacket, changeIn, changeRefusal}
+use Rattle.packets.proofs.Framing.{frame-bounds, frame-back, octet-join, two}
+
+-- ---- Response
+
+pub record ResponseFit (p : List ℕ) : Type 0 where
+  pub least : 55 ≤ lengthOf p
+  pub most : lengthOf p ≤ 310
+  pub size : octet 4 p ≡ 49
+  pub flag : octet 53 p ≤ 1
+
+pub response-fit : (p : List ℕ) → responseRefusal p ≡ 0 → ResponseFit p
+unfolding responseRefusal
+response-fit p e = by (ltb (lengthOf p) 55) (ltb 310 (lengthOf p)) (eqb (octet 4 p) 49) (ltb 1 (octet 53 p)) refl refl refl refl e
+  where
+    by : (a b c d : Bool) → ltb (lengthOf p) 55 ≡ a → ltb 310 (lengthOf p) ≡ b → eqb (octet 4 p) 49 ≡ c → ltb 1 (octet 53 p) ≡ d
+        → _≡_ {A = ℕ} (cond (a || (b || not c)) 6 (cond d 7 0)) 0 → ResponseFit p
+    by true b c d e f g h k = absurd (omega (arith, k))
+    by false true c d e f g h k = absurd (omega (arith, k))
+    by false false false d e f g h k = absurd (omega (arith, k))
+    by false false true true e f g h k = absurd (omega (arith, k))
+    by false false true false e f g h k =
+        record { least = ltb-false (lengthOf p) 55 e; most = ltb-false 310 (lengthOf p) f; size = eqb-true (octet 4 p) 49 g; flag = ltb-false 1 (octet 53 p) h }
+
+module _ (p : List ℕ) (good : badFrame p ≡ false) (fit : responseRefusal p ≡ 0) where
+  pub response-stands : (responseIn p .lm ≡ part 5 24 p) × (responseIn p .nt ≡ part 29 24 p)
+  response-stands =
+      let b = frame-bounds p good in
+      let f = response-fit p fit in
+      (fixed-part 5 24 p (omega arith), fixed-part 29 24 p (omega arith))
+
+  pub response-again : octet 0 p ≡ 2 → Octets p → responsePacket (octet 1 p) (responseIn p) (nameIn p) ≡ take (lengthOf p) p
+  unfolding responsePacket
+  response-again code o =
+      let b = frame-bounds p good in
+      let f = response-fit p fit in
+      let k = lengthOf p - 54 in
+      let fields = ap₂ (λ (x y : List ℕ). framed 2 (octet 1 p) (49 ∷ (x ++ (y ++ (octet 53 p ∷ nameIn p))))) (response-stands .0) (response-stands .1) in
+      let name = octet-join 53 k p (omega arith) in
+      let nt = ap (λ (x : List ℕ). part 29 24 p ++ x) name ∙ part-join 29 24 (suc k) p in
+      let lm = ap (λ (x : List ℕ). part 5 24 p ++ x) nt ∙ part-join 5 24 (24 + suc k) p in
+      let size = ap₂ (λ (n : ℕ) (x : List ℕ). n ∷ x) (sym (f .size)) lm ∙ octet-join 4 (24 + (24 + suc k)) p (omega arith) in
+      let count : suc (24 + (24 + suc k)) ≡ lengthOf p - 4 = omega arith in
+      fields ∙ ap₂ (λ (n : ℕ) (x : List ℕ). framed n (octet 1 p) x) (sym code) (size ∙ ap (λ (n : ℕ). part 4 n p) count) ∙ frame-back p good o
+
+-- ---- Change Password
+
+pub change-fit : (p : List ℕ) → changeRefusal p ≡ 0 → (lengthOf p ≡ 1118) × (changeIn p .flags ≤ 3)
+unfolding changeRefusal
+change-fit p e = by (eqb (lengthOf p) 1118) (ltb 3 (changeIn p .flags)) refl refl e
+  where
+    by : (a b : Bool) → eqb (lengthOf p) 1118 ≡ a → ltb 3 (changeIn p .flags) ≡ b → _≡_ {A = ℕ} (cond (not a) 6 (cond b 7 0)) 0
+        → (lengthOf p ≡ 1118) × (changeIn p .flags ≤ 3)
+    by false b e f g = absurd (omega (arith, g))
+    by true true e f g = absurd (omega (arith, g))
+    by true false e f g = (eqb-true (lengthOf p) 1118 e, ltb-false 3 (changeIn p .flags) f)
+
+pub record ChangeStands (p : List ℕ) : Type 0 where
+  pub block : changeIn p .block ≡ part 4 516 p
+  pub proof : changeIn p .proof ≡ part 520 16 p
+  pub lmblock : changeIn p .lmblock ≡ part 536 516 p
+  pub lmproof : changeIn p .lmproof ≡ part 1052 16 p
+  pub lm : changeIn p .lm ≡ part 1068 24 p
+  pub nt : changeIn p .nt ≡ part 1092 24 p
+
+module _ (p : List ℕ) (good : badFrame p ≡ false) (fit : changeRefusal p ≡ 0) where
+  long : 1118 ≤ length p
+  long = let b = frame-bounds p good in let f = change-fit p fit in omega arith
+
+  pub change-stands : ChangeStands p
+  change-stands =
+      let h = long in
+      record {
+        block = fixed-part 4 516 p (omega arith);
+        proof = fixed-part 520 16 p (omega arith);
+        lmblock = fixed-part 536 516 p (omega arith);
+        lmproof = fixed-part 1052 16 p (omega arith);
+        lm = fixed-part 1068 24 p (omega arith);
+        nt = fixed-part 1092 24 p (omega arith);
+      }
+
+  pub change-again : octet 0 p ≡ 6 → Octets p → changePacket (octet 1 p) (changeIn p) ≡ take (lengthOf p) p
+  unfolding changePacket
+  change-again code o =
+      let h = long in
+      let s = change-stands in
+      let x₇ = toBe-fromBe (octet 1116 p ∷ octet 1117 p ∷ []) (two p o 1116 1117) ∙ sym (part-written 2 1116 p (omega arith)) in
+      let x₆ = ap₂ (λ (x y : List ℕ). x ++ y) (s .nt) x₇ ∙ part-join 1092 24 2 p in
+      let x₅ = ap₂ (λ (x y : List ℕ). x ++ y) (s .lm) x₆ ∙ part-join 1068 24 26 p in
+      let x₄ = ap₂ (λ (x y : List ℕ). x ++ y) (s .lmproof) x₅ ∙ part-join 1052 16 50 p in
+      let x₃ = ap₂ (λ (x y : List ℕ). x ++ y) (s .lmblock) x₄ ∙ part-join 536 516 66 p in
+      let x₂ = ap₂ (λ (x y : List ℕ). x ++ y) (s .proof) x₃ ∙ part-join 520 16 582 p in
+      let x₁ = ap₂ (λ (x y : List ℕ). x ++ y) (s .block) x₂ ∙ part-join 4 516 598 p in
+      let count : 1114 ≡ lengthOf p - 4 = omega (arith, change-fit p fit .0) in
+      ap₂ (λ (n : ℕ) (x : List ℕ). framed n (octet 1 p) x) (sym code) (x₁ ∙ ap (λ (n : ℕ). part 4 n p) count) ∙ frame-back p good o

@@ -1,0 +1,169 @@
+-- What the writers leave: the pieces of a packet, laid one behind the other over the front of the lent buffer, are the packet there. Lengths of
+-- the packets.
+-- Assumes nothing.
+use mathlib.Core.Path.{_≡_, refl, sym, ap, ap₂, _∙_}
+use mathlib.Core.Bool.{Bool, true, false, _||_, false≢true}
+use mathlib.Core.List.{List, [], _∷_, _++_, append-assoc}
+use Prim.Native.Nat.{ℕ, _+_, _≤_, _<_}
+use native.Mathlib.Nat.{zero-add}
+use native.Mathlib.Omega.{arith}
+use borrow.Author.Tests.{le-leb, lt-leb, leb-true, lt-ltb, le-ltb, ltb-false}
+use lib.Dec.{leb, ltb}
+use lib.ListN.{length, take, drop, length-append, length-drop}
+use lib.Seq.{take-append-seam}
+use Rattle.octets.specs.Numbers.{toBe}
+use Rattle.octets.specs.Parts.{over, overAt}
+use Rattle.octets.proofs.Parts.{over-fits, over-join}
+use Rattle.packets.specs.Frame.{framed, headed, headedLength}
+use Rattle.packets.specs.Response.{responsePacket, badName, responseWriteRefusal, responseWritten, responseOut}
+use Rattle.packets.specs.Change.{changePacket, changeWriteRefusal, changeWritten, changeOut}
+use Rattle.packets.specs.Reply.{challengePacket, successPacket, failurePacket}
+use Rattle.packets.specs.declared.Response.{Response}
+use Rattle.packets.specs.declared.Change.{Change}
+
+-- ---- lengths
+
+pub length-framed : (code id : ℕ) (d : List ℕ) → length (framed code id d) ≡ 4 + length d
+length-framed code id d = omega arith
+
+pub length-challenge : (id : ℕ) (c : List ℕ) → length (challengePacket id c) ≡ 5 + length c
+unfolding challengePacket
+length-challenge id c = omega arith
+
+pub length-success : (id : ℕ) → length (successPacket id) ≡ 4
+unfolding successPacket
+length-success id = refl
+
+pub length-failure : (id : ℕ) (m : List ℕ) → length (failurePacket id m) ≡ 4 + length m
+unfolding failurePacket
+length-failure id m = omega arith
+
+-- a Response's data, and a change's
+pub length-answers : (f : Response) (name : List ℕ) → length (f .lm) ≡ 24 → length (f .nt) ≡ 24
+    → length (49 ∷ (f .lm ++ (f .nt ++ (f .flag ∷ name)))) ≡ 50 + length name
+length-answers f name l n = omega (arith, length-append (f .lm) (f .nt ++ (f .flag ∷ name)), length-append (f .nt) (f .flag ∷ name))
+
+pub length-response : (id : ℕ) (f : Response) (name : List ℕ) → length (f .lm) ≡ 24 → length (f .nt) ≡ 24
+    → length (responsePacket id f name) ≡ 54 + length name
+unfolding responsePacket
+length-response id f name l n = omega (arith, length-answers f name l n)
+
+-- the lengths of a change's fields
+pub record Sized (f : Change) : Type 0 where
+  pub block : length (f .block) ≡ 516
+  pub proof : length (f .proof) ≡ 16
+  pub lmblock : length (f .lmblock) ≡ 516
+  pub lmproof : length (f .lmproof) ≡ 16
+  pub lm : length (f .lm) ≡ 24
+  pub nt : length (f .nt) ≡ 24
+
+pub length-fields : (f : Change) → Sized f
+    → length (f .block ++ (f .proof ++ (f .lmblock ++ (f .lmproof ++ (f .lm ++ (f .nt ++ toBe 2 (f .flags))))))) ≡ 1114
+length-fields f s = simp (length-append, s .block, s .proof, s .lmblock, s .lmproof, s .lm, s .nt)
+
+pub length-change : (id : ℕ) (f : Change) → Sized f → length (changePacket id f) ≡ 1118
+unfolding changePacket
+length-change id f s = omega (arith, length-fields f s)
+
+-- ---- a packet at the front of a buffer
+
+pub fits : (packet out : List ℕ) → length packet ≤ length out
+    → (headedLength packet out ≡ length packet) × (headed packet out ≡ packet ++ drop (length packet) out)
+unfolding headed headedLength
+fits packet out h = (simp (le-leb (length packet) (length out) h), simp (le-leb (length packet) (length out) h))
+
+pub too-long : (packet out : List ℕ) {n : ℕ} → length packet ≡ n → length out < n → (0 ≡ headedLength packet out) × (out ≡ headed packet out)
+unfolding headed headedLength
+too-long packet out {n} e h =
+    let f = lt-leb (length packet) (length out) (omega arith) in (simp f, simp f)
+
+-- the buffer keeps its length
+pub length-headed : (packet out : List ℕ) → length (headed packet out) ≡ length out
+unfolding headed
+length-headed packet out = which (leb (length packet) (length out)) refl
+  where
+    which : (b : Bool) → leb (length packet) (length out) ≡ b → length (headed packet out) ≡ length out
+    which true e = simp (e, length-append, length-drop) (omega (arith, leb-true (length packet) (length out) e))
+    which false e = simp e
+
+-- what a reader of the buffer's written part sees
+pub headed-packet : (packet out : List ℕ) → length packet ≤ length out → take (headedLength packet out) (headed packet out) ≡ packet
+headed-packet packet out h =
+    ap₂ take (fits packet out h .0) (fits packet out h .1) ∙ take-append-seam packet (drop (length packet) out)
+
+-- ---- pieces
+
+-- two pieces, laid one behind the other from the place at on
+pub join : (at : ℕ) (xs ys l : List ℕ) {b c : List ℕ} {k : ℕ} → length xs ≡ k → b ≡ overAt at xs l → c ≡ overAt (at + k) ys b
+    → c ≡ overAt at (xs ++ ys) l
+join at xs ys l e f g = g ∙ ap₂ (λ (n : ℕ) (m : List ℕ). overAt (at + n) ys m) (sym e) f ∙ over-join at xs ys l
+
+-- xs, of n octets, lies over the front of l
+pub record Laid (l xs : List ℕ) (n : ℕ) (b : List ℕ) : Type 0 where
+  pub long : length xs ≡ n
+  pub same : b ≡ overAt 0 xs l
+
+pub first : {l xs b : List ℕ} (n : ℕ) → length xs ≡ n → b ≡ overAt 0 xs l → Laid l xs n b
+first n e f = record { long = e; same = f }
+
+pub next : {l xs b c : List ℕ} {n : ℕ} → Laid l xs n b → (ys : List ℕ) (k : ℕ) → length ys ≡ k → c ≡ overAt n ys b → Laid l (xs ++ ys) (n + k) c
+next {l} {xs} {b} {c} {n} s ys k e f =
+    record {
+      long = length-append xs ys ∙ ap₂ (λ (i j : ℕ). i + j) (s .long) e;
+      same = join 0 xs ys l (s .long) (s .same) (f ∙ ap (λ (i : ℕ). overAt i ys b) (sym (zero-add n)));
+    }
+
+pub response-order : (h lm nt name : List ℕ) (x y : ℕ)
+    → ((((h ++ (x ∷ [])) ++ lm) ++ nt) ++ (y ∷ [])) ++ name ≡ h ++ (x ∷ (lm ++ (nt ++ (y ∷ name))))
+response-order h lm nt name x y = simp append-assoc
+
+pub change-order : (h a b c d e : List ℕ) → ((h ++ (a ++ b)) ++ (c ++ d)) ++ e ≡ h ++ (a ++ (b ++ (c ++ (d ++ e))))
+change-order h a b c d e = simp append-assoc
+
+-- pieces that begin with the four octets of a frame are the packet, where the Length there is that of all of them and there is room
+pub framed-laid : (code id : ℕ) (d : List ℕ) {l xs b head : List ℕ} {n : ℕ} → Laid l xs n b → head ≡ code ∷ id ∷ toBe 2 n → xs ≡ head ++ d → n ≤ length l
+    → (length (framed code id d) ≡ n) × ((n ≡ headedLength (framed code id d) l) × (b ≡ headed (framed code id d) l))
+framed-laid code id d {l} {xs} {b} {head} {n} s e f h =
+    let parts : length xs ≡ length head + length d = ap length f ∙ length-append head d in
+    let size : n ≡ 4 + length d = omega (arith, ap length e, s .long) in
+    let packet : xs ≡ framed code id d = f ∙ ap (λ (x : List ℕ). x ++ d) e ∙ ap (λ (k : ℕ). code ∷ id ∷ (toBe 2 k ++ d)) size in
+    let long : length (framed code id d) ≡ n = ap length (sym packet) ∙ s .long in
+    let room : length (framed code id d) ≤ length l = omega arith in
+    let whole = fits (framed code id d) l room in
+    (long, (sym (whole .0 ∙ long), s .same ∙ ap (λ (x : List ℕ). over x l) packet ∙ over-fits (framed code id d) l room ∙ sym (whole .1)))
+
+-- ---- the answers of the peer's writers
+
+pub good-name : (name : List ℕ) → badName name ≡ false → (1 ≤ length name) × (length name ≤ 256)
+good-name name e = by (ltb (length name) 1) (ltb 256 (length name)) refl refl e
+  where
+    by : (a b : Bool) → ltb (length name) 1 ≡ a → ltb 256 (length name) ≡ b → (a || b) ≡ false → (1 ≤ length name) × (length name ≤ 256)
+    by false false e f g = (ltb-false (length name) 1 e, ltb-false 256 (length name) f)
+    by false true e f g = absurd (false≢true (sym g))
+    by true b e f g = absurd (false≢true (sym g))
+
+module _ (id : ℕ) (f : Response) (name out : List ℕ) where
+  pub name-refused : badName name ≡ true → (record { refusal = 10; length = 0 } ≡ responseWritten id f name out) × (out ≡ responseOut id f name out)
+  unfolding responseWritten responseOut responseWriteRefusal
+  name-refused e = (simp e, simp e)
+
+  pub room-refused : badName name ≡ false → length out < 54 + length name
+      → (record { refusal = 9; length = 0 } ≡ responseWritten id f name out) × (out ≡ responseOut id f name out)
+  unfolding responseWritten responseOut responseWriteRefusal
+  room-refused e h = let t = lt-ltb (length out) (54 + length name) h in (simp (e, t), simp (e, t))
+
+  pub response-written : badName name ≡ false → 54 + length name ≤ length out → length (responsePacket id f name) ≡ 54 + length name → {b : List ℕ}
+      → b ≡ headed (responsePacket id f name) out
+      → (record { refusal = 0; length = 54 + length name } ≡ responseWritten id f name out) × (b ≡ responseOut id f name out)
+  unfolding responseWritten responseOut responseWriteRefusal
+  response-written e h n g = let t = le-ltb (length out) (54 + length name) h in (simp (e, t, n), simp (e, t) g)
+
+module _ (id : ℕ) (f : Change) (out : List ℕ) where
+  pub change-refused : length out < 1118 → (record { refusal = 9; length = 0 } ≡ changeWritten id f out) × (out ≡ changeOut id f out)
+  unfolding changeWritten changeOut changeWriteRefusal
+  change-refused h = let t = lt-ltb (length out) 1118 h in (simp t, simp t)
+
+  pub change-written : 1118 ≤ length out → length (changePacket id f) ≡ 1118 → {b : List ℕ} → b ≡ headed (changePacket id f) out
+      → (record { refusal = 0; length = 1118 } ≡ changeWritten id f out) × (b ≡ changeOut id f out)
+  unfolding changeWritten changeOut changeWriteRefusal
+  change-written h n g = let t = le-ltb (length out) 1118 h in (simp (t, n), simp t g)

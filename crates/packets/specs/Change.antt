@@ -1,0 +1,54 @@
+-- The Change Password packet, version 2 (RFC 2433, section 7.2): Length 1118.
+-- Assumes nothing: these are definitions.
+use mathlib.Core.Bool.{Bool, cond, not}
+use mathlib.Core.List.{List, [], _∷_, _++_}
+use Prim.Native.Nat.{ℕ}
+use lib.Dec.{eqb, ltb}
+use lib.ListN.{length}
+use Rattle.octets.specs.Parts.{part, fixed}
+use Rattle.octets.specs.Numbers.{fromBe, toBe}
+use Rattle.packets.specs.Frame.{octet, lengthOf, framed, headed}
+use Rattle.packets.specs.declared.Change.{Change}
+use Rattle.packets.specs.declared.Written.{Written}
+
+-- the flags go most significant octet first (decided by document 01)
+unfoldable pub changePacket : ℕ → Change → List ℕ
+changePacket id f =
+    framed 6 id (f .block ++ (f .proof ++ (f .lmblock ++ (f .lmproof ++ (f .lm ++ (f .nt ++ toBe 2 (f .flags)))))))
+
+-- octets that the packet does not reach are 0
+abbrev pub changeIn : List ℕ → Change
+changeIn p =
+    record {
+      block = fixed 516 (part 4 516 p);
+      proof = fixed 16 (part 520 16 p);
+      lmblock = fixed 516 (part 536 516 p);
+      lmproof = fixed 16 (part 1052 16 p);
+      lm = fixed 24 (part 1068 24 p);
+      nt = fixed 24 (part 1092 24 p);
+      flags = fromBe (octet 1116 p ∷ octet 1117 p ∷ []);
+    }
+
+-- refusal 6
+abbrev pub badChangeSize : List ℕ → Bool
+badChangeSize p = not (eqb (lengthOf p) 1118)
+
+-- refusal 7: one of the bits 2 to 15 is set
+abbrev pub badChangeFlags : List ℕ → Bool
+badChangeFlags p = ltb 3 (changeIn p .flags)
+
+-- 6, then 7; 0 is none
+unfoldable pub changeRefusal : List ℕ → ℕ
+changeRefusal p = cond (badChangeSize p) 6 (cond (badChangeFlags p) 7 0)
+
+-- ---- writing one: refusal 9 for too little room
+
+unfoldable pub changeWriteRefusal : List ℕ → ℕ
+changeWriteRefusal out = cond (ltb (length out) 1118) 9 0
+
+unfoldable pub changeWritten : ℕ → Change → List ℕ → Written
+changeWritten id f out =
+    record { refusal = changeWriteRefusal out; length = cond (eqb (changeWriteRefusal out) 0) (length (changePacket id f)) 0 }
+
+unfoldable pub changeOut : ℕ → Change → List ℕ → List ℕ
+changeOut id f out = cond (eqb (changeWriteRefusal out) 0) (headed (changePacket id f) out) out

@@ -1,0 +1,6 @@
+pub mod Frame
+pub mod Response
+pub mod Change
+pub mod Reply
+pub mod Name
+pub mod Next

@@ -1,0 +1,34 @@
+-- The two parts of a Response's name, for the lookup (document 01, "Frame and packets"): split at its first backslash, which is in neither.
+-- Assumes nothing: these are definitions.
+use mathlib.Core.Bool.{Bool, false, cond, not, _||_}
+use mathlib.Core.List.{List, [], _∷_}
+use Prim.Native.Nat.{ℕ}
+use lib.Dec.{eqb}
+use Rattle.packets.specs.Frame.{octet, badFrame}
+use Rattle.packets.specs.Response.{nameIn, badResponseSize, badResponseFlag}
+
+-- a backslash is octet 92
+abbrev pub isSplit : List ℕ → Bool
+isSplit [] = false
+isSplit (x ∷ n) = eqb x 92 || isSplit n
+
+-- what stands before the first backslash, and what stands behind it
+abbrev pub beforeSplit : List ℕ → List ℕ
+beforeSplit [] = []
+beforeSplit (x ∷ n) = cond (eqb x 92) [] (x ∷ beforeSplit n)
+
+abbrev pub afterSplit : List ℕ → List ℕ
+afterSplit [] = []
+afterSplit (x ∷ n) = cond (eqb x 92) n (afterSplit n)
+
+-- the packet by itself fails the check of 3, 4 (code 2 awaited), 6 or 7
+abbrev pub isUnfit : List ℕ → Bool
+isUnfit p = badFrame p || (not (eqb (octet 0 p) 2) || (badResponseSize p || badResponseFlag p))
+
+-- the domain: the part of the name before the backslash (empty before a leading one) or, where there is none, the whole home domain
+unfoldable pub domainOf : List ℕ → List ℕ → List ℕ
+domainOf p home = cond (isUnfit p) [] (cond (isSplit (nameIn p)) (beforeSplit (nameIn p)) home)
+
+-- the account: the rest of the name
+unfoldable pub accountOf : List ℕ → List ℕ
+accountOf p = cond (isUnfit p) [] (cond (isSplit (nameIn p)) (afterSplit (nameIn p)) (nameIn p))

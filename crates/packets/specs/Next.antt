@@ -1,0 +1,12 @@
+-- What follows a Failure (RFC 2433, section 6): the identifier of the next packet, and the challenge that it answers where none is given.
+-- Assumes nothing: these are definitions.
+use mathlib.Core.List.{List, [], _∷_}
+use Prim.Native.Nat.{ℕ, _+_, _%_}
+
+abbrev pub nextId : ℕ → ℕ
+nextId id = (id + 1) % 256
+
+-- the 23 rule: the first octet grows by 23, with no carry into the others
+abbrev pub grown : List ℕ → List ℕ
+grown [] = []
+grown (x ∷ xs) = (x + 23) % 256 ∷ xs

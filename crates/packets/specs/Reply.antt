@@ -1,0 +1,61 @@
+-- What the authenticator sends: Challenge, Success and Failure (RFC 1994, sections 4.1 and 4.2; RFC 2433, sections 4 and 6).
+-- Assumes nothing: these are definitions.
+use mathlib.Core.Bool.{Bool, cond, not, _||_}
+use mathlib.Core.List.{List, [], _∷_}
+use Prim.Native.Nat.{ℕ, _+_}
+use lib.Dec.{eqb, ltb}
+use lib.ListN.{length, replicate}
+use Rattle.octets.specs.Parts.{part, fixed}
+use Rattle.message.specs.Message.{readMessage, messageRefusal, refusedWith, noC}
+use Rattle.message.specs.declared.Reading.{Reading}
+use Rattle.message.specs.declared.Verdict.the-variants.{Success}
+use Rattle.packets.specs.Frame.{octet, lengthOf, framed, badFrame, dataOf}
+use Rattle.packets.specs.declared.Asked.{Asked}
+
+-- a Challenge with no name, a Success with no message, a Failure with its message
+unfoldable pub challengePacket : ℕ → List ℕ → List ℕ
+challengePacket id challenge = framed 1 id (length challenge ∷ challenge)
+
+unfoldable pub successPacket : ℕ → List ℕ
+successPacket id = framed 3 id []
+
+unfoldable pub failurePacket : ℕ → List ℕ → List ℕ
+failurePacket id message = framed 4 id message
+
+-- ---- the peer's reading
+
+-- no Challenge: the refusal, with fixed values
+abbrev pub notAsked : ℕ → Asked
+notAsked n = record { refusal = n; id = 0; challenge = replicate 8 0 }
+
+-- refusal 11: of another kind, cut short, or of a size other than 8. A name may follow and is ignored.
+abbrev pub badChallenge : List ℕ → Bool
+badChallenge p = not (eqb (octet 0 p) 1) || (ltb (lengthOf p) (5 + 8) || not (eqb (octet 4 p) 8))
+
+-- 3, then 11
+unfoldable pub readChallenge : List ℕ → Asked
+readChallenge p =
+    cond (badFrame p) (notAsked 3)
+    (cond (badChallenge p) (notAsked 11)
+    (record { refusal = 0; id = octet 1 p; challenge = fixed 8 (part 5 8 p) }))
+
+abbrev pub succeeded : Reading
+succeeded = record { verdict = Success; c = noC }
+
+-- a reply to the last packet, which had the identifier last: 3, then 5, then 11 for another kind or by the message
+unfoldable pub readReply : ℕ → List ℕ → Reading
+readReply last p =
+    cond (badFrame p) (refusedWith 3)
+    (cond (not (eqb (octet 1 p) last)) (refusedWith 5)
+    (cond (eqb (octet 0 p) 3) succeeded
+    (cond (eqb (octet 0 p) 4) (readMessage (dataOf p))
+    (refusedWith 11))))
+
+-- the number with which a reply is refused; 0 is none
+unfoldable pub replyRefusal : ℕ → List ℕ → ℕ
+replyRefusal last p =
+    cond (badFrame p) 3
+    (cond (not (eqb (octet 1 p) last)) 5
+    (cond (eqb (octet 0 p) 3) 0
+    (cond (eqb (octet 0 p) 4) (messageRefusal (dataOf p))
+    11)))

@@ -1,0 +1,50 @@
+-- The Response packet (RFC 2433, section 5): size 49, LM response, NT response, flag, name.
+-- Assumes nothing: these are definitions.
+use mathlib.Core.Bool.{Bool, cond, not, _||_}
+use mathlib.Core.List.{List, _∷_, _++_}
+use Prim.Native.Nat.{ℕ, _+_, _-_}
+use lib.Dec.{eqb, ltb}
+use lib.ListN.{length}
+use Rattle.octets.specs.Parts.{part, fixed}
+use Rattle.packets.specs.Frame.{octet, lengthOf, framed, headed}
+use Rattle.packets.specs.declared.Response.{Response}
+use Rattle.packets.specs.declared.Written.{Written}
+
+unfoldable pub responsePacket : ℕ → Response → List ℕ → List ℕ
+responsePacket id f name = framed 2 id (49 ∷ (f .lm ++ (f .nt ++ (f .flag ∷ name))))
+
+-- the fields but the name; octets that the packet does not reach are 0
+abbrev pub responseIn : List ℕ → Response
+responseIn p = record { lm = fixed 24 (part 5 24 p); nt = fixed 24 (part 29 24 p); flag = octet 53 p }
+
+-- the name ends at Length
+abbrev pub nameIn : List ℕ → List ℕ
+nameIn p = part 54 (lengthOf p - 54) p
+
+-- refusal 6: a name has 1 to 256 octets, so Length is 55 to 310, and the size is 49
+abbrev pub badResponseSize : List ℕ → Bool
+badResponseSize p = ltb (lengthOf p) 55 || (ltb 310 (lengthOf p) || not (eqb (octet 4 p) 49))
+
+-- refusal 7
+abbrev pub badResponseFlag : List ℕ → Bool
+badResponseFlag p = ltb 1 (octet 53 p)
+
+-- 6, then 7; 0 is none
+unfoldable pub responseRefusal : List ℕ → ℕ
+responseRefusal p = cond (badResponseSize p) 6 (cond (badResponseFlag p) 7 0)
+
+-- ---- writing one: refusal 10 for a name that is empty or over 256 octets, then 9 for too little room
+
+abbrev pub badName : List ℕ → Bool
+badName name = ltb (length name) 1 || ltb 256 (length name)
+
+unfoldable pub responseWriteRefusal : List ℕ → List ℕ → ℕ
+responseWriteRefusal name out = cond (badName name) 10 (cond (ltb (length out) (54 + length name)) 9 0)
+
+-- the writer's answer and the buffer afterwards; on refusal nothing is written
+unfoldable pub responseWritten : ℕ → Response → List ℕ → List ℕ → Written
+responseWritten id f name out =
+    record { refusal = responseWriteRefusal name out; length = cond (eqb (responseWriteRefusal name out) 0) (length (responsePacket id f name)) 0 }
+
+unfoldable pub responseOut : ℕ → Response → List ℕ → List ℕ → List ℕ
+responseOut id f name out = cond (eqb (responseWriteRefusal name out) 0) (headed (responsePacket id f name) out) out

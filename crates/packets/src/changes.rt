@@ -1,0 +1,120 @@
+// The Change Password packet, version 2, of 1,118 octets.
+use crate::Change;
+use crate::Written;
+use crate::frames::head;
+use crate::frames::length;
+use crate::frames::octet;
+use crate::responses::answer_at;
+ghost use mathlib.Core.Path.{_≡_};
+ghost use mathlib.Core.List.{[], _∷_, _++_};
+ghost use Prim.Native.Nat.{_<_};
+ghost use lib.ListN.{length};
+ghost use Rattle.octets.specs.Parts.{part, fixed, overAt};
+ghost use Rattle.octets.specs.Numbers.{fromBe, toBe};
+ghost use Rattle.packets.specs.Frame.{octet};
+ghost use Rattle.packets.specs.Change.{changeRefusal, changeIn, changeWritten, changeOut};
+
+// The flags, the most significant octet first.
+fn flags(packet: &[u8]) -> u16
+    ensures { λ r. ⌜ r ≡ fromBe (octet 1116 (now (packet .entry)) ∷ octet 1117 (now (packet .entry)) ∷ []) ⌝ }
+{
+    octets::u16_from_be(octet(packet, 1116), octet(packet, 1117))
+}
+
+// Refusal 6 or 7, or 0, of a packet whose frame is good and whose code is 6.
+pub fn change_refusal(packet: &[u8]) -> u8
+    ensures { λ r. ⌜ r ≡ changeRefusal (now (packet .entry)) ⌝ }
+{
+    if length(packet) != 1118 {
+        return 6;
+    }
+    if 3 < flags(packet) {
+        return 7;
+    }
+    0
+}
+
+// A sealed block, from the place at on; 0 where the packet does not reach.
+fn block_at(packet: &[u8], at: usize) -> [u8; 516]
+    ensures { λ r. ⌜ r ≡ fixed 516 (part at 516 (now (packet .entry))) ⌝ }
+{
+    let mut block = [0u8; 516];
+    octets::copy(&mut block, octets::part_of(packet, at, 516));
+    block
+}
+
+// The same for an old hash under a new one.
+fn proof_at(packet: &[u8], at: usize) -> [u8; 16]
+    ensures { λ r. ⌜ r ≡ fixed 16 (part at 16 (now (packet .entry))) ⌝ }
+{
+    let mut proof = [0u8; 16];
+    octets::copy(&mut proof, octets::part_of(packet, at, 16));
+    proof
+}
+
+pub fn read_change(packet: &[u8]) -> Change
+    ensures { λ r. ⌜ r ≡ changeIn (now (packet .entry)) ⌝ }
+{
+    let block = block_at(packet, 4);
+    let proof = proof_at(packet, 520);
+    let lmblock = block_at(packet, 536);
+    let lmproof = proof_at(packet, 1052);
+    let lm = answer_at(packet, 1068);
+    let nt = answer_at(packet, 1092);
+    let flags = flags(packet);
+    Change {
+        block,
+        proof,
+        lmblock,
+        lmproof,
+        lm,
+        nt,
+        flags,
+    }
+}
+
+// Puts a block and the hash behind it at the place at, one of 4 and 536.
+fn put_pair(out: &mut [u8], at: usize, block: [u8; 516], proof: [u8; 16])
+    requires { ⌜ at < 1118 ⌝ }
+    ensures { λ _. ⌜ (now (out .exit) ≡ overAt at (block ++ proof) (now (out .entry))) × (length (block ++ proof) ≡ 532) ⌝ }
+{
+    octets::copy_at(out, at, &block);
+    octets::copy_at(out, at + 516, &proof);
+}
+
+// Puts the two responses and the flags at their place.
+fn put_rest(out: &mut [u8], lm: [u8; 24], nt: [u8; 24], flags: u16)
+    ensures { λ _. ⌜ (now (out .exit) ≡ overAt 1068 (lm ++ (nt ++ toBe 2 flags)) (now (out .entry))) × (length (lm ++ (nt ++ toBe 2 flags)) ≡ 50) ⌝ }
+{
+    let last = octets::u16_to_be(flags);
+    octets::copy_at(out, 1068, &lm);
+    octets::copy_at(out, 1092, &nt);
+    octets::copy_at(out, 1116, &last);
+}
+
+// Writes a change at the front of out. Refusal 9: too little room.
+pub fn write_change(id: u8, fields: Change, out: &mut [u8]) -> Written
+    ensures { λ r. ⌜ (r ≡ changeWritten id fields (now (out .entry))) × (now (out .exit) ≡ changeOut id fields (now (out .entry))) ⌝ }
+{
+    if out.len() < 1118 {
+        return Written {
+            refusal: 9,
+            length: 0,
+        };
+    }
+    let first = head(6, id, 1118);
+    octets::copy_at(out, 0, &first);
+    let block = fields.block;
+    let proof = fields.proof;
+    put_pair(out, 4, block, proof);
+    let lmblock = fields.lmblock;
+    let lmproof = fields.lmproof;
+    put_pair(out, 536, lmblock, lmproof);
+    let lm = fields.lm;
+    let nt = fields.nt;
+    put_rest(out, lm, nt, fields.flags);
+    Written {
+        refusal: 0,
+        length: 1118,
+    }
+}

@@ -1,0 +1,52 @@
+// The frame of every packet: code, identifier, Length, data.
+ghost use mathlib.Core.Path.{_≡_};
+ghost use mathlib.Core.Bool.{cond};
+ghost use mathlib.Core.List.{_∷_};
+ghost use Prim.Native.Nat.{_-_};
+ghost use Rattle.octets.specs.Numbers.{toBe};
+ghost use Rattle.packets.specs.Frame.{octet, lengthOf, badFrame};
+
+// The octet at the place i, 0 where the packet does not reach it.
+pub fn octet(packet: &[u8], i: usize) -> u8
+    ensures { λ r. ⌜ r ≡ octet i (now (packet .entry)) ⌝ }
+{
+    if i < packet.len() { packet[i] } else { 0 }
+}
+
+// The Length field.
+pub fn length(packet: &[u8]) -> usize
+    ensures { λ r. ⌜ r ≡ lengthOf (now (packet .entry)) ⌝ }
+{
+    octets::u16_from_be(octet(packet, 2), octet(packet, 3)) as usize
+}
+
+// The packet is under 4 octets, or its Length is under 4 or over what was lent.
+pub fn bad_frame(packet: &[u8]) -> bool
+    ensures { λ r. ⌜ r ≡ badFrame (now (packet .entry)) ⌝ }
+{
+    let n = length(packet);
+    packet.len() < 4 || (n < 4 || packet.len() < n)
+}
+
+// Refusal 3, or 0.
+pub fn frame_refusal(packet: &[u8]) -> u8
+    ensures { λ r. ⌜ r ≡ cond (badFrame (now (packet .entry))) 3 0 ⌝ }
+{
+    if bad_frame(packet) { 3 } else { 0 }
+}
+
+// What Length leaves behind the first `front` octets.
+pub fn behind(packet: &[u8], front: usize) -> usize
+    ensures { λ r. ⌜ r ≡ lengthOf (now (packet .entry)) - front ⌝ }
+{
+    let n = length(packet);
+    if n < front { 0 } else { n - front }
+}
+
+// The four octets before the data, for a packet of the given Length.
+pub fn head(code: u8, id: u8, length: u16) -> [u8; 4]
+    ensures { λ r. ⌜ r ≡ code ∷ id ∷ toBe 2 length ⌝ }
+{
+    let n = octets::u16_to_be(length);
+    [code, id, n[0], n[1]]
+}

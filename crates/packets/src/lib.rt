@@ -1,0 +1,59 @@
+// The packets of MS-CHAP as records of their fields, read and written. Every function is total.
+mod changes;
+mod frames;
+mod names;
+mod nexts;
+mod replies;
+mod responses;
+
+pub use changes::change_refusal;
+pub use changes::read_change;
+pub use changes::write_change;
+pub use frames::frame_refusal;
+pub use frames::length;
+pub use frames::octet;
+pub use names::account;
+pub use names::domain;
+pub use nexts::grown_challenge;
+pub use nexts::next_id;
+pub use replies::read_challenge;
+pub use replies::read_reply;
+pub use replies::write_challenge;
+pub use replies::write_failure;
+pub use replies::write_success;
+pub use responses::name;
+pub use responses::read_response;
+pub use responses::response_refusal;
+pub use responses::write_response;
+
+// The fields of a Response; its name stands beside them, as a part of the packet.
+pub struct Response {
+    pub lm: [u8; 24],
+    pub nt: [u8; 24],
+    pub flag: u8,
+}
+
+// The fields of a version 2 Change Password packet: the new password under the old NT hash, the old NT hash under the new one, the same
+// two for LM, the LM and the NT response, and the flags.
+pub struct Change {
+    pub block: [u8; 516],
+    pub proof: [u8; 16],
+    pub lmblock: [u8; 516],
+    pub lmproof: [u8; 16],
+    pub lm: [u8; 24],
+    pub nt: [u8; 24],
+    pub flags: u16,
+}
+
+// What the peer's writers answer: the refusal (0 is none) and how many octets were written.
+pub struct Written {
+    pub refusal: u8,
+    pub length: usize,
+}
+
+// What the peer reads in a Challenge; fixed values beside a refusal (0 is none).
+pub struct Asked {
+    pub refusal: u8,
+    pub id: u8,
+    pub challenge: [u8; 8],
+}

@@ -1,0 +1,140 @@
+// What the authenticator sends: Challenge, Success and Failure; and what the peer reads in them.
+use crate::Asked;
+use crate::frames::bad_frame;
+use crate::frames::behind;
+use crate::frames::head;
+use crate::frames::length;
+use crate::frames::octet;
+use message::Given;
+use message::Reading;
+use message::Verdict;
+ghost use mathlib.Core.Path.{_≡_};
+ghost use Rattle.message.specs.Message.{textOf, noC, refusedWith, numberOf};
+ghost use Rattle.packets.specs.Frame.{headed, headedLength};
+ghost use Rattle.packets.specs.Reply.{challengePacket, successPacket, failurePacket, notAsked, badChallenge, readChallenge, readReply, replyRefusal};
+
+// ---- writers: each answers how many octets of out it wrote, 0 where there is too little room
+
+pub fn write_challenge(id: u8, challenge: [u8; 8], out: &mut [u8]) -> usize
+    ensures { λ r. ⌜ (r ≡ headedLength (challengePacket id challenge) (now (out .entry))) × (now (out .exit) ≡ headed (challengePacket id challenge) (now (out .entry))) ⌝ }
+{
+    if out.len() < 13 {
+        return 0;
+    }
+    let first = head(1, id, 13);
+    let size = [8u8];
+    octets::copy_at(out, 0, &first);
+    octets::copy_at(out, 4, &size);
+    octets::copy_at(out, 5, &challenge);
+    13
+}
+
+pub fn write_success(id: u8, out: &mut [u8]) -> usize
+    ensures { λ r. ⌜ (r ≡ headedLength (successPacket id) (now (out .entry))) × (now (out .exit) ≡ headed (successPacket id) (now (out .entry))) ⌝ }
+{
+    if out.len() < 4 {
+        return 0;
+    }
+    let first = head(3, id, 4);
+    octets::copy_at(out, 0, &first);
+    4
+}
+
+// The message is `E=691 R=1 V=2` with the numbers set.
+pub fn write_failure(id: u8, e: u16, r: u8, v: u8, out: &mut [u8]) -> usize
+    ensures { λ n. ⌜ (n ≡ headedLength (failurePacket id (textOf e r v)) (now (out .entry))) × (now (out .exit) ≡ headed (failurePacket id (textOf e r v)) (now (out .entry))) ⌝ }
+{
+    if out.len() < 17 {
+        return 0;
+    }
+    let first = head(4, id, 17);
+    let text = message::text(e, r, v);
+    octets::copy_at(out, 0, &first);
+    octets::copy_at(out, 4, &text);
+    17
+}
+
+// ---- readers
+
+fn not_asked(refusal: u8) -> Asked
+    ensures { λ r. ⌜ r ≡ notAsked refusal ⌝ }
+{
+    Asked {
+        refusal,
+        id: 0,
+        challenge: [0; 8],
+    }
+}
+
+// The packet is of another kind, cut short, or of a size other than 8.
+fn bad_challenge(packet: &[u8]) -> bool
+    ensures { λ r. ⌜ r ≡ badChallenge (now (packet .entry)) ⌝ }
+{
+    let code = octet(packet, 0);
+    let n = length(packet);
+    let size = octet(packet, 4);
+    code != 1 || (n < 13 || size != 8)
+}
+
+// A Challenge. Refusal 3: the frame; 11: another kind, cut short, or of a size other than 8.
+pub fn read_challenge(packet: &[u8]) -> Asked
+    ensures { λ r. ⌜ r ≡ readChallenge (now (packet .entry)) ⌝ }
+{
+    if bad_frame(packet) {
+        return not_asked(3);
+    }
+    if bad_challenge(packet) {
+        return not_asked(11);
+    }
+    let mut challenge = [0u8; 8];
+    octets::copy(&mut challenge, octets::part_of(packet, 5, 8));
+    let id = octet(packet, 1);
+    Asked {
+        refusal: 0,
+        id,
+        challenge,
+    }
+}
+
+fn no_c() -> Given
+    ensures { λ r. ⌜ r ≡ noC ⌝ }
+{
+    Given {
+        given: false,
+        octets: [0; 8],
+    }
+}
+
+fn refused(number: u8) -> Reading
+    ensures { λ r. ⌜ r ≡ refusedWith number ⌝ }
+{
+    let c = no_c();
+    Reading {
+        verdict: Verdict::Refused(number),
+        c,
+    }
+}
+
+// A reply to the last packet, which had the identifier last. Refusal 3: the frame; 5: another identifier; 11: another kind, or by the message.
+pub fn read_reply(last: u8, packet: &[u8]) -> Reading
+    ensures { λ r. ⌜ (r ≡ readReply last (now (packet .entry))) × (numberOf (r .verdict) ≡ replyRefusal last (now (packet .entry))) ⌝ }
+{
+    if bad_frame(packet) {
+        return refused(3);
+    }
+    if octet(packet, 1) != last {
+        return refused(5);
+    }
+    let code = octet(packet, 0);
+    if code == 3 {
+        let c = no_c();
+        return Reading {
+            verdict: Verdict::Success,
+            c,
+        };
+    }
+    if code == 4 {
+        return message::read(octets::part_of(packet, 4, behind(packet, 4)));
+    }
+    refused(11)
+}

@@ -1,0 +1,106 @@
+// The Response packet: size 49, LM response, NT response, flag, name.
+use crate::Response;
+use crate::Written;
+use crate::frames::behind;
+use crate::frames::head;
+use crate::frames::length;
+use crate::frames::octet;
+ghost use mathlib.Core.Path.{_≡_};
+ghost use Rattle.octets.specs.Parts.{part, fixed};
+ghost use Rattle.packets.specs.Response.{badResponseSize, badResponseFlag, responseRefusal, responseIn, nameIn, badName, responseWritten, responseOut};
+
+// The name has not 1 to 256 octets, by the Length, or the size is not 49.
+pub fn bad_size(packet: &[u8]) -> bool
+    ensures { λ r. ⌜ r ≡ badResponseSize (now (packet .entry)) ⌝ }
+{
+    let n = length(packet);
+    let size = octet(packet, 4);
+    n < 55 || (310 < n || size != 49)
+}
+
+pub fn bad_flag(packet: &[u8]) -> bool
+    ensures { λ r. ⌜ r ≡ badResponseFlag (now (packet .entry)) ⌝ }
+{
+    1 < octet(packet, 53)
+}
+
+// Refusal 6 or 7, or 0, of a packet whose frame is good and whose code is 2.
+pub fn response_refusal(packet: &[u8]) -> u8
+    ensures { λ r. ⌜ r ≡ responseRefusal (now (packet .entry)) ⌝ }
+{
+    if bad_size(packet) {
+        return 6;
+    }
+    if bad_flag(packet) {
+        return 7;
+    }
+    0
+}
+
+// An LM or NT response, from the place at on; 0 where the packet does not reach.
+pub fn answer_at(packet: &[u8], at: usize) -> [u8; 24]
+    ensures { λ r. ⌜ r ≡ fixed 24 (part at 24 (now (packet .entry))) ⌝ }
+{
+    let mut answer = [0u8; 24];
+    octets::copy(&mut answer, octets::part_of(packet, at, 24));
+    answer
+}
+
+// The fields but the name.
+pub fn read_response(packet: &[u8]) -> Response
+    ensures { λ r. ⌜ r ≡ responseIn (now (packet .entry)) ⌝ }
+{
+    let lm = answer_at(packet, 5);
+    let nt = answer_at(packet, 29);
+    let flag = octet(packet, 53);
+    Response { lm, nt, flag }
+}
+
+// The name, which ends at Length.
+pub fn name(packet: &[u8]) -> &[u8]
+    ensures { λ r. ⌜ now r ≡ nameIn (now (packet .entry)) ⌝ }
+{
+    let n = behind(packet, 54);
+    octets::part_of(packet, 54, n)
+}
+
+// A name to be written is empty or over 256 octets.
+fn bad_name(name: &[u8]) -> bool
+    ensures { λ r. ⌜ r ≡ badName (now (name .entry)) ⌝ }
+{
+    name.len() < 1 || 256 < name.len()
+}
+
+// Writes a Response at the front of out. Refusal 10: the name is empty or over 256 octets. 9: too little room.
+pub fn write_response(id: u8, fields: Response, name: &[u8], out: &mut [u8]) -> Written
+    ensures { λ r. ⌜ (r ≡ responseWritten id fields (now (name .entry)) (now (out .entry))) × (now (out .exit) ≡ responseOut id fields (now (name .entry)) (now (out .entry))) ⌝ }
+{
+    if bad_name(name) {
+        return Written {
+            refusal: 10,
+            length: 0,
+        };
+    }
+    let n = 54 + name.len();
+    if out.len() < n {
+        return Written {
+            refusal: 9,
+            length: 0,
+        };
+    }
+    let first = head(2, id, n as u16);
+    let size = [49u8];
+    let lm = fields.lm;
+    let nt = fields.nt;
+    let flag = [fields.flag];
+    octets::copy_at(out, 0, &first);
+    octets::copy_at(out, 4, &size);
+    octets::copy_at(out, 5, &lm);
+    octets::copy_at(out, 29, &nt);
+    octets::copy_at(out, 53, &flag);
+    octets::copy_at(out, 54, name);
+    Written {
+        refusal: 0,
+        length: n,
+    }
+}
