@@ -5,7 +5,7 @@ use mathlib.Core.Bool.{Bool, true, false, cond, _&&_}
 use mathlib.Core.List.{List}
 use mathlib.Core.Option.{Option, none, some}
 use mathlib.Core.Path.{_≡_, refl, sym, ap, _∙_, subst}
-use Prim.Native.Nat.{ℕ, _+_, _-_, _≤_, _<_}
+use Prim.Native.Nat.{ℕ, _+_, _≤_, _<_}
 use native.Mathlib.Omega.{arith}
 use borrow.Author.Tests.{eqb-true, eqb-false, ltb-true}
 use lib.Dec.{eqb, ltb}
@@ -14,10 +14,10 @@ use Rattle.packets.specs.Change.{changeIn}
 use Rattle.authenticator.specs.Conversation.{isEnded, ended, retried, keeping}
 use Rattle.authenticator.specs.Opening.{Opening, retriesOf, firstConversation}
 use Rattle.authenticator.specs.Refusal.{refusalOf}
-use Rattle.authenticator.specs.Response.{Drawn, reasonOf, mayRetry, afterReason, responseDrawn}
+use Rattle.authenticator.specs.Response.{reasonOf, afterReason, responseDrawn}
 use Rattle.authenticator.specs.Change.{newHash, drawnBy, changeDrawn}
-use Rattle.authenticator.specs.Step.{drawnIn, drawn, Outcome, judgedAs}
-use Rattle.authenticator.specs.Steps.{Lent, stepOn, nextAfter, refusalAt, judged}
+use Rattle.authenticator.specs.Step.{drawnIn, drawn, Outcome}
+use Rattle.authenticator.specs.Steps.{Lent, nextAfter, refusalAt, judged}
 use Rattle.authenticator.specs.declared.Account.{Account}
 use Rattle.authenticator.specs.declared.Lookup.{Lookup}
 use Rattle.authenticator.specs.declared.Conversation.{Conversation}
@@ -41,7 +41,7 @@ after-less : (c : Conversation) (a : Account) (e : ℕ) → c .phase ≡ Respons
 after-less c a e ph = which (eqb e 691) (ltb 0 (c .retries)) (eqb e 648) refl
   where
     which : (t u x : Bool) → ltb 0 (c .retries) ≡ u → leftIn (cond (t && u) (retried c) (cond x (keeping c a) (ended c))) < c .retries + 2
-    which true true x h = subst (λ (y : Phase). left y (c .retries - 1) < c .retries + 2) (sym ph) (omega (arith, ltb-true 0 (c .retries) h))
+    which true true x h = subst (λ (y : Phase). left y (retried c .retries) < c .retries + 2) (sym ph) (omega (arith, ltb-true 0 (c .retries) h))
     which true false true h = omega arith
     which true false false h = omega arith
     which false u true h = omega arith

@@ -9,7 +9,7 @@ use mathlib.Core.Path.{_≡_, refl, sym, ap, _∙_}
 use Prim.Native.Nat.{ℕ, _%_, _≤_, _<_}
 use native.Mathlib.Omega.{arith}
 use borrow.Author.Tests.{lt-ltb, eqb-true, eqb-false}
-use lib.Dec.{eqb, ltb}
+use lib.Dec.{eqb}
 use lib.ListN.{length}
 use Rattle.credentials.specs.Credentials.{ntHashOf, sealedBlock, openedAs}
 use Rattle.credentials.specs.declared.Opened.{Opened}
@@ -25,9 +25,9 @@ use Rattle.packets.specs.declared.Change as changes
 use Rattle.authenticator.specs.Account.{nobody, found, renewed}
 use Rattle.authenticator.specs.Conversation.{ended, retried, keeping}
 use Rattle.authenticator.specs.Refusal.{refusalOf}
-use Rattle.authenticator.specs.Response.{version, Drawn, valid, reasonOf, mayRetry, afterReason, replyFor, responseDrawn}
+use Rattle.authenticator.specs.Response.{version, Drawn, valid, reasonOf, afterReason, replyFor, responseDrawn}
 use Rattle.authenticator.specs.Change.{hashInside, hashIn, proves, proven, newHash, drawnBy, changeDrawn}
-use Rattle.authenticator.specs.Step.{drawnIn, drawn, Outcome, judgedAs, refusedAs, step}
+use Rattle.authenticator.specs.Step.{drawnIn, drawn, judgedAs, step}
 use Rattle.authenticator.specs.Steps.{Rightful}
 use Rattle.authenticator.specs.declared.Account.{Account}
 use Rattle.authenticator.specs.declared.Lookup.{Lookup}
@@ -73,7 +73,8 @@ reason-valid : (v d h n : Bool) (m : ℕ) → v ≡ true → d ≡ false → h �
     → cond (not v) 691 (cond d 647 (cond h 646 (cond n 649 m))) ≡ m
 reason-valid v d h n m e₁ e₂ e₃ e₄ = rw (e₁, e₂, e₃, e₄)
 
-rightful-reason : (c : Conversation) (a : Account) (f : fields.Response) → Rightful a → valid c a f ≡ true → reasonOf c (found a) f ≡ cond (a .expired) 648 0
+rightful-reason : (c : Conversation) (a : Account) (f : fields.Response) → Rightful a → valid c a f ≡ true
+    → reasonOf c (found a) f ≡ cond (a .expired) 648 0
 unfolding reasonOf
 rightful-reason c a f g v =
     reason-valid (valid c a f) (a .disabled) (a .hours) (a .nodialin) (cond (a .expired) 648 0) v (g .enabled) (g .hours) (g .dialin)
@@ -126,7 +127,8 @@ new-hash c f h there bit inside proved =
     all s t o p q r = rw (p, q, r)
 
 -- a renewed record is rightful where the kept one is, is not expired, and has the new hash
-pub renewed-rightful : (a : Account) (h : List ℕ) → Rightful a → Rightful (renewed a h) × (renewed a h .expired ≡ false) × (renewed a h .nt .octets ≡ h)
+pub renewed-rightful : (a : Account) (h : List ℕ) → Rightful a
+    → Rightful (renewed a h) × (renewed a h .expired ≡ false) × (renewed a h .nt .octets ≡ h)
 renewed-rightful a h g = (record { nt = refl; enabled = g .enabled; hours = g .hours; dialin = g .dialin }, refl, refl)
 
 -- ---- no record and an invalid Response
@@ -154,15 +156,20 @@ module _ (c : Conversation) (p b : List ℕ) where
       which Change n = refl
       which Ended n = refl
 
-  -- "No record and an invalid response give the same": in every phase, with any retries left, for any packet, padded or refused
-  pub same-answer : (a : Account) → valid c a (responseIn p) ≡ false → step c p nobody b ≡ step c p (found a) b
-  same-answer a v = by-refusal nobody (found a) (λ ok. which (c .phase) ok refl)
+  -- two lookups with no record, or with one for which the Response is invalid: in every phase, for any packet, refused or not
+  pub same-invalid : (l m : Lookup) → (l .found && valid c (l .account) (responseIn p)) ≡ false
+      → (m .found && valid c (m .account) (responseIn p)) ≡ false
+      → step c p l b ≡ step c p m b
+  same-invalid l m v w = by-refusal l m (λ ok. which (c .phase) ok refl)
     where
-      which : (ph : Phase) → refusalOf c p b ≡ 0 → c .phase ≡ ph → step c p nobody b ≡ step c p (found a) b
+      which : (ph : Phase) → refusalOf c p b ≡ 0 → c .phase ≡ ph → step c p l b ≡ step c p m b
       which Response ok e =
-          response-step c p b ok nobody e
-          ∙ ap (λ (n : ℕ). judgedAs (drawnFor c (nobody .account) n) b) (reason-invalid c nobody (responseIn p) refl)
-          ∙ ap (λ (n : ℕ). judgedAs (drawnFor c a n) b) (sym (reason-invalid c (found a) (responseIn p) v))
-          ∙ sym (response-step c p b ok (found a) e)
-      which Change ok e = same-record nobody (found a) (λ f. let z : _≡_ {A = ℕ} 0 1 = cc in absurd (omega arith))
-      which Ended ok e = same-record nobody (found a) (λ f. let z : _≡_ {A = ℕ} 0 1 = cc in absurd (omega arith))
+          response-step c p b ok l e
+          ∙ ap (λ (n : ℕ). judgedAs (drawnFor c (l .account) n) b) (reason-invalid c l (responseIn p) v)
+          ∙ ap (λ (n : ℕ). judgedAs (drawnFor c (m .account) n) b) (sym (reason-invalid c m (responseIn p) w))
+          ∙ sym (response-step c p b ok m e)
+      which Change ok e = same-record l m (λ f. let z : _≡_ {A = ℕ} 0 1 = cc in absurd (omega arith))
+      which Ended ok e = same-record l m (λ f. let z : _≡_ {A = ℕ} 0 1 = cc in absurd (omega arith))
+
+  pub same-answer : (a : Account) → valid c a (responseIn p) ≡ false → step c p nobody b ≡ step c p (found a) b
+  same-answer a v = same-invalid nobody (found a) refl v

@@ -2,7 +2,6 @@
 -- fixed values, and the buffer as it was.
 -- Assumes nothing.
 use mathlib.Core.Bool.{Bool, true, false, cond}
-use mathlib.Core.List.{List, [], _∷_}
 use mathlib.Core.Logic.{_≢_}
 use mathlib.Core.Path.{_≡_, refl, sym, ap, _∙_}
 use Prim.Native.Nat.{ℕ, _+_, _≤_}
@@ -34,23 +33,23 @@ room false false h = refl
 
 module _ (o : Opening) where
   module _ (ok : opened o .refusal ≡ 0) where
-    none : openRefusal o ≡ 0
-    none = sym (opened-number o) ∙ ok
+    not-refused : openRefusal o ≡ 0
+    not-refused = sym (opened-number o) ∙ ok
 
     good : opened o ≡ openedBy 0 o
     unfolding opened
-    good = ap (λ (n : ℕ). openedBy n o) none
+    good = ap (λ (n : ℕ). openedBy n o) not-refused
 
     pub opened-first : opened o .conversation ≡ firstConversation o
     opened-first = ap (λ (x : Opened). x .conversation) good
 
     roomy : 17 ≤ length (o .buffer)
     unfolding openRefusal
-    roomy = ltb-false (length (o .buffer)) 17 (room (ltb 7 (retriesOf (o .retries))) (badRoom (o .buffer)) none)
+    roomy = ltb-false (length (o .buffer)) 17 (room (ltb 7 (retriesOf (o .retries))) (badRoom (o .buffer)) not-refused)
 
     headed-buffer : openedBuffer o ≡ headed (openingPacket o) (o .buffer)
     unfolding openedBuffer
-    headed-buffer = rw none
+    headed-buffer = rw not-refused
 
     size : length (openingPacket o) ≡ 5 + length (o .challenge)
     unfolding challengePacket
@@ -62,7 +61,8 @@ module _ (o : Opening) where
         ∙ ap (take (length (openingPacket o))) headed-buffer
         ∙ taken (openingPacket o) (o .buffer) (omega (arith, size, roomy))
 
-  pub opened-not : opened o .refusal ≢ 0 → (opened o ≡ record { refusal = openRefusal o; conversation = closed; written = 0 }) × (openedBuffer o ≡ o .buffer)
+  pub opened-not : opened o .refusal ≢ 0
+      → (opened o ≡ record { refusal = openRefusal o; conversation = closed; written = 0 }) × (openedBuffer o ≡ o .buffer)
   unfolding opened openedBuffer
   opened-not h =
       let n : openRefusal o ≢ 0 = λ e. h (opened-number o ∙ e) in

@@ -1,15 +1,15 @@
 -- One step: its refusal number, what a refused packet leaves as it was, when a packet is judged, and that it is judged exactly when it draws a
 -- reply.
 -- Assumes nothing.
-use mathlib.Core.Bool.{Bool, true, false, cond, not, _||_}
-use mathlib.Core.List.{List, [], _∷_, _++_}
+use mathlib.Core.Bool.{Bool, true, false, cond, not}
+use mathlib.Core.List.{List}
 use mathlib.Core.Logic.{_≢_}
 use mathlib.Core.Option.{Option, none, some}
 use mathlib.Core.Path.{_≡_, refl, sym, ap, _∙_}
-use Prim.Native.Nat.{ℕ, _+_, _≤_, _<_}
+use Prim.Native.Nat.{ℕ, _≤_, _<_}
 use native.Mathlib.Omega.{arith}
-use borrow.Author.Tests.{lt-ltb, le-ltb, le-leb, eq-eqb, ne-eqb, eqb-true, eqb-false, ltb-true, ltb-false}
-use lib.Dec.{eqb, ltb, leb}
+use borrow.Author.Tests.{lt-ltb, le-ltb, eq-eqb, ne-eqb, eqb-true, eqb-false, ltb-true, ltb-false}
+use lib.Dec.{eqb, ltb}
 use lib.ListN.{length, take, drop}
 use lib.Seq.{take-append-seam}
 use Rattle.message.specs.Message.{textOf}
@@ -114,7 +114,8 @@ number-range c p b =
     which (isEnded (c .phase)) (badRoom b) (badFrame p) (badCode (c .phase) p) (badId (c .id) p) (bodyRefusal (c .phase) p) (body-number (c .phase) p) refl
   where
     which : (t₁ t₂ t₃ t₄ t₅ : Bool) (n : ℕ) → (n ≤ 7) × (n ≢ 2) → badRoom b ≡ t₂
-        → (cond t₁ 1 (cond t₂ 2 (cond t₃ 3 (cond t₄ 4 (cond t₅ 5 n)))) ≤ 7) × (_≡_ {A = ℕ} (cond t₁ 1 (cond t₂ 2 (cond t₃ 3 (cond t₄ 4 (cond t₅ 5 n))))) 2 → length b < 17)
+        → (cond t₁ 1 (cond t₂ 2 (cond t₃ 3 (cond t₄ 4 (cond t₅ 5 n)))) ≤ 7)
+        × (_≡_ {A = ℕ} (cond t₁ 1 (cond t₂ 2 (cond t₃ 3 (cond t₄ 4 (cond t₅ 5 n))))) 2 → length b < 17)
     which true t₂ t₃ t₄ t₅ n h r = (omega arith, λ e. absurd (omega arith))
     which false true t₃ t₄ t₅ n h r = (omega arith, λ e. ltb-true (length b) 17 r)
     which false false true t₄ t₅ n h r = (omega arith, λ e. absurd (omega arith))
@@ -127,7 +128,8 @@ pub live-and-roomy : (c : Conversation) (p b : List ℕ) → refusalOf c p b ≡
 unfolding refusalOf
 live-and-roomy c p b e = which (isEnded (c .phase)) (badRoom b) _ refl refl e
   where
-    which : (t₁ t₂ : Bool) (n : ℕ) → isEnded (c .phase) ≡ t₁ → badRoom b ≡ t₂ → cond t₁ 1 (cond t₂ 2 n) ≡ 0 → (isEnded (c .phase) ≡ false) × (17 ≤ length b)
+    which : (t₁ t₂ : Bool) (n : ℕ) → isEnded (c .phase) ≡ t₁ → badRoom b ≡ t₂ → cond t₁ 1 (cond t₂ 2 n) ≡ 0
+        → (isEnded (c .phase) ≡ false) × (17 ≤ length b)
     which true t₂ n p q z = absurd (omega arith)
     which false true n p q z = absurd (omega arith)
     which false false n p q z = (p, ltb-false (length b) 17 q)
@@ -154,7 +156,9 @@ change-fits c (some h) = success-fits (c .id)
 
 phase-fits : (ph : Phase) (c : Conversation) (p : List ℕ) (l : Lookup) → isEnded ph ≡ false → Fits (drawnIn ph c p l .reply)
 unfolding responseDrawn changeDrawn
-phase-fits Response c p l e = response-fits (eqb (reasonOf c l (responseIn p)) 0) (c .id) (reasonOf c l (responseIn p)) (cond (mayRetry c (reasonOf c l (responseIn p))) 1 0)
+phase-fits Response c p l e =
+    let n = reasonOf c l (responseIn p) in
+    response-fits (eqb n 0) (c .id) n (cond (mayRetry c n) 1 0)
 phase-fits Change c p l e = change-fits c (newHash c (changeIn p))
 phase-fits Ended c p l e = let z : _≡_ {A = ℕ} 0 1 = cc in absurd (omega arith)
 

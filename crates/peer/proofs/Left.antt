@@ -1,0 +1,134 @@
+-- What our peer's writers leave in their output buffers: where a writer refuses nothing, the packet stands at the front, and what was lent met the
+-- rules of its refusals.
+-- Assumes nothing.
+use mathlib.Core.Bool.{Bool, true, false, cond, not, _||_, true≢false}
+use mathlib.Core.List.{List}
+use mathlib.Core.Logic.{_≢_}
+use mathlib.Core.Path.{_≡_, refl, sym, ap, _∙_}
+use Prim.Native.Nat.{ℕ, _+_, _%_, _≤_}
+use native.Mathlib.Omega.{arith}
+use borrow.Author.Tests.{ltb-false, eqb-true, not-false}
+use lib.Dec.{eqb, ltb}
+use lib.ListN.{length, take, drop}
+use lib.Seq.{take-append-seam}
+use Rattle.credentials.specs.Credentials.{badNtPassword}
+use Rattle.credentials.proofs.Laws.{good-password}
+use Rattle.packets.specs.Response.{badName, responseWriteRefusal}
+use Rattle.packets.specs.Change.{changeWriteRefusal}
+use Rattle.packets.proofs.Writing.{fits, good-name}
+use Rattle.peer.specs.Write.{responseFor, changeFor, writeResponseRefusal, writeChangeRefusal, Wrote, wroteBy, writeResponse, writeChange}
+use Rattle.peer.specs.declared.Turn.{Turn}
+use Rattle.peer.proofs.Found.{response-length, change-length}
+
+-- what was written, as a reader of the buffer takes it
+abbrev pub left : Wrote → List ℕ
+left w = take (w .answer .length) (w .out)
+
+-- ---- by the refusal
+
+number-same : (n : ℕ) (packet out : List ℕ) → wroteBy n packet out .answer .refusal ≡ n
+number-same n packet out = which (eqb n 0) refl
+  where
+    which : (t : Bool) → eqb n 0 ≡ t → wroteBy n packet out .answer .refusal ≡ n
+    which true e = let z = eqb-true n 0 e in ap (λ (k : ℕ). wroteBy k packet out .answer .refusal) z ∙ sym z
+    which false e = rw e
+
+left-good : (n : ℕ) (packet out : List ℕ) → n ≡ 0 → length packet ≤ length out → left (wroteBy n packet out) ≡ packet
+left-good n packet out e h =
+    ap (λ (k : ℕ). left (wroteBy k packet out)) e
+    ∙ ap (take (length packet)) (fits packet out h .1) ∙ take-append-seam packet (drop (length packet) out)
+
+-- ---- three tests in their order, with the numbers a, b, c
+
+none-of : (t₁ t₂ t₃ : Bool) (a b c : ℕ) → cond t₁ a (cond t₂ b (cond t₃ c 0)) ≢ a → cond t₁ a (cond t₂ b (cond t₃ c 0)) ≢ b
+    → cond t₁ a (cond t₂ b (cond t₃ c 0)) ≢ c → cond t₁ a (cond t₂ b (cond t₃ c 0)) ≡ 0
+none-of true t₂ t₃ a b c x y z = absurd (x refl)
+none-of false true t₃ a b c x y z = absurd (y refl)
+none-of false false true a b c x y z = absurd (z refl)
+none-of false false false a b c x y z = refl
+
+all-false : (t₁ t₂ t₃ : Bool) (a b c : ℕ) → a ≢ 0 → b ≢ 0 → c ≢ 0 → cond t₁ a (cond t₂ b (cond t₃ c 0)) ≡ 0
+    → (t₁ ≡ false) × (t₂ ≡ false) × (t₃ ≡ false)
+all-false true t₂ t₃ a b c x y z e = absurd (x e)
+all-false false true t₃ a b c x y z e = absurd (y e)
+all-false false false true a b c x y z e = absurd (z e)
+all-false false false false a b c x y z e = (refl, refl, refl)
+
+or-false-both : (a b : Bool) → (a || b) ≡ false → (a ≡ false) × (b ≡ false)
+or-false-both true b h = absurd (true≢false h)
+or-false-both false b h = (refl, h)
+
+positive : (n : ℕ) → 1 ≤ n → n ≢ 0
+positive n h e = omega arith
+
+-- ---- a Response
+
+module _ (t : Turn) (password name out : List ℕ) where
+  abbrev wrote : Wrote
+  wrote = writeResponse t password name out
+
+  response-number : wrote .answer .refusal ≡ writeResponseRefusal password name out
+  unfolding writeResponse
+  response-number = number-same (writeResponseRefusal password name out) (responseFor t password name) out
+
+  -- its writer refuses with 8, 10 and 9 alone
+  pub response-limits : wrote .answer .refusal ≢ 8 → wrote .answer .refusal ≢ 10 → wrote .answer .refusal ≢ 9 → wrote .answer .refusal ≡ 0
+  unfolding writeResponseRefusal responseWriteRefusal
+  response-limits x y z =
+      let n = response-number in
+      n ∙ none-of (badNtPassword password) (badName name) (ltb (length out) (54 + length name)) 8 10 9
+      (λ e. x (n ∙ e)) (λ e. y (n ∙ e)) (λ e. z (n ∙ e))
+
+  module _ (ok : wrote .answer .refusal ≡ 0) where
+    tests : (badNtPassword password ≡ false) × (badName name ≡ false) × (ltb (length out) (54 + length name) ≡ false)
+    unfolding writeResponseRefusal responseWriteRefusal
+    tests =
+        all-false (badNtPassword password) (badName name) (ltb (length out) (54 + length name)) 8 10 9
+        (positive 8 (omega arith)) (positive 10 (omega arith)) (positive 9 (omega arith)) (sym response-number ∙ ok)
+
+    pub name-fits : (1 ≤ length name) × (length name ≤ 256)
+    name-fits = good-name name (tests .1)
+
+    pub response-left : left wrote ≡ responseFor t password name
+    unfolding writeResponse
+    response-left =
+        left-good (writeResponseRefusal password name out) (responseFor t password name) out (sym response-number ∙ ok)
+        (omega (arith, response-length t password name, ltb-false (length out) (54 + length name) (tests .2)))
+
+-- ---- a change
+
+module _ (t : Turn) (old new filler out : List ℕ) where
+  abbrev changeWrote : Wrote
+  changeWrote = writeChange t old new filler out
+
+  change-number : changeWrote .answer .refusal ≡ writeChangeRefusal old new filler out
+  unfolding writeChange
+  change-number = number-same (writeChangeRefusal old new filler out) (changeFor t old new filler) out
+
+  -- its writer refuses with 8, 12 and 9 alone
+  pub change-limits : changeWrote .answer .refusal ≢ 8 → changeWrote .answer .refusal ≢ 12 → changeWrote .answer .refusal ≢ 9
+      → changeWrote .answer .refusal ≡ 0
+  unfolding writeChangeRefusal changeWriteRefusal
+  change-limits x y z =
+      let n = change-number in
+      n ∙ none-of (badNtPassword old || badNtPassword new) (not (eqb (length filler) 512)) (ltb (length out) 1118) 8 12 9
+      (λ e. x (n ∙ e)) (λ e. y (n ∙ e)) (λ e. z (n ∙ e))
+
+  module _ (ok : changeWrote .answer .refusal ≡ 0) where
+    checks : ((badNtPassword old || badNtPassword new) ≡ false) × (not (eqb (length filler) 512) ≡ false) × (ltb (length out) 1118 ≡ false)
+    unfolding writeChangeRefusal changeWriteRefusal
+    checks =
+        all-false (badNtPassword old || badNtPassword new) (not (eqb (length filler) 512)) (ltb (length out) 1118) 8 12 9
+        (positive 8 (omega arith)) (positive 12 (omega arith)) (positive 9 (omega arith)) (sym change-number ∙ ok)
+
+    pub new-fits : (length new ≤ 512) × (length new % 2 ≡ 0)
+    new-fits = good-password new (or-false-both (badNtPassword old) (badNtPassword new) (checks .0) .1)
+
+    pub filler-full : length filler ≡ 512
+    filler-full = eqb-true (length filler) 512 (not-false (eqb (length filler) 512) (checks .1))
+
+    pub change-left : left changeWrote ≡ changeFor t old new filler
+    unfolding writeChange
+    change-left =
+        left-good (writeChangeRefusal old new filler out) (changeFor t old new filler) out (sym change-number ∙ ok)
+        (omega (arith, change-length t old new filler filler-full (new-fits .0), ltb-false (length out) 1118 (checks .2)))

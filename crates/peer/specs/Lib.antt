@@ -1,0 +1,3 @@
+pub mod Turn
+pub mod Write
+pub mod Talk

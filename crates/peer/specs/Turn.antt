@@ -1,0 +1,47 @@
+-- The peer's turns (document 01, "What the peer reads"). A Challenge and a reply are read by `packets`.
+-- Assumes nothing: these are definitions.
+use mathlib.Core.Bool.{cond}
+use Rattle.message.specs.declared.Reading.{Reading}
+use Rattle.message.specs.declared.Given.{Given}
+use Rattle.message.specs.declared.Verdict.{Verdict}
+use Rattle.message.specs.declared.Verdict.the-variants.{Success, Failure, Refused}
+use Rattle.message.specs.declared.Call.{Call}
+use Rattle.message.specs.declared.Call.the-variants.{Retry, ChangeTwo, ChangeOne, End}
+use Rattle.packets.specs.Next.{nextId, grown}
+use Rattle.packets.specs.declared.Asked.{Asked}
+use Rattle.peer.specs.declared.Turn.{Turn}
+use Rattle.peer.specs.declared.Sent.{Sent}
+
+-- the turn that a Challenge asks for: the first Response has its identifier (RFC 1994, section 4.1)
+abbrev pub firstTurn : Asked → Turn
+firstTurn a = record { id = a .id; challenge = a .challenge }
+
+-- what was sent, once the packet of a turn is written
+abbrev pub sentFor : Turn → Sent
+sentFor t = record { id = t .id; challenge = t .challenge }
+
+-- nothing is to be sent: the turn of the last packet
+abbrev pub sameTurn : Sent → Turn
+sameTurn s = record { id = s .id; challenge = s .challenge }
+
+-- a retry takes C where given, else the 23 rule
+abbrev pub retryTurn : Sent → Given → Turn
+retryTurn s c = record { id = nextId (s .id); challenge = cond (c .given) (c .octets) (grown (s .challenge)) }
+
+-- a change uses the last Response's challenge, whatever C says
+abbrev pub changeTurn : Sent → Turn
+changeTurn s = record { id = nextId (s .id); challenge = s .challenge }
+
+abbrev pub turnFor : Call → Sent → Given → Turn
+turnFor Retry s c = retryTurn s c
+turnFor ChangeTwo s c = changeTurn s
+turnFor ChangeOne s c = sameTurn s
+turnFor End s c = sameTurn s
+
+abbrev pub turnAfter : Verdict → Sent → Given → Turn
+turnAfter Success s c = sameTurn s
+turnAfter (Failure f) s c = turnFor (f .call) s c
+turnAfter (Refused n) s c = sameTurn s
+
+unfoldable pub nextTurn : Sent → Reading → Turn
+nextTurn s r = turnAfter (r .verdict) s (r .c)

@@ -1,0 +1,76 @@
+-- The peer's two packets, each from a turn and passwords, and when they are refused (document 01: 8, 10, 12, 9 in that order).
+-- Assumes nothing: these are definitions.
+use mathlib.Core.Bool.{Bool, cond, not, _||_}
+use mathlib.Core.List.{List}
+use Prim.Native.Nat.{ℕ}
+use lib.Dec.{eqb}
+use lib.ListN.{length, replicate}
+use Rattle.credentials.specs.Credentials.{ntHashOf, badNtPassword, responseOf, oldUnderNew, sealedBlock}
+use Rattle.packets.specs.Frame.{headed}
+use Rattle.packets.specs.Response.{responsePacket, responseWriteRefusal}
+use Rattle.packets.specs.Change.{changePacket, changeWriteRefusal}
+use Rattle.packets.specs.declared.Response.{Response}
+use Rattle.packets.specs.declared.Change.{Change}
+use Rattle.packets.specs.declared.Written.{Written}
+use Rattle.peer.specs.declared.Turn.{Turn}
+
+-- a Response from an NT hash: the LM response is zero-filled, the flag is 1
+abbrev pub answerFields : List ℕ → List ℕ → Response
+answerFields challenge hash = record { lm = replicate 24 0; nt = responseOf hash challenge; flag = 1 }
+
+-- a change from the old and the new NT hash and the sealed new password: both LM fields and the LM response are zero-filled, the flags are 1;
+-- the response is that of the new hash
+abbrev pub renewalFields : List ℕ → List ℕ → List ℕ → List ℕ → Change
+renewalFields challenge old new block =
+    record {
+      block = block;
+      proof = oldUnderNew old new;
+      lmblock = replicate 516 0;
+      lmproof = replicate 16 0;
+      lm = replicate 24 0;
+      nt = responseOf new challenge;
+      flags = 1;
+    }
+
+-- both from passwords
+abbrev pub responseFields : List ℕ → List ℕ → Response
+responseFields challenge password = answerFields challenge (ntHashOf password)
+
+abbrev pub changeFields : List ℕ → List ℕ → List ℕ → List ℕ → Change
+changeFields challenge old new filler =
+    renewalFields challenge (ntHashOf old) (ntHashOf new) (sealedBlock (ntHashOf old) filler new)
+
+unfoldable pub responseFor : Turn → List ℕ → List ℕ → List ℕ
+responseFor t password name = responsePacket (t .id) (responseFields (t .challenge) password) name
+
+unfoldable pub changeFor : Turn → List ℕ → List ℕ → List ℕ → List ℕ
+changeFor t old new filler = changePacket (t .id) (changeFields (t .challenge) old new filler)
+
+-- 8, 10, 9
+unfoldable pub writeResponseRefusal : List ℕ → List ℕ → List ℕ → ℕ
+writeResponseRefusal password name out = cond (badNtPassword password) 8 (responseWriteRefusal name out)
+
+-- 8, 12, 9; 8 for either password
+unfoldable pub writeChangeRefusal : List ℕ → List ℕ → List ℕ → List ℕ → ℕ
+writeChangeRefusal old new filler out =
+    cond (badNtPassword old || badNtPassword new) 8 (cond (not (eqb (length filler) 512)) 12 (changeWriteRefusal out))
+
+abbrev pub refusedBy : ℕ → Written
+refusedBy n = record { refusal = n; length = 0 }
+
+-- a writer's answer and its buffer afterwards, by the refusal; on refusal nothing is written
+pub record Wrote : Type 0 where
+  pub answer : Written
+  pub out : List ℕ
+
+abbrev pub wroteBy : ℕ → List ℕ → List ℕ → Wrote
+wroteBy n packet out =
+    cond (eqb n 0)
+    (record { answer = record { refusal = 0; length = length packet }; out = headed packet out })
+    (record { answer = refusedBy n; out = out })
+
+unfoldable pub writeResponse : Turn → List ℕ → List ℕ → List ℕ → Wrote
+writeResponse t password name out = wroteBy (writeResponseRefusal password name out) (responseFor t password name) out
+
+unfoldable pub writeChange : Turn → List ℕ → List ℕ → List ℕ → List ℕ → Wrote
+writeChange t old new filler out = wroteBy (writeChangeRefusal old new filler out) (changeFor t old new filler) out

@@ -1,0 +1,104 @@
+// The peer's turns: the first, from a Challenge, and the next, from what a reply says.
+use crate::Sent;
+use crate::Turn;
+use message::Call;
+use message::Given;
+use message::Reading;
+use message::Verdict;
+use packets::Asked;
+ghost use mathlib.Core.Path.{_≡_};
+ghost use mathlib.Core.Bool.{cond};
+ghost use Rattle.packets.specs.Next.{grown};
+ghost use Rattle.peer.specs.Turn.{firstTurn, sentFor, sameTurn, retryTurn, changeTurn, turnFor, nextTurn};
+
+// The turn that a Challenge asks for.
+pub fn first_turn(asked: Asked) -> Turn
+    ensures { λ r. ⌜ r ≡ firstTurn asked ⌝ }
+{
+    let challenge = asked.challenge;
+    Turn {
+        id: asked.id,
+        challenge,
+    }
+}
+
+// What was sent, once the packet of a turn is written.
+pub fn sent_for(turn: Turn) -> Sent
+    ensures { λ r. ⌜ r ≡ sentFor turn ⌝ }
+{
+    let challenge = turn.challenge;
+    Sent {
+        id: turn.id,
+        challenge,
+    }
+}
+
+// Nothing is to be sent: the turn of the last packet.
+fn same_turn(sent: Sent) -> Turn
+    ensures { λ r. ⌜ r ≡ sameTurn sent ⌝ }
+{
+    let challenge = sent.challenge;
+    Turn {
+        id: sent.id,
+        challenge,
+    }
+}
+
+// C where given, else the 23 rule.
+fn retry_challenge(last: [u8; 8], c: Given) -> [u8; 8]
+    ensures { λ r. ⌜ r ≡ cond (c .given) (c .octets) (grown last) ⌝ }
+{
+    if c.given {
+        let octets = c.octets;
+        return octets;
+    }
+    packets::grown_challenge(last)
+}
+
+fn retry_turn(sent: Sent, c: Given) -> Turn
+    ensures { λ r. ⌜ r ≡ retryTurn sent c ⌝ }
+{
+    let last = sent.challenge;
+    let id = packets::next_id(sent.id);
+    let challenge = retry_challenge(last, c);
+    Turn { id, challenge }
+}
+
+// A change uses the last Response's challenge, whatever C says.
+fn change_turn(sent: Sent) -> Turn
+    ensures { λ r. ⌜ r ≡ changeTurn sent ⌝ }
+{
+    let kept = sent.challenge;
+    let id = packets::next_id(sent.id);
+    Turn {
+        id,
+        challenge: kept,
+    }
+}
+
+fn turn_for(call: Call, sent: Sent, c: Given) -> Turn
+    ensures { λ r. ⌜ r ≡ turnFor call sent c ⌝ }
+{
+    match call {
+        Call::Retry => retry_turn(sent, c),
+        Call::ChangeTwo => change_turn(sent),
+        Call::ChangeOne => same_turn(sent),
+        Call::End => same_turn(sent),
+    }
+}
+
+// The turn after a reading. A turn is to be taken where the verdict calls for a retry or a version 2 change.
+pub fn next_turn(sent: Sent, reading: Reading) -> Turn
+    ensures { λ r. ⌜ r ≡ nextTurn sent reading ⌝ }
+{
+    let verdict = reading.verdict;
+    let c = reading.c;
+    match verdict {
+        Verdict::Success => same_turn(sent),
+        Verdict::Failure(failed) => {
+            let call = failed.call;
+            turn_for(call, sent, c)
+        }
+        Verdict::Refused(_) => same_turn(sent),
+    }
+}

@@ -1,0 +1,84 @@
+// The peer's two packets. Refusals go 8, 10, 12, 9; a refusal writes nothing.
+use crate::Turn;
+use packets::Change;
+use packets::Response;
+use packets::Written;
+ghost use mathlib.Core.Path.{_≡_};
+ghost use Rattle.peer.specs.Write.{refusedBy, answerFields, renewalFields, writeResponse, writeChange};
+
+fn refused(number: u8) -> Written
+    ensures { λ r. ⌜ r ≡ refusedBy number ⌝ }
+{
+    Written {
+        refusal: number,
+        length: 0,
+    }
+}
+
+// The Response from an NT hash. The LM response is zero-filled.
+fn response_fields(hash: [u8; 16], challenge: [u8; 8]) -> Response
+    ensures { λ r. ⌜ r ≡ answerFields challenge hash ⌝ }
+{
+    let nt = credentials::challenge_response(hash, challenge);
+    Response {
+        lm: [0; 24],
+        nt,
+        flag: 1,
+    }
+}
+
+// Writes a Response from a password at the front of out. Refusal 8: the password; 10: the name; 9: too little room.
+pub fn write_response(turn: Turn, password: &[u8], name: &[u8], out: &mut [u8]) -> Written
+    ensures { λ r. ⌜ (r ≡ writeResponse turn (now (password .entry)) (now (name .entry)) (now (out .entry)) .answer) × (now (out .exit) ≡ writeResponse turn (now (password .entry)) (now (name .entry)) (now (out .entry)) .out) ⌝ }
+{
+    let hashed = credentials::nt_hash(password);
+    if hashed.refusal != 0 {
+        return refused(8);
+    }
+    let hash = hashed.hash;
+    let challenge = turn.challenge;
+    let fields = response_fields(hash, challenge);
+    packets::write_response(turn.id, fields, name, out)
+}
+
+// The change from both NT hashes and the sealed new password. The response is that of the new hash. The LM fields are zero-filled.
+fn change_fields(old: [u8; 16], new: [u8; 16], block: [u8; 516], challenge: [u8; 8]) -> Change
+    ensures { λ r. ⌜ r ≡ renewalFields challenge old new block ⌝ }
+{
+    let proof = credentials::old_under_new(old, new);
+    let nt = credentials::challenge_response(new, challenge);
+    Change {
+        block,
+        proof,
+        lmblock: [0; 516],
+        lmproof: [0; 16],
+        lm: [0; 24],
+        nt,
+        flags: 1,
+    }
+}
+
+// Writes a version 2 change from the old and the new password at the front of out. Refusal 8: either password; 12: the filler; 9: too little
+// room.
+pub fn write_change(turn: Turn, old: &[u8], new: &[u8], filler: &[u8], out: &mut [u8]) -> Written
+    ensures { λ r. ⌜ (r ≡ writeChange turn (now (old .entry)) (now (new .entry)) (now (filler .entry)) (now (out .entry)) .answer) × (now (out .exit) ≡ writeChange turn (now (old .entry)) (now (new .entry)) (now (filler .entry)) (now (out .entry)) .out) ⌝ }
+{
+    let before = credentials::nt_hash(old);
+    if before.refusal != 0 {
+        return refused(8);
+    }
+    let after = credentials::nt_hash(new);
+    if after.refusal != 0 {
+        return refused(8);
+    }
+    let from = before.hash;
+    let to = after.hash;
+    let sealed = credentials::seal(from, new, filler);
+    if sealed.refusal != 0 {
+        return refused(12);
+    }
+    let block = sealed.block;
+    let challenge = turn.challenge;
+    let fields = change_fields(from, to, block, challenge);
+    packets::write_change(turn.id, fields, out)
+}

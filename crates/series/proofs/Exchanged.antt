@@ -1,0 +1,56 @@
+-- A packet of our peer that draws a reply: what our peer reads, and where box and peer stand afterwards.
+-- Assumes nothing.
+use mathlib.Core.Bool.{Bool, cond}
+use mathlib.Core.List.{List, _++_}
+use mathlib.Core.Path.{_≡_, ap, ap₂, _∙_}
+use Prim.Native.Nat.{ℕ, _≤_}
+use native.Mathlib.Omega.{arith}
+use borrow.Author.Tests.{lt-ltb}
+use lib.Dec.{eqb, ltb}
+use lib.ListN.{length}
+use Rattle.message.specs.declared.Reading.{Reading}
+use Rattle.packets.specs.Reply.{readReply}
+use Rattle.authenticator.specs.Response.{Drawn}
+use Rattle.authenticator.specs.Step.{Outcome, judgedAs}
+use Rattle.authenticator.specs.Steps.{stepOn, replyOf, judged}
+use Rattle.authenticator.specs.declared.Conversation.{Conversation}
+use Rattle.authenticator.proofs.Steps.{Fits, reply-of}
+use Rattle.peer.specs.Turn.{sentFor, nextTurn}
+use Rattle.peer.specs.Write.{Wrote}
+use Rattle.peer.specs.Talk.{sending, hears}
+use Rattle.peer.specs.declared.Sent.{Sent}
+use Rattle.series.specs.Series.{Line, Place, reaching, carried, Draws}
+
+place-same : {b b' : Conversation} {s s' : Sent} {r r' : Reading} → b ≡ b' → s ≡ s' → r ≡ r'
+    → _≡_ {A = Place} (record { box = b; peer = record { sent = s; turn = nextTurn s r } })
+    (record { box = b'; peer = record { sent = s'; turn = nextTurn s' r' } })
+place-same e f g = cc
+
+pub record Exchanged (p : Place) (w : Wrote) (l : Line) (d : Drawn) (reading : Reading) : Type 0 where
+  pub draws : Draws (carried p w l) (d .reply) reading
+  pub judges : judged (p .box) (reaching w l) ≡ 1
+  pub leads : _≡_ {A = Place}
+      (record { box = carried p w l .outcome .answer .next; peer = hears (carried p w l .peer) (carried p w l .reply) })
+      (record { box = d .next; peer = record { sent = sentFor (p .peer .turn); turn = nextTurn (sentFor (p .peer .turn)) reading } })
+
+module _ (p : Place) (w : Wrote) (l : Line) (d : Drawn) (reading : Reading) (zero : w .answer .refusal ≡ 0) (room : 17 ≤ length (l .buffer))
+    (fits : Fits (d .reply)) (took : stepOn (p .box) (reaching w l) ≡ judgedAs d (l .buffer))
+    (heard : readReply (p .peer .turn .id) (d .reply ++ l .behind) ≡ reading) where
+  sent-same : sending (p .peer) (w .answer) .sent ≡ sentFor (p .peer .turn)
+  sent-same = ap (λ (n : ℕ). cond (eqb n 0) (sentFor (p .peer .turn)) (p .peer .sent)) zero
+
+  reply-same : replyOf (stepOn (p .box) (reaching w l)) ≡ d .reply
+  reply-same = ap replyOf took ∙ reply-of d (l .buffer) (omega arith)
+
+  read-same : readReply (sending (p .peer) (w .answer) .sent .id) (replyOf (stepOn (p .box) (reaching w l)) ++ l .behind) ≡ reading
+  read-same = ap₂ (λ (s : Sent) (r : List ℕ). readReply (s .id) (r ++ l .behind)) sent-same reply-same ∙ heard
+
+  pub exchanged : Exchanged p w l d reading
+  exchanged =
+      record {
+        draws = (reply-same, read-same);
+        judges =
+            ap (λ (o : Outcome). cond {A = ℕ} (ltb 0 (o .answer .written)) 1 0) took
+            ∙ ap (λ (t : Bool). cond {A = ℕ} t 1 0) (lt-ltb 0 (length (d .reply)) (fits .0));
+        leads = place-same (ap (λ (o : Outcome). o .answer .next) took) sent-same read-same;
+      }

@@ -1,0 +1,133 @@
+-- The steps that take our peer's packets, each as the outcome that it is equal to.
+-- Assumes nothing.
+use mathlib.Core.Bool.{Bool, true, false, cond, _&&_}
+use mathlib.Core.List.{List, _++_}
+use mathlib.Core.Option.{some}
+use mathlib.Core.Path.{_≡_, sym, ap, ap₂, _∙_}
+use Prim.Native.Nat.{ℕ, _%_, _≤_, _<_}
+use native.Mathlib.Omega.{arith}
+use borrow.Author.Tests.{eq-eqb}
+use lib.Dec.{eqb}
+use lib.ListN.{length}
+use Rattle.octets.specs.Parts.{agrees}
+use Rattle.octets.proofs.Parts.{agrees-refl}
+use Rattle.credentials.specs.Credentials.{ntHashOf, responseOf, oldUnderNew, openedAs}
+use Rattle.packets.specs.Response.{responseIn}
+use Rattle.packets.specs.Change.{changeIn}
+use Rattle.packets.specs.declared.Response as fields
+use Rattle.authenticator.specs.Account.{found, answers}
+use Rattle.authenticator.specs.Conversation.{awaitedCode, isEnded}
+use Rattle.authenticator.specs.Refusal.{bodyRefusal, refusalOf}
+use Rattle.authenticator.specs.Response.{valid}
+use Rattle.authenticator.specs.Change.{hashIn, newHash}
+use Rattle.authenticator.specs.Step.{judgedAs, step}
+use Rattle.authenticator.specs.Steps.{Rightful}
+use Rattle.authenticator.specs.declared.Account.{Account}
+use Rattle.authenticator.specs.declared.Lookup.{Lookup}
+use Rattle.authenticator.specs.declared.Conversation.{Conversation}
+use Rattle.authenticator.specs.declared.Phase.{Phase}
+use Rattle.authenticator.specs.declared.Phase.the-variants.{Response, Change}
+use Rattle.authenticator.proofs.Steps.{passes}
+use Rattle.authenticator.proofs.Judged.{again, expiry, accepted, changed, invalid-law, valid-law, change-law, hash-sealed, new-hash}
+use Rattle.peer.specs.Write.{responseFields, changeFields, responseFor, changeFor}
+use Rattle.peer.specs.declared.Turn.{Turn}
+use Rattle.packets.proofs.ReadBack.{ResponseBack, ChangeBack}
+use Rattle.peer.proofs.Found.{response-flag, change-flags, response-found, change-found}
+
+-- the box awaits the identifier, and has in force the challenge, of our peer's turn
+pub record InStep (c : Conversation) (t : Turn) : Type 0 where
+  pub id : c .id ≡ t .id
+  pub challenge : c .challenge ≡ t .challenge
+
+both : (s t : Bool) → s ≡ true → t ≡ true → (s && t) ≡ true
+both s t p q = rw (p, q)
+
+valid-nt : (s t u v : Bool) → s ≡ true → t ≡ true → u ≡ true → cond (s && t) u v ≡ true
+valid-nt s t u v p q r = rw (p, q, r)
+
+-- ---- a try
+
+module _ (c : Conversation) (t : Turn) (h : InStep c t) (ph : c .phase ≡ Response) (password name after b : List ℕ) (room : 17 ≤ length b)
+    (named : (1 ≤ length name) × (length name ≤ 256)) where
+  abbrev try : List ℕ
+  try = responseFor t password name ++ after
+
+  try-found : ResponseBack (t .id) (responseFields (t .challenge) password) name try
+  try-found = response-found t password name after (named .0) (named .1)
+
+  try-passes : refusalOf c try b ≡ 0
+  try-passes =
+      let f = try-found in
+      passes c try b
+      (record {
+        live = ap isEnded ph;
+        room = room;
+        frame = f .frame;
+        code = f .code ∙ sym (ap awaitedCode ph);
+        id = f .id ∙ sym (h .id);
+        body = ap (λ (x : Phase). bodyRefusal x try) ph ∙ f .fit (omega arith);
+      })
+
+  pub invalid-taken : (l : Lookup) → (l .found && valid c (l .account) (responseIn try)) ≡ false → 0 < c .retries
+      → step c try l b ≡ judgedAs (again c) b
+  invalid-taken l v pos = invalid-law c try b try-passes l ph v pos
+
+  module _ (a : Account) (g : Rightful a) (right : ntHashOf password ≡ a .nt .octets) where
+    right-answers : answers (a .nt) (c .challenge) (responseFields (t .challenge) password .nt) ≡ true
+    unfolding answers
+    right-answers =
+        both (a .nt .present) (agrees (responseOf (ntHashOf password) (t .challenge)) (responseOf (a .nt .octets) (c .challenge))) (g .nt)
+        (ap₂ (λ (x y : List ℕ). agrees (responseOf (ntHashOf password) (t .challenge)) (responseOf x y)) (sym right) (h .challenge)
+        ∙ agrees-refl (responseOf (ntHashOf password) (t .challenge)))
+
+    right-valid : valid c a (responseIn try) ≡ true
+    unfolding valid
+    right-valid =
+        let f = responseFields (t .challenge) password in
+        ap (valid c a) (try-found .fields)
+        ∙ valid-nt (eqb (f .flag) 1) (a .nt .present) (answers (a .nt) (c .challenge) (f .nt)) (c .terms .lm && answers (a .lm) (c .challenge) (f .lm))
+        (eq-eqb (f .flag) 1 (response-flag (t .challenge) password)) (g .nt) right-answers
+
+    pub right-taken : step c try (found a) b ≡ judgedAs (cond (a .expired) (expiry c a) (accepted c)) b
+    right-taken = valid-law c try b try-passes a ph g right-valid
+
+-- ---- the change
+
+module _ (c : Conversation) (t : Turn) (h : InStep c t) (ph : c .phase ≡ Change) (old new filler after b : List ℕ) (room : 17 ≤ length b)
+    (full : length filler ≡ 512) (fits : (length new ≤ 512) × (length new % 2 ≡ 0)) where
+  abbrev change : List ℕ
+  change = changeFor t old new filler ++ after
+
+  change-there : ChangeBack (t .id) (changeFields (t .challenge) old new filler) change
+  change-there = change-found t old new filler full (fits .0) after
+
+  change-passes : refusalOf c change b ≡ 0
+  change-passes =
+      let f = change-there in
+      passes c change b
+      (record {
+        live = ap isEnded ph;
+        room = room;
+        frame = f .frame;
+        code = f .code ∙ sym (ap awaitedCode ph);
+        id = f .id ∙ sym (h .id);
+        body = ap (λ (x : Phase). bodyRefusal x change) ph ∙ f .fit (omega arith);
+      })
+
+  module _ (there : c .kept .nt .present ≡ true) (right : ntHashOf old ≡ c .kept .nt .octets) where
+    change-hash : newHash c (changeIn change) ≡ some (ntHashOf new)
+    change-hash =
+        let f = changeFields (t .challenge) old new filler in
+        let inside : hashIn (openedAs (c .kept .nt .octets) (f .block)) ≡ some (ntHashOf new) =
+        ap (λ (x : List ℕ). hashIn (openedAs x (f .block))) (sym right) ∙ hash-sealed (ntHashOf old) filler new full (fits .0) (fits .1) in
+        let proof : agrees (f .proof) (oldUnderNew (c .kept .nt .octets) (ntHashOf new)) ≡ true =
+        ap (λ (x : List ℕ). agrees (f .proof) (oldUnderNew x (ntHashOf new))) (sym right) ∙ agrees-refl (f .proof) in
+        let nt : agrees (f .nt) (responseOf (ntHashOf new) (c .challenge)) ≡ true =
+        ap (λ (x : List ℕ). agrees (f .nt) (responseOf (ntHashOf new) x)) (h .challenge) ∙ agrees-refl (f .nt) in
+        ap (newHash c) (change-there .fields)
+        ∙ new-hash c f (ntHashOf new) there
+        (ap (λ (n : ℕ). eqb (n % 2) 1) (change-flags (t .challenge) old new filler)) inside
+        (both (agrees (f .proof) (oldUnderNew (c .kept .nt .octets) (ntHashOf new))) (agrees (f .nt) (responseOf (ntHashOf new) (c .challenge))) proof nt)
+
+    pub change-taken : (l : Lookup) → step c change l b ≡ judgedAs (changed c (ntHashOf new)) b
+    change-taken l = change-law c change b change-passes l (ntHashOf new) ph change-hash

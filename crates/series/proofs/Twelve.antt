@@ -1,0 +1,20 @@
+-- The table of twelve: one statement over all its rows, by computation.
+-- Assumes nothing.
+use mathlib.Core.List.{map}
+use mathlib.Core.Path.{_≡_, refl}
+use Rattle.octets.specs.Digits.{digitOf, hexOf}
+use Rattle.des.specs.Des.{expandKey}
+use Rattle.credentials.specs.Credentials.{contentFor}
+use Rattle.message.specs.Message.{words, isField, fieldOf, calledFor, readMessage, textOf}
+use Rattle.packets.specs.Frame.{headed}
+use Rattle.packets.specs.Response.{responseRefusal}
+use Rattle.packets.specs.Reply.{challengePacket, failurePacket}
+use Rattle.authenticator.specs.Opening.{openRefusal, opened, openedBuffer}
+use Rattle.authenticator.specs.Refusal.{refusalOf}
+use Rattle.authenticator.specs.Response.{reasonOf, responseDrawn}
+use Rattle.authenticator.specs.Step.{drawn, step}
+use Rattle.series.specs.Twelve.{Row, outputOf, rows}
+
+pub twelve : map outputOf (map (λ (r : Row). r .input) rows) ≡ map (λ (r : Row). r .output) rows
+unfolding outputOf expandKey contentFor words isField fieldOf calledFor readMessage textOf digitOf hexOf headed responseRefusal challengePacket failurePacket openRefusal opened openedBuffer refusalOf reasonOf responseDrawn drawn step
+twelve = refl

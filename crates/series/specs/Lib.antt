@@ -1,0 +1,3 @@
+pub mod Course
+pub mod Series
+pub mod Twelve

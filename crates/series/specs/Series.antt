@@ -1,0 +1,202 @@
+-- Demand 3. Words in quotes are document 01's, "The series in demand 3".
+-- Assumes nothing: these are definitions.
+use mathlib.Core.Bool.{Bool, true, false, cond}
+use mathlib.Core.List.{List, [], _∷_, _++_}
+use mathlib.Core.Logic.{_≢_}
+use mathlib.Core.Path.{_≡_}
+use Prim.Native.Nat.{ℕ, _+_, _≤_}
+use lib.ListN.{length, take, replicate}
+use Rattle.credentials.specs.Credentials.{ntHashOf}
+use Rattle.message.specs.Message.{textOf, failedWith, noC}
+use Rattle.message.specs.declared.Reading.{Reading}
+use Rattle.packets.specs.Response.{responseIn}
+use Rattle.packets.specs.Reply.{successPacket, failurePacket, readChallenge, succeeded}
+use Rattle.packets.specs.declared.Asked.{Asked}
+use Rattle.authenticator.specs.Account.{found}
+use Rattle.authenticator.specs.Opening.{Opening, retriesOf, opened, openedBuffer}
+use Rattle.authenticator.specs.Response.{valid}
+use Rattle.authenticator.specs.Step.{Outcome, numberOf}
+use Rattle.authenticator.specs.Steps.{Lent, stepOn, nextAfter, Refused, replyOf, judged, Rightful}
+use Rattle.authenticator.specs.declared.Account.{Account}
+use Rattle.authenticator.specs.declared.Lookup.{Lookup}
+use Rattle.authenticator.specs.declared.Conversation.{Conversation}
+use Rattle.authenticator.specs.declared.Phase.the-variants.{Ended}
+use Rattle.peer.specs.Write.{Wrote, writeResponse, writeChange}
+use Rattle.peer.specs.Talk.{Peer, asked, sending, reads, hears}
+use Rattle.peer.specs.declared.Turn.{Turn}
+use Rattle.series.specs.Course.{collect, end, Along, total}
+
+-- ---- our peer's packets
+
+-- A packet that our peer writes: a "try" from a password, invalid or with the "right password", or the change.
+pub data Packet : Type 0 where
+  invalid : (password name : List ℕ) → Packet
+  right : (password name : List ℕ) → Packet
+  renewal : (old new filler : List ℕ) → Packet
+
+-- What is lent with it: our peer's output buffer and padding behind the packet; the step's record or none and its reply buffer; padding
+-- behind the reply.
+pub record Line : Type 0 where
+  pub out : List ℕ
+  pub after : List ℕ
+  pub account : Lookup
+  pub buffer : List ℕ
+  pub behind : List ℕ
+
+-- A step of the "series": it takes our peer's next packet, or it is "any other step".
+pub data Move : Type 0 where
+  ours : Packet → Line → Move
+  other : Lent → Move
+
+pub data Kind : Type 0 where
+  Invalid Right Renewal : Kind
+
+abbrev pub kindOf : Packet → Kind
+kindOf (invalid w n) = Invalid
+kindOf (right w n) = Right
+kindOf (renewal o n f) = Renewal
+
+abbrev pub kindsOf : Move → List Kind
+kindsOf (ours t l) = kindOf t ∷ []
+kindsOf (other s) = []
+
+-- our peer's packets in their order: "k invalid tries", the right password and, "after 648", the change
+abbrev pub plan : ℕ → Bool → List Kind
+plan k expired = replicate k Invalid ++ (Right ∷ cond expired (Renewal ∷ []) [])
+
+-- ---- a packet on its way
+
+-- "the conversation that the opening or the step before gave back", and our peer
+pub record Place : Type 0 where
+  pub box : Conversation
+  pub peer : Peer
+
+-- "Our peer reads the Challenge .. as the box wrote" it, with padding behind it
+abbrev pub challengeRead : Opening → List ℕ → Asked
+challengeRead o behind = readChallenge (take (opened o .written) (openedBuffer o) ++ behind)
+
+abbrev pub start : Opening → List ℕ → Place
+start o behind = record { box = opened o .conversation; peer = asked (challengeRead o behind) }
+
+-- our peer "writes its next packet from" its turn
+abbrev pub writes : Turn → Packet → List ℕ → Wrote
+writes t (invalid p n) out = writeResponse t p n out
+writes t (right p n) out = writeResponse t p n out
+writes t (renewal o n f) out = writeChange t o n f out
+
+-- "it reaches the box as written": what the writer left in its output buffer, with padding behind it
+abbrev pub reaching : Wrote → Line → Lent
+reaching w l = record { packet = take (w .answer .length) (w .out) ++ l .after; account = l .account; buffer = l .buffer }
+
+-- A packet with what comes of it: what the writer left, the step that takes it, our peer once it wrote, and what reaches our peer.
+pub record Exchange : Type 0 where
+  pub wrote : Wrote
+  pub lent : Lent
+  pub outcome : Outcome
+  pub peer : Peer
+  pub reply : List ℕ
+
+abbrev pub carried : Place → Wrote → Line → Exchange
+carried p w l =
+    record {
+      wrote = w;
+      lent = reaching w l;
+      outcome = stepOn (p .box) (reaching w l);
+      peer = sending (p .peer) (w .answer);
+      reply = replyOf (stepOn (p .box) (reaching w l)) ++ l .behind;
+    }
+
+abbrev pub exchange : Place → Packet → Line → Exchange
+exchange p t l = carried p (writes (p .peer .turn) t (l .out)) l
+
+-- ---- the course of a series
+
+-- where a step leads
+abbrev pub go : Place → Move → Place
+go p (ours t l) = record { box = exchange p t l .outcome .answer .next; peer = hears (exchange p t l .peer) (exchange p t l .reply) }
+go p (other s) = record { box = nextAfter (p .box) s; peer = p .peer }
+
+-- what a step is lent, and whether its packet is judged
+abbrev pub lentAt : Place → Move → Lent
+lentAt p (ours t l) = exchange p t l .lent
+lentAt p (other s) = s
+
+abbrev pub judgedAt : Place → Move → ℕ
+judgedAt p m = judged (p .box) (lentAt p m)
+
+-- ---- the premises
+
+-- "The limits": a refusal number that is "none of 2, 8, 9, 10 and 12"
+pub record Within (n : ℕ) : Type 0 where
+  pub not2 : n ≢ 2
+  pub not8 : n ≢ 8
+  pub not9 : n ≢ 9
+  pub not10 : n ≢ 10
+  pub not12 : n ≢ 12
+
+-- "The limits are kept when our peer's calls and the steps that take its packets meet none of" them.
+abbrev pub Kept : Exchange → Type 0
+Kept x = Within (x .wrote .answer .refusal) × Within (numberOf (x .outcome .answer .kind))
+
+-- An invalid try is lent a record for which it is invalid, or none. "The right password is one whose NT hash is the record's", and that record
+-- is lent. The change is "written with the right password as the old one", and lent any record or none.
+abbrev pub Meant : Account → Place → Packet → Line → Type 0
+Meant a p (invalid w n) l =
+    l .account .found ≡ true → valid (p .box) (l .account .account) (responseIn (exchange p (invalid w n) l .lent .packet)) ≡ false
+Meant a p (right w n) l = (ntHashOf w ≡ a .nt .octets) × (l .account ≡ found a)
+Meant a p (renewal o n f) l = ntHashOf o ≡ a .nt .octets
+
+-- "Any other step may have any packet, record and buffer with which the box refuses it."
+abbrev pub Allowed : Account → Place → Move → Type 0
+Allowed a p (ours t l) = Kept (exchange p t l) × Meant a p t l
+Allowed a p (other s) = Refused (p .box) s
+
+-- ---- the claim
+
+-- what a packet draws, octet for octet, and what our peer reads of it
+abbrev pub Draws : Exchange → List ℕ → Reading → Type 0
+Draws x reply reading = (replyOf (x .outcome) ≡ reply) × (reads (x .peer) (x .reply) ≡ reading)
+
+-- a Failure that our box writes
+abbrev pub DrawsFailure : Exchange → ℕ → ℕ → ℕ → Type 0
+DrawsFailure x id e r = Draws x (failurePacket id (textOf e r 2)) (failedWith e r 2 noC)
+
+abbrev pub DrawsSuccess : Exchange → ℕ → Type 0
+DrawsSuccess x id = Draws x (successPacket id) succeeded
+
+-- "after any opening not refused and any refused steps"
+abbrev pub later : Opening → List ℕ → List Lent → Place
+later o behind ss = record { box = end nextAfter (opened o .conversation) ss; peer = start o behind .peer }
+
+-- A record "lets a password in at the first Response of a later conversation".
+abbrev pub LetsIn : Account → List ℕ → Type 0
+LetsIn a password =
+    (o : Opening) (behind name : List ℕ) (ss : List Lent) (l : Line) → opened o .refusal ≡ 0 → length (o .challenge) ≡ 8
+    → Along nextAfter Refused (opened o .conversation) ss → l .account ≡ found a → Kept (exchange (later o behind ss) (right password name) l)
+    → DrawsSuccess (exchange (later o behind ss) (right password name) l) (o .id)
+
+-- An invalid try draws 691 with R=1; the right password Success or, expired, 648; the change Success, and a record is handed out that lets the
+-- new password in. (What a reading calls for is part of it: a retry, a version 2 change.)
+abbrev pub Answered : Account → ℕ → Packet → Exchange → Type 0
+Answered a id (invalid w n) x = DrawsFailure x id 691 1
+Answered a id (right w n) x = cond (a .expired) (DrawsFailure x id 648 0) (DrawsSuccess x id)
+Answered a id (renewal o n f) x =
+    DrawsSuccess x id × (x .outcome .answer .handed .found ≡ true) × LetsIn (x .outcome .answer .handed .account) n
+
+abbrev pub Claimed : Account → Place → Move → Type 0
+Claimed a p (ours t l) = Answered a (p .peer .turn .id) t (exchange p t l)
+Claimed a p (other s) = Unit {0}
+
+-- "A single claim about the series from opening to end": the Challenge is read; each packet of our peer draws what it should; "with k invalid
+-- tries the box judges exactly k + 1 packets, or k + 2 with the record expired", and the conversation has ended; of any steps at all it judges
+-- at most r + 2.
+abbrev pub Demand3 : Type 0
+Demand3 =
+    (o : Opening) → opened o .refusal ≡ 0 → length (o .challenge) ≡ 8
+    → ((behind : List ℕ) → challengeRead o behind ≡ record { refusal = 0; id = o .id; challenge = o .challenge })
+    × ((a : Account) (k : ℕ) (behind : List ℕ) (ms : List Move)
+    → Rightful a → k ≤ retriesOf (o .retries) → collect kindsOf ms ≡ plan k (a .expired) → Along go (Allowed a) (start o behind) ms
+    → Along go (Claimed a) (start o behind) ms
+    × (total go judgedAt (start o behind) ms ≡ k + cond (a .expired) 2 1)
+    × (end go (start o behind) ms .box .phase ≡ Ended))
+    × ((ss : List Lent) → total nextAfter judged (opened o .conversation) ss ≤ retriesOf (o .retries) + 2)
