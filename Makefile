@@ -1,10 +1,15 @@
 # make test   everything: layout, the independent program, showfail's cases, and the gate `rt ci`, which proves all crates from nothing
 # make demo   a box and a peer talk: each packet as a line, with what it means
 
-.PHONY: test layout reference showfail expected
+.PHONY: test demo layout reference showfail expected
 
 test: layout reference showfail
 	rt ci
+
+# The first run proves the crates beneath, which takes some minutes.
+demo:
+	@rt check demo | tail -n 1
+	@target/bin/demo
 
 layout:
 	rt fmt --check

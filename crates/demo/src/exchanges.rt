@@ -1,0 +1,182 @@
+// The six exchanges of RFC 2433, B.1.
+use crate::lines::packet;
+use crate::lines::say;
+use crate::lines::verdict;
+use authenticator::Account;
+use authenticator::Conversation;
+use authenticator::Hash;
+use authenticator::LmChoice;
+use authenticator::Lookup;
+use authenticator::Retries;
+use peer::Turn;
+
+// Both ends: the conversation, the peer's next turn, and the record that an accepted change handed out.
+pub struct Talk {
+    pub conversation: Conversation,
+    pub turn: Turn,
+    pub handed: Lookup,
+}
+
+// The right password, `MyPw` of RFC 2433, B.2, as 16-bit characters.
+pub fn right() -> [u8; 8] {
+    *b"M\0y\0P\0w\0"
+}
+
+pub fn wrong() -> [u8; 6] {
+    *b"b\0a\0d\0"
+}
+
+pub fn new_one() -> [u8; 14] {
+    *b"M\0y\0N\0e\0w\0P\0w\0"
+}
+
+// The record of the account: its NT hash, no LM hash, and whether the password has expired.
+pub fn account(expired: bool) -> Lookup {
+    let password = right();
+    let octets = credentials::nt_hash(&password).hash;
+    Lookup {
+        found: true,
+        account: Account {
+            nt: Hash {
+                present: true,
+                octets,
+            },
+            lm: Hash {
+                present: false,
+                octets: [0; 16],
+            },
+            disabled: false,
+            hours: false,
+            nodialin: false,
+            expired,
+        },
+    }
+}
+
+// The opening: the box sends a Challenge, and the peer reads it.
+pub fn opening(id: u8, challenge: [u8; 8], retries: Retries) -> Talk {
+    let mut reply = [0u8; 17];
+    let opened = Conversation::open(id, challenge, retries, LmChoice::Silent, &mut reply);
+    let sent = octets::part_of(&reply, 0, opened.written);
+    packet(b"   <- ", sent);
+    let turn = peer::first_turn(packets::read_challenge(sent));
+    let conversation = opened.conversation;
+    let handed = account(false);
+    Talk {
+        conversation,
+        turn,
+        handed,
+    }
+}
+
+// The box takes a packet of the peer and answers, and the peer reads the answer.
+fn answered(talk: Talk, written: &[u8], lookup: Lookup) -> Talk {
+    packet(b"   -> ", written);
+    let conversation = talk.conversation;
+    let turn = talk.turn;
+    let mut reply = [0u8; 17];
+    let answer = conversation.step(written, lookup, &mut reply);
+    let sent = octets::part_of(&reply, 0, answer.written);
+    packet(b"   <- ", sent);
+    let reading = packets::read_reply(turn.id, sent);
+    let v = reading.verdict;
+    verdict(v);
+    let next = answer.next;
+    let handed = answer.handed;
+    let after = peer::next_turn(peer::sent_for(turn), reading);
+    Talk {
+        conversation: next,
+        turn: after,
+        handed,
+    }
+}
+
+// A Response that the peer writes from a password.
+pub fn response(talk: Talk, password: &[u8], lookup: Lookup) -> Talk {
+    let mut out = [0u8; 310];
+    let turn = talk.turn;
+    let written = peer::write_response(turn, password, b"BENCH\\user", &mut out);
+    answered(talk, octets::part_of(&out, 0, written.length), lookup)
+}
+
+// The change of the right password to the new one. The box decides by the record that it kept, so that none is lent.
+pub fn change(talk: Talk) -> Talk {
+    let old = right();
+    let new = new_one();
+    let filler = [0x5au8; 512];
+    let mut out = [0u8; 1118];
+    let turn = talk.turn;
+    let written = peer::write_change(turn, &old, &new, &filler, &mut out);
+    answered(talk, octets::part_of(&out, 0, written.length), nobody())
+}
+
+// No record.
+pub fn nobody() -> Lookup {
+    let mut none = account(false);
+    none.found = false;
+    none
+}
+
+fn challenge() -> [u8; 8] {
+    [0x10, 0x2d, 0xb5, 0xdf, 0x08, 0x5d, 0x30, 0x41]
+}
+
+// A Response from the right password, and one from a wrong one.
+fn rightly(talk: Talk, expired: bool) -> Talk {
+    let password = right();
+    response(talk, &password, account(expired))
+}
+
+fn wrongly(talk: Talk, expired: bool) -> Talk {
+    let password = wrong();
+    response(talk, &password, account(expired))
+}
+
+fn successful() {
+    say(b"B.1.1 Successful authentication");
+    rightly(opening(7, challenge(), Retries::Default), false);
+}
+
+fn failed() {
+    say(b"B.1.2 Failed authentication with no retry allowed");
+    wrongly(opening(7, challenge(), Retries::Count(0)), false);
+}
+
+fn retried() {
+    say(b"B.1.3 Successful authentication after retry");
+    let again = wrongly(opening(255, challenge(), Retries::Default), false);
+    rightly(again, false);
+}
+
+fn attacked() {
+    say(b"B.1.4 Failed hack attack with 3 attempts allowed");
+    let second = wrongly(opening(7, challenge(), Retries::Default), false);
+    let third = wrongly(second, false);
+    wrongly(third, false);
+}
+
+fn changed() {
+    say(b"B.1.5 Successful authentication with password change");
+    let expired = rightly(opening(7, challenge(), Retries::Default), true);
+    let after = change(expired);
+    let record = after.handed;
+    say(b"   The box hands out a new record. In a later conversation:");
+    let new = new_one();
+    response(opening(8, challenge(), Retries::Default), &new, record);
+}
+
+fn retried_and_changed() {
+    say(b"B.1.6 Successful authentication with retry and password change");
+    let again = wrongly(opening(7, challenge(), Retries::Default), true);
+    let expired = rightly(again, true);
+    change(expired);
+}
+
+pub fn all() {
+    successful();
+    failed();
+    retried();
+    attacked();
+    changed();
+    retried_and_changed();
+}
