@@ -1,6 +1,6 @@
 //! Makes the cases file, and checks the results of its lines against the values that the rules
-//! print. The text is compared with `cases.txt` where that file stands beside `Cargo.toml`;
-//! `WRITE_CASES=path cargo test --release --offline --test cases` writes it.
+//! print. The text is compared with the stored file, which both programs run;
+//! `WRITE_CASES=1 cargo test --release --offline --test cases` writes that file anew.
 
 use reference::authenticator::{Account, Phase};
 use reference::packet;
@@ -277,22 +277,23 @@ fn cases() {
     table_of_twelve(&mut sheet);
     exchanges(&mut sheet);
     damaged(&mut sheet);
-    malformed(&mut sheet);
+    octet_strings(&mut sheet);
 
     // The whole file, run afresh, gives the lines that were checked.
     let again = reference::script::run(&sheet.text);
     assert_eq!(again.lines().count(), sheet.text.lines().count());
     assert!(sheet.text.len() < 300_000, "{}", sheet.text.len());
-    if let Ok(path) = std::env::var("WRITE_CASES") {
-        std::fs::write(path, &sheet.text).unwrap();
+    let stored = concat!(
+        env!("CARGO_MANIFEST_DIR"),
+        "/../crates/vectors/data/cases.txt"
+    );
+    if std::env::var("WRITE_CASES").is_ok() {
+        std::fs::write(stored, &sheet.text).unwrap();
     }
-    let beside = concat!(env!("CARGO_MANIFEST_DIR"), "/cases.txt");
-    if let Ok(stored) = std::fs::read_to_string(beside) {
-        assert!(
-            stored == sheet.text,
-            "cases.txt is not what this test makes"
-        );
-    }
+    assert!(
+        std::fs::read_to_string(stored).unwrap() == sheet.text,
+        "cases.txt is not what this test makes"
+    );
 }
 
 fn vectors(s: &mut Sheet) {
@@ -1860,8 +1861,22 @@ fn damaged(s: &mut Sheet) {
     }
 }
 
-fn malformed(s: &mut Sheet) {
-    s.title("malformed lines");
+fn octet_strings(s: &mut Sheet) {
+    s.title("the octet strings: none, zero times, once");
+    s.is("md4 00*0", "31D6CFE0D16AE931B73C59D7E0C089C0");
+    s.is(
+        "rc4 01 00*1",
+        &hex(&reference::rc4::keystream(&[1], 0).unwrap()[..1]),
+    );
+}
+
+/// A line that is no command draws an error; the stored scripts have none.
+#[test]
+fn malformed_lines() {
+    let mut sheet = Sheet {
+        text: String::new(),
+        session: Session::new(),
+    };
     for line in [
         "unknown",
         "md4",
@@ -1907,14 +1922,8 @@ fn malformed(s: &mut Sheet) {
         " md4 00",
         "md4 00 ",
     ] {
-        s.is(line, "error");
+        sheet.is(line, "error");
     }
-    s.note("the octet strings: none, zero times, once");
-    s.is("md4 00*0", "31D6CFE0D16AE931B73C59D7E0C089C0");
-    s.is(
-        "rc4 01 00*1",
-        &hex(&reference::rc4::keystream(&[1], 0).unwrap()[..1]),
-    );
 }
 
 /// R-CHANGE-7 and O-8, O-9: values that no opening makes.

@@ -11,10 +11,10 @@ use lib.Dec.{eqb, ltb}
 use lib.ListN.{length, take}
 use Rattle.packets.specs.Frame.{headed}
 use Rattle.packets.specs.Reply.{challengePacket}
+use Rattle.packets.proofs.Writing.{taken}
 use Rattle.authenticator.specs.Conversation.{closed}
 use Rattle.authenticator.specs.Opening.{Opening, retriesOf, badRoom, openRefusal, firstConversation, openingPacket, openedBy, opened, openedBuffer}
 use Rattle.authenticator.specs.declared.Opened.{Opened}
-use Rattle.authenticator.proofs.Steps.{taken}
 
 -- the answer's number is the refusal
 pub opened-number : (o : Opening) → opened o .refusal ≡ openRefusal o

@@ -10,15 +10,13 @@ use Prim.Native.Nat.{ℕ, _≤_, _<_}
 use native.Mathlib.Omega.{arith}
 use borrow.Author.Tests.{lt-ltb, le-ltb, eq-eqb, ne-eqb, eqb-true, eqb-false, ltb-true, ltb-false}
 use lib.Dec.{eqb, ltb}
-use lib.ListN.{length, take, drop}
-use lib.Seq.{take-append-seam}
+use lib.ListN.{length}
 use Rattle.message.specs.Message.{textOf}
-use Rattle.message.proofs.Laws.{length-text}
-use Rattle.packets.specs.Frame.{octet, badFrame, headed}
+use Rattle.packets.specs.Frame.{octet, badFrame}
 use Rattle.packets.specs.Response.{responseIn, badResponseSize, badResponseFlag, responseRefusal}
 use Rattle.packets.specs.Change.{changeIn, badChangeSize, badChangeFlags, changeRefusal}
 use Rattle.packets.specs.Reply.{successPacket, failurePacket}
-use Rattle.packets.proofs.Writing.{fits, length-success, length-failure}
+use Rattle.packets.proofs.Writing.{taken}
 use Rattle.authenticator.specs.Conversation.{awaitedCode, isEnded}
 use Rattle.authenticator.specs.Opening.{badRoom}
 use Rattle.authenticator.specs.Refusal.{badCode, badId, bodyRefusal, refusalOf}
@@ -30,6 +28,7 @@ use Rattle.authenticator.specs.declared.Lookup.{Lookup}
 use Rattle.authenticator.specs.declared.Conversation.{Conversation}
 use Rattle.authenticator.specs.declared.Phase.{Phase}
 use Rattle.authenticator.specs.declared.Phase.the-variants.{Response, Change, Ended}
+use Rattle.authenticator.proofs.Written.{Fits, success-fits, failure-fits}
 
 -- ---- judged or refused
 
@@ -136,16 +135,6 @@ live-and-roomy c p b e = which (isEnded (c .phase)) (badRoom b) _ refl refl e
 
 -- ---- the reply
 
--- a reply has some octets, and 17 are enough
-abbrev pub Fits : List ℕ → Type 0
-Fits reply = (0 < length reply) × (length reply ≤ 17)
-
-pub success-fits : (id : ℕ) → Fits (successPacket id)
-success-fits id = let n = length-success id in (omega arith, omega arith)
-
-pub failure-fits : (id e r v : ℕ) → Fits (failurePacket id (textOf e r v))
-failure-fits id e r v = let n = length-failure id (textOf e r v) in let m = length-text e r v in (omega arith, omega arith)
-
 response-fits : (t : Bool) (id e r : ℕ) → Fits (cond t (successPacket id) (failurePacket id (textOf e r version)))
 response-fits true id e r = success-fits id
 response-fits false id e r = failure-fits id e r version
@@ -167,9 +156,6 @@ unfolding drawn
 drawn-fits c p l live = phase-fits (c .phase) c p l live
 
 -- a reader of what was written takes the packet
-pub taken : (packet b : List ℕ) → length packet ≤ length b → take (length packet) (headed packet b) ≡ packet
-taken packet b h = ap (take (length packet)) (fits packet b h .1) ∙ take-append-seam packet (drop (length packet) b)
-
 pub reply-of : (d : Drawn) (b : List ℕ) → length (d .reply) ≤ length b → replyOf (judgedAs d b) ≡ d .reply
 reply-of d b h = taken (d .reply) b h
 

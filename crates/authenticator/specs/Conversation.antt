@@ -7,7 +7,6 @@ use lib.ListN.{replicate}
 use Rattle.packets.specs.Next.{nextId, grown}
 use Rattle.authenticator.specs.Account.{blank}
 use Rattle.authenticator.specs.declared.Account.{Account}
-use Rattle.authenticator.specs.declared.Terms.{Terms}
 use Rattle.authenticator.specs.declared.Conversation.{Conversation}
 use Rattle.authenticator.specs.declared.Phase.{Phase}
 use Rattle.authenticator.specs.declared.Phase.the-variants.{Response, Change, Ended}

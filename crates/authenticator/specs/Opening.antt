@@ -13,7 +13,6 @@ use Rattle.authenticator.specs.declared.Retries.{Retries}
 use Rattle.authenticator.specs.declared.Retries.the-variants.{Default, Count}
 use Rattle.authenticator.specs.declared.LmChoice.{LmChoice}
 use Rattle.authenticator.specs.declared.LmChoice.the-variants.{Silent, Allowed, Disallowed}
-use Rattle.authenticator.specs.declared.Terms.{Terms}
 use Rattle.authenticator.specs.declared.Conversation.{Conversation}
 use Rattle.authenticator.specs.declared.Phase.the-variants.{Response}
 use Rattle.authenticator.specs.declared.Opened.{Opened}

@@ -102,7 +102,7 @@ impl Conversation {
     }
 
     // A change that is not refused.
-    pub fn change(self, packet: &[u8]) -> Judgement
+    pub(crate) fn change(self, packet: &[u8]) -> Judgement
         ensures { λ r. ⌜ r ≡ judgementOf (changeDrawn self (changeIn (now (packet .entry)))) ⌝ }
     {
         let hash = self.new_hash(packets::read_change(packet));

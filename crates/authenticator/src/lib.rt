@@ -12,7 +12,7 @@ ghost use Rattle.packets.specs.Frame.{headed};
 ghost use Rattle.authenticator.specs.Conversation.{awaitedCode, isEnded};
 ghost use Rattle.authenticator.specs.Refusal.{bodyRefusal, refusalOf};
 ghost use Rattle.authenticator.specs.Response.{replyFor};
-ghost use Rattle.authenticator.specs.Step.{step};
+ghost use Rattle.authenticator.specs.Step.{numberOf, step};
 ghost use Rattle.authenticator.specs.Code.{judgementIn};
 use accounts::no_record;
 use opening::is_bad_room;
@@ -196,7 +196,7 @@ impl Conversation {
 
     // One step: a packet is refused, and conversation and buffer stay as they were, or it is judged and draws a reply.
     pub fn step(self, packet: &[u8], lookup: Lookup, reply: &mut [u8]) -> Answer
-        ensures { λ r. ⌜ (r ≡ step self (now (packet .entry)) lookup (now (reply .entry)) .answer) × (now (reply .exit) ≡ step self (now (packet .entry)) lookup (now (reply .entry)) .buffer) ⌝ }
+        ensures { λ r. ⌜ (r ≡ step self (now (packet .entry)) lookup (now (reply .entry)) .answer) × (now (reply .exit) ≡ step self (now (packet .entry)) lookup (now (reply .entry)) .buffer) × (numberOf (r .kind) ≡ refusalOf self (now (packet .entry)) (now (reply .entry))) ⌝ }
     {
         let refusal = self.refusal(packet, reply);
         if refusal != 0 {

@@ -75,7 +75,7 @@ impl Conversation {
         0
     }
 
-    pub fn may_retry(self, reason: u16) -> bool
+    pub(crate) fn may_retry(self, reason: u16) -> bool
         ensures { λ r. ⌜ r ≡ mayRetry self reason ⌝ }
     {
         reason == 691 && 0 < self.retries
@@ -94,7 +94,7 @@ impl Conversation {
     }
 
     // A Response that is not refused.
-    pub fn response(self, packet: &[u8], lookup: Lookup) -> Judgement
+    pub(crate) fn response(self, packet: &[u8], lookup: Lookup) -> Judgement
         ensures { λ r. ⌜ r ≡ judgementOf (responseDrawn self lookup (responseIn (now (packet .entry)))) ⌝ }
     {
         let account = lookup.account;

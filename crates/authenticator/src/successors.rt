@@ -38,7 +38,7 @@ impl Conversation {
     }
 
     // The end.
-    pub fn to_end(self) -> Conversation
+    pub(crate) fn to_end(self) -> Conversation
         ensures { λ r. ⌜ r ≡ ended self ⌝ }
     {
         let challenge = self.challenge;
@@ -52,7 +52,7 @@ impl Conversation {
     }
 
     // Another Response is awaited; with no retries left they stay at 0.
-    pub fn to_retry(self) -> Conversation
+    pub(crate) fn to_retry(self) -> Conversation
         ensures { λ r. ⌜ r ≡ retried self ⌝ }
     {
         let challenge = self.challenge;
@@ -68,7 +68,7 @@ impl Conversation {
     }
 
     // A change is awaited, and the record is kept.
-    pub fn to_change(self, account: Account) -> Conversation
+    pub(crate) fn to_change(self, account: Account) -> Conversation
         ensures { λ r. ⌜ r ≡ keeping self account ⌝ }
     {
         let challenge = self.challenge;

@@ -1,11 +1,11 @@
 -- The buffer of the last blocks: a copy of the message's end, the octet 128, and the length in its place.
 -- Assumes nothing.
-use mathlib.Core.Path.{_≡_, refl, sym, ap, ap₂, _∙_, subst}
-use mathlib.Core.List.{List, [], _∷_, _++_, append-assoc}
-use Prim.Native.Nat.{ℕ, suc, _+_, _-_, _*_, _/_, _%_, _≤_, _<_}
+use mathlib.Core.Path.{_≡_, sym, ap, ap₂, _∙_, subst}
+use mathlib.Core.List.{List, _∷_, _++_, append-assoc}
+use Prim.Native.Nat.{ℕ, suc, _+_, _-_, _*_, _/_, _%_, _≤_}
 use native.Mathlib.Omega.{arith}
 use lib.ListN.{length, take, drop, set, replicate, length-append, length-drop, length-replicate, replicate-append-replicate}
-use lib.Seq.{set-append-seam, take-all, drop-append-le, drop-append-seam}
+use lib.Seq.{set-append-seam, take-all, drop-append-le}
 use Rattle.octets.specs.Parts.{over}
 use Rattle.octets.proofs.Parts.{over-fits, over-lent, drop-replicate}
 use Rattle.blocks.specs.Blocks.{zeros, padded, tailLength, tailOf}

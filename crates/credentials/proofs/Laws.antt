@@ -2,14 +2,14 @@
 -- Assumes nothing.
 use mathlib.Core.Path.{_≡_, refl, sym, ap, ap₂, _∙_}
 use mathlib.Core.Bool.{Bool, true, false, cond, _||_, true≢false}
-use mathlib.Core.List.{List, [], _∷_, _++_, map, append-assoc}
-use Prim.Native.Nat.{ℕ, _+_, _-_, _%_, _^_, _≤_, _<_}
+use mathlib.Core.List.{List, _++_, map, append-assoc}
+use Prim.Native.Nat.{ℕ, _+_, _-_, _%_, _≤_}
 use native.Mathlib.Nat.{mod-eq-of-lt}
 use native.Mathlib.Omega.{arith}
 use borrow.Author.Tests.{le-ltb, ne-eqb, ltb-false, eqb-false}
 use lib.Dec.{eqb, ltb}
 use lib.ListN.{length, take, drop, replicate, length-append}
-use lib.Seq.{length-take-le, take-append-le, take-all, drop-at, take-at}
+use lib.Seq.{length-take-le, take-all, drop-at, take-at}
 use Rattle.octets.specs.Parts.{part, fixed}
 use Rattle.octets.specs.Numbers.{fromLe, toLe}
 use Rattle.octets.proofs.Parts.{over-fills, length-fixed}
@@ -19,7 +19,6 @@ use Rattle.des.specs.Des.{desEncrypt}
 use Rattle.des.proofs.Sizes.{length-encrypt, length-three}
 use Rattle.rc4.specs.Rc4.{crypted}
 use Rattle.rc4.proofs.Laws.{crypted-twice, length-crypted}
-use Rattle.credentials.specs.declared.Content.{Content}
 use Rattle.credentials.specs.declared.Content.the-variants.{Over, Odd, Password}
 use Rattle.credentials.specs.declared.Opened.{Opened}
 use Rattle.credentials.specs.declared.Sealed.{Sealed}

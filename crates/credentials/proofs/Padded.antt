@@ -4,12 +4,11 @@ use mathlib.Core.Path.{_≡_, refl, sym, ap, ap₂, _∙_}
 use mathlib.Core.List.{List, [], _∷_, _++_, map, append-assoc, append-nil}
 use Prim.Native.Nat.{ℕ, suc, _+_, _-_, _≤_, _<_}
 use native.Mathlib.Omega.{arith}
-use lib.ListN.{length, take, drop, getD, set, replicate, length-append, length-replicate, take-append-drop, drop-of-length-le}
+use lib.ListN.{length, take, drop, getD, set, replicate, length-append, take-append-drop, drop-of-length-le}
 use lib.Seq.{drop-cons, take-suc-set, drop-set-lt, append-snoc, take-append-le, take-all, length-take-le}
 use Rattle.octets.specs.Parts.{part, over, overAt, fixed}
 use Rattle.octets.specs.Numbers.{toLe}
 use Rattle.octets.proofs.Parts.{length-over, over-fits, over-next, fixed-part}
-use Rattle.octets.proofs.Numbers.{length-toLe}
 use Rattle.des.specs.Des.{desEncrypt}
 use Rattle.credentials.specs.Credentials.{upper, lmKeys, plainBlock}
 

@@ -1,4 +1,4 @@
-// The message of a Failure packet (RFC 2433, section 6): what the peer reads in it, and the text that the authenticator writes.
+// The message of a Failure packet (RFC 2433, section 8): what the peer reads in it, and the text that the authenticator writes.
 ghost use mathlib.Core.Path.{_≡_};
 ghost use mathlib.Core.Bool.{cond};
 ghost use mathlib.Core.List.{map};

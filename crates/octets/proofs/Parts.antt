@@ -1,6 +1,6 @@
 -- Laws of a copy laid over a list, and of agreement.
 -- Assumes nothing.
-use mathlib.Core.Path.{_≡_, refl, sym, ap, ap₂, _∙_, subst}
+use mathlib.Core.Path.{_≡_, refl, sym, ap, ap₂, _∙_}
 use mathlib.Core.Bool.{Bool, true, false, _&&_, false≢true, and-true, and-false, and-assoc}
 use mathlib.Core.List.{List, [], _∷_, _++_, append-assoc, append-nil}
 use Prim.Native.Nat.{ℕ, zero, suc, _+_, _-_, _≤_, _<_, min}
@@ -10,7 +10,7 @@ use borrow.Author.Tests.{eq-eqb, ne-eqb, eqb-true, eqb-false, leb-true, leb-fals
 use lib.Dec.{eqb, leb}
 use lib.ListN.{length, length-append, length-drop, length-replicate, replicate, replicate-append-replicate, take, drop, getD, set, take-append-drop, drop-of-length-le}
 use lib.Seq.{drop-cons, take-suc-set, drop-set-lt, append-snoc, take-at, drop-at, take-all, drop-append-le, drop-drop, take-add, length-take-le, take-append-seam, drop-append-seam}
-use lib.Bits.{bitOr, bitXor, bitAnd, or-add-and, and-le-l, and-le-r, xor-self}
+use lib.Bits.{bitOr, bitXor, or-add-and, and-le-l, and-le-r, xor-self}
 use Rattle.octets.specs.Parts.{part, over, overAt, fixed, agrees}
 use Rattle.octets.proofs.Xor.{xor-none}
 
@@ -102,14 +102,6 @@ over-next l done xs {b} e h =
 
 pub length-fixed : (n : ℕ) (l : List ℕ) → length (fixed n l) ≡ n
 length-fixed n l = length-over l (replicate n 0) ∙ length-replicate n 0
-
-pub fixed-short : (n : ℕ) (l : List ℕ) → length l ≤ n → fixed n l ≡ l ++ replicate (n - length l) 0
-fixed-short n l h =
-    over-fits l (replicate n 0) (omega (arith, length-replicate {A = ℕ} n 0))
-    ∙ ap (λ (x : List ℕ). l ++ x) (ap (λ (k : ℕ). drop {A = ℕ} (length l) (replicate k 0)) k ∙ drop-replicate (length l) (n - length l))
-  where
-    k : n ≡ length l + (n - length l)
-    k = omega arith
 
 pub fixed-same : (n : ℕ) (l : List ℕ) → length l ≡ n → fixed n l ≡ l
 fixed-same n l e = over-fills l (replicate n 0) (omega (arith, length-replicate {A = ℕ} n 0)) ∙ ap (λ (k : ℕ). take k l) (length-replicate {A = ℕ} n 0) ∙ take-all n l (omega arith)

@@ -8,7 +8,7 @@ use native.Mathlib.Omega.{arith}
 use borrow.Author.Tests.{ltb-false, eqb-true}
 use lib.Dec.{eqb, ltb}
 use lib.ListN.{length, take}
-use Rattle.octets.specs.Parts.{part, fixed}
+use Rattle.octets.specs.Parts.{part}
 use Rattle.octets.proofs.Parts.{fixed-part, part-join}
 use Rattle.octets.proofs.Numbers.{toBe-fromBe, Octets}
 use Rattle.octets.proofs.Listed.{part-written}

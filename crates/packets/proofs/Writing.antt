@@ -7,9 +7,9 @@ use mathlib.Core.List.{List, [], _∷_, _++_, append-assoc}
 use Prim.Native.Nat.{ℕ, _+_, _≤_, _<_}
 use native.Mathlib.Nat.{zero-add}
 use native.Mathlib.Omega.{arith}
-use borrow.Author.Tests.{le-leb, lt-leb, leb-true, lt-ltb, le-ltb, ltb-false}
-use lib.Dec.{leb, ltb}
-use lib.ListN.{length, take, drop, length-append, length-drop}
+use borrow.Author.Tests.{le-leb, lt-leb, lt-ltb, le-ltb, ltb-false}
+use lib.Dec.{ltb}
+use lib.ListN.{length, take, drop, length-append}
 use lib.Seq.{take-append-seam}
 use Rattle.octets.specs.Numbers.{toBe}
 use Rattle.octets.specs.Parts.{over, overAt}
@@ -22,9 +22,6 @@ use Rattle.packets.specs.declared.Response.{Response}
 use Rattle.packets.specs.declared.Change.{Change}
 
 -- ---- lengths
-
-pub length-framed : (code id : ℕ) (d : List ℕ) → length (framed code id d) ≡ 4 + length d
-length-framed code id d = omega arith
 
 pub length-challenge : (id : ℕ) (c : List ℕ) → length (challengePacket id c) ≡ 5 + length c
 unfolding challengePacket
@@ -77,19 +74,9 @@ unfolding headed headedLength
 too-long packet out {n} e h =
     let f = lt-leb (length packet) (length out) (omega arith) in (simp f, simp f)
 
--- the buffer keeps its length
-pub length-headed : (packet out : List ℕ) → length (headed packet out) ≡ length out
-unfolding headed
-length-headed packet out = which (leb (length packet) (length out)) refl
-  where
-    which : (b : Bool) → leb (length packet) (length out) ≡ b → length (headed packet out) ≡ length out
-    which true e = simp (e, length-append, length-drop) (omega (arith, leb-true (length packet) (length out) e))
-    which false e = simp e
-
--- what a reader of the buffer's written part sees
-pub headed-packet : (packet out : List ℕ) → length packet ≤ length out → take (headedLength packet out) (headed packet out) ≡ packet
-headed-packet packet out h =
-    ap₂ take (fits packet out h .0) (fits packet out h .1) ∙ take-append-seam packet (drop (length packet) out)
+-- what a reader of the buffer's written part takes
+pub taken : (packet out : List ℕ) → length packet ≤ length out → take (length packet) (headed packet out) ≡ packet
+taken packet out h = ap (take (length packet)) (fits packet out h .1) ∙ take-append-seam packet (drop (length packet) out)
 
 -- ---- pieces
 

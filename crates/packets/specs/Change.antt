@@ -1,4 +1,4 @@
--- The Change Password packet, version 2 (RFC 2433, section 7.2): Length 1118.
+-- The Change Password packet, version 2 (RFC 2433, section 10): Length 1118.
 -- Assumes nothing: these are definitions.
 use mathlib.Core.Bool.{Bool, cond, not}
 use mathlib.Core.List.{List, [], _∷_, _++_}

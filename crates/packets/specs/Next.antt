@@ -1,4 +1,4 @@
--- What follows a Failure (RFC 2433, section 6): the identifier of the next packet, and the challenge that it answers where none is given.
+-- What follows a Failure (RFC 2433, section 8): the identifier of the next packet, and the challenge that it answers where none is given.
 -- Assumes nothing: these are definitions.
 use mathlib.Core.List.{List, [], _∷_}
 use Prim.Native.Nat.{ℕ, _+_, _%_}

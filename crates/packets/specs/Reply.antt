@@ -1,4 +1,4 @@
--- What the authenticator sends: Challenge, Success and Failure (RFC 1994, sections 4.1 and 4.2; RFC 2433, sections 4 and 6).
+-- What the authenticator sends: Challenge, Success and Failure (RFC 1994, sections 4.1 and 4.2; RFC 2433, sections 5, 7 and 8).
 -- Assumes nothing: these are definitions.
 use mathlib.Core.Bool.{Bool, cond, not, _||_}
 use mathlib.Core.List.{List, [], _∷_}

@@ -1,4 +1,4 @@
--- The Response packet (RFC 2433, section 5): size 49, LM response, NT response, flag, name.
+-- The Response packet (RFC 2433, section 6): size 49, LM response, NT response, flag, name.
 -- Assumes nothing: these are definitions.
 use mathlib.Core.Bool.{Bool, cond, not, _||_}
 use mathlib.Core.List.{List, _∷_, _++_}

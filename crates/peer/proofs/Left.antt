@@ -9,13 +9,12 @@ use Prim.Native.Nat.{ℕ, _+_, _%_, _≤_}
 use native.Mathlib.Omega.{arith}
 use borrow.Author.Tests.{ltb-false, eqb-true, not-false}
 use lib.Dec.{eqb, ltb}
-use lib.ListN.{length, take, drop}
-use lib.Seq.{take-append-seam}
+use lib.ListN.{length, take}
 use Rattle.credentials.specs.Credentials.{badNtPassword}
 use Rattle.credentials.proofs.Laws.{good-password}
 use Rattle.packets.specs.Response.{badName, responseWriteRefusal}
 use Rattle.packets.specs.Change.{changeWriteRefusal}
-use Rattle.packets.proofs.Writing.{fits, good-name}
+use Rattle.packets.proofs.Writing.{taken, good-name}
 use Rattle.peer.specs.Write.{responseFor, changeFor, writeResponseRefusal, writeChangeRefusal, Wrote, wroteBy, writeResponse, writeChange}
 use Rattle.peer.specs.declared.Turn.{Turn}
 use Rattle.peer.proofs.Found.{response-length, change-length}
@@ -36,7 +35,7 @@ number-same n packet out = which (eqb n 0) refl
 left-good : (n : ℕ) (packet out : List ℕ) → n ≡ 0 → length packet ≤ length out → left (wroteBy n packet out) ≡ packet
 left-good n packet out e h =
     ap (λ (k : ℕ). left (wroteBy k packet out)) e
-    ∙ ap (take (length packet)) (fits packet out h .1) ∙ take-append-seam packet (drop (length packet) out)
+    ∙ taken packet out h
 
 -- ---- three tests in their order, with the numbers a, b, c
 

@@ -1,6 +1,6 @@
 -- The peer's two packets, each from a turn and passwords, and when they are refused (document 01: 8, 10, 12, 9 in that order).
 -- Assumes nothing: these are definitions.
-use mathlib.Core.Bool.{Bool, cond, not, _||_}
+use mathlib.Core.Bool.{cond, not, _||_}
 use mathlib.Core.List.{List}
 use Prim.Native.Nat.{ℕ}
 use lib.Dec.{eqb}

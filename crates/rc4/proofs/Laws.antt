@@ -8,7 +8,7 @@ use native.Mathlib.Nat.{zero-add, suc-add}
 use borrow.Author.Tests.{le-leb, leb-true}
 use lib.Bits.{bitXor}
 use lib.Dec.{leb, eqb}
-use lib.ListN.{length, length-append}
+use lib.ListN.{length}
 use Rattle.octets.proofs.Xor.{xor-undo}
 use Rattle.rc4.specs.declared.State.{State}
 use Rattle.rc4.specs.declared.Keyed.{Keyed}
@@ -61,9 +61,6 @@ unfolding later
 later-add zero n w = rw zero-add
 later-add (suc m) n w = rw suc-add (later-add m n (next w))
 
-pub later-append : (w : State) (a b : List ℕ) → later (length (a ++ b)) w ≡ later (length b) (later (length a) w)
-later-append w a b = rw length-append (later-add (length a) (length b) w)
-
 pub ciphered-append : (w : State) (a b : List ℕ) → ciphered w (a ++ b) ≡ ciphered w a ++ ciphered (later (length a) w) b
 unfolding ciphered keystream xors later
 ciphered-append w [] b = refl
@@ -80,14 +77,6 @@ fits-bounds key e =
     (leb-true 1 (length key) (both .0), leb-true (length key) 256 (both .1))
 
 module _ (key : List ℕ) (h : 1 ≤ length key) (k : length key ≤ 256) where
-  pub refusal-taken : refusalOf key ≡ 0
-  unfolding refusalOf
-  refusal-taken = simp (fits key h k)
-
-  pub keyed-taken : keyed key ≡ record { refusal = 0; state = started key }
-  unfolding keyed refusalOf
-  keyed-taken = simp (fits key h k)
-
   pub crypted-taken : (d : List ℕ) → crypted key d ≡ ciphered (started key) d
   unfolding crypted
   crypted-taken d = simp (fits key h k)

@@ -22,7 +22,8 @@ use Rattle.authenticator.specs.declared.Account.{Account}
 use Rattle.authenticator.specs.declared.Lookup.{Lookup}
 use Rattle.authenticator.specs.declared.Conversation.{Conversation}
 use Rattle.authenticator.specs.declared.Phase.the-variants.{Response, Change}
-use Rattle.authenticator.proofs.Steps.{success-fits, failure-fits, roomy, refused-same, judged-none}
+use Rattle.authenticator.proofs.Steps.{roomy, refused-same, judged-none}
+use Rattle.authenticator.proofs.Written.{success-fits, failure-fits}
 use Rattle.authenticator.proofs.Judged.{again, changed, renewed-rightful}
 use Rattle.authenticator.proofs.Openings.{opened-first}
 use Rattle.authenticator.proofs.Bound.{leftIn, left-first, judged-less}

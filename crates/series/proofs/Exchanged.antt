@@ -14,7 +14,8 @@ use Rattle.authenticator.specs.Response.{Drawn}
 use Rattle.authenticator.specs.Step.{Outcome, judgedAs}
 use Rattle.authenticator.specs.Steps.{stepOn, replyOf, judged}
 use Rattle.authenticator.specs.declared.Conversation.{Conversation}
-use Rattle.authenticator.proofs.Steps.{Fits, reply-of}
+use Rattle.authenticator.proofs.Steps.{reply-of}
+use Rattle.authenticator.proofs.Written.{Fits}
 use Rattle.peer.specs.Turn.{sentFor, nextTurn}
 use Rattle.peer.specs.Write.{Wrote}
 use Rattle.peer.specs.Talk.{sending, hears}

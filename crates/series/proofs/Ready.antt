@@ -20,7 +20,7 @@ use Rattle.authenticator.specs.declared.Account.{Account}
 use Rattle.authenticator.specs.declared.Conversation.{Conversation}
 use Rattle.authenticator.specs.declared.Phase.{Phase}
 use Rattle.authenticator.specs.declared.Phase.the-variants.{Response, Change, Ended}
-use Rattle.authenticator.proofs.Steps.{Fits, success-fits, failure-fits}
+use Rattle.authenticator.proofs.Written.{Fits, success-fits, failure-fits}
 use Rattle.authenticator.proofs.Judged.{expiry, accepted}
 use Rattle.authenticator.proofs.Openings.{opened-first}
 use Rattle.peer.specs.Turn.{sentFor, nextTurn}

@@ -1,7 +1,7 @@
 -- `authenticator::body_refusal` meets its contract.
 -- Assumes nothing.
 use borrow.Author.Needs.{needs}
-use mathlib.Core.Path.{_≡_, refl, sym, ap, ap₂, _∙_}
+use mathlib.Core.Path.{sym, ap, _∙_}
 use Rattle.authenticator.specs.Refusal.{bodyRefusal}
 use Rattle.authenticator.specs.declared.Phase.{Phase}
 use Rattle.authenticator.proofs.body_refusal.Statement.{statement}

@@ -1,11 +1,9 @@
 -- `octets::digit_value` meets its contract.
 -- Assumes nothing.
-use mathlib.Core.Path.{_≡_, sym, _∙_}
-use mathlib.Core.Bool.{true, false}
-use Prim.Native.Nat.{_≤_}
+use mathlib.Core.Path.{sym, _∙_}
 use native.Mathlib.Omega.{arith}
 use borrow.Author.Needs.{needs}
-use Rattle.octets.specs.Digits.{between, digitOf}
+use Rattle.octets.specs.Digits.{digitOf}
 use Rattle.octets.proofs.Digits.{between-low}
 use Rattle.octets.proofs.digit_value.Statement.{statement}
 use Rattle.octets.proofs.digit_value.Tie as tie

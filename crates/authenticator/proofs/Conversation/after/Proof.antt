@@ -1,7 +1,7 @@
 -- `authenticator::Conversation::after` meets its contract.
 -- Assumes nothing.
 use borrow.Author.Needs.{needs}
-use mathlib.Core.Path.{_≡_, refl, sym, ap, ap₂, _∙_}
+use mathlib.Core.Path.{sym, _∙_}
 use borrow.Author.Tests.{eq-eqb, ne-eqb}
 use Rattle.authenticator.proofs.Conversation.after.Statement.{statement}
 use Rattle.authenticator.proofs.Conversation.after.Tie as tie

@@ -1,7 +1,7 @@
 -- `authenticator::Conversation::change` meets its contract.
 -- Assumes nothing.
 use borrow.Author.Needs.{needs}
-use mathlib.Core.Path.{_≡_, refl, sym, ap, ap₂, _∙_}
+use mathlib.Core.Path.{ap, _∙_}
 use Rattle.packets.specs.Change.{changeIn}
 use Rattle.packets.specs.declared.Change.{Change}
 use Rattle.authenticator.specs.Change.{newHash, changeDrawn}

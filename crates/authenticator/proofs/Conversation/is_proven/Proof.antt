@@ -1,7 +1,7 @@
 -- `authenticator::Conversation::is_proven` meets its contract.
 -- Assumes nothing.
 use borrow.Author.Needs.{needs}
-use mathlib.Core.Path.{_≡_, refl, sym, ap, ap₂, _∙_}
+use mathlib.Core.Path.{sym, ap, _∙_}
 use Rattle.octets.specs.Parts.{agrees}
 use Rattle.authenticator.proofs.Conversation.is_proven.Statement.{statement}
 use Rattle.authenticator.proofs.Conversation.is_proven.Tie as tie

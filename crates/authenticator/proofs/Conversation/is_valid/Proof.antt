@@ -1,7 +1,7 @@
 -- `authenticator::Conversation::is_valid` meets its contract.
 -- Assumes nothing.
 use borrow.Author.Needs.{needs}
-use mathlib.Core.Path.{_≡_, refl, sym, ap, ap₂, _∙_}
+use mathlib.Core.Path.{sym, _∙_}
 use Rattle.authenticator.specs.Response.{valid}
 use Rattle.authenticator.proofs.Conversation.is_valid.Statement.{statement}
 use Rattle.authenticator.proofs.Conversation.is_valid.Tie as tie

@@ -1,7 +1,7 @@
 -- `authenticator::Conversation::judge` meets its contract.
 -- Assumes nothing.
 use borrow.Author.Needs.{needs}
-use mathlib.Core.Path.{_≡_, refl, sym, ap, ap₂, _∙_}
+use mathlib.Core.Path.{sym, ap, _∙_}
 use Rattle.authenticator.specs.Code.{judgementOf}
 use Rattle.authenticator.specs.Step.{drawn, drawnIn}
 use Rattle.authenticator.specs.declared.Phase.{Phase}

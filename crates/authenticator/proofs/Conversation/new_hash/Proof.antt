@@ -1,7 +1,7 @@
 -- `authenticator::Conversation::new_hash` meets its contract.
 -- Assumes nothing.
 use borrow.Author.Needs.{needs}
-use mathlib.Core.Path.{_≡_, refl, sym, ap, ap₂, _∙_, subst}
+use mathlib.Core.Path.{sym, ap, _∙_, subst}
 use borrow.Author.Tests.{not-true, not-false}
 use Rattle.credentials.specs.Credentials.{Sound, openedAs}
 use Rattle.credentials.specs.declared.Opened.{Opened}

@@ -1,11 +1,11 @@
 -- `authenticator::Conversation::open` meets its contract.
 -- Assumes nothing.
 use borrow.Author.Needs.{needs}
-use mathlib.Core.Path.{_≡_, refl, sym, ap, ap₂, _∙_}
+use mathlib.Core.Path.{_≡_, sym, _∙_}
 use borrow.Author.Tests.{lt-ltb, le-ltb, ltb-false}
 use lib.ListN.{length}
 use Rattle.packets.specs.Reply.{challengePacket}
-use Rattle.authenticator.proofs.Written.{fits-whole, challenge-fits}
+use Rattle.authenticator.proofs.Written.{written-whole, challenge-fits}
 use Rattle.authenticator.specs.Opening.{opened, openedBuffer, openRefusal}
 use Rattle.authenticator.proofs.Conversation.open.Statement.{statement}
 use Rattle.authenticator.proofs.Conversation.open.Tie as tie
@@ -39,7 +39,7 @@ returns-3 c =
     let e = le-ltb 7 _ (rw (h .before .retries-of .ensures) at (h .if1 .left)) in
     let f = sym (k .is-bad-room .ensures) ∙ t .if2 .left in
     let written : w .write-challenge .result ≡ length (challengePacket (a .id) (a .challenge)) =
-    w .write-challenge .ensures .0 ∙ fits-whole _ _ (challenge-fits (a .id) (a .challenge) (a .reply .now) (eight (h .before .before .before)) (ltb-false _ _ f)) in
+    w .write-challenge .ensures .0 ∙ written-whole _ _ (challenge-fits (a .id) (a .challenge) (eight (h .before .before .before))) (ltb-false _ _ f) in
     (simp (e, f) (cc), simp (e, f) (w .write-challenge .ensures .1))
 
 pub open-spec : {M : Type 1} → statement M

@@ -1,7 +1,7 @@
 -- `authenticator::Conversation::reason` meets its contract.
 -- Assumes nothing.
 use borrow.Author.Needs.{needs}
-use mathlib.Core.Path.{_≡_, refl, sym, ap, ap₂, _∙_}
+use mathlib.Core.Path.{sym, _∙_}
 use borrow.Author.Tests.{not-true, not-false}
 use Rattle.authenticator.specs.Response.{reasonOf}
 use Rattle.authenticator.proofs.Conversation.reason.Statement.{statement}

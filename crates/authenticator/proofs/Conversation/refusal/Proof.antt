@@ -1,7 +1,7 @@
 -- `authenticator::Conversation::refusal` meets its contract.
 -- Assumes nothing.
 use borrow.Author.Needs.{needs}
-use mathlib.Core.Path.{_≡_, refl, sym, ap, ap₂, _∙_}
+use mathlib.Core.Path.{refl, sym, _∙_}
 use Rattle.authenticator.specs.Refusal.{refusalOf}
 use Rattle.authenticator.proofs.Cases.{bad, good, apart, same}
 use Rattle.packets.specs.Frame.{badFrame}

@@ -1,7 +1,7 @@
 -- `authenticator::Conversation::step` meets its contract.
 -- Assumes nothing.
 use borrow.Author.Needs.{needs}
-use mathlib.Core.Path.{_≡_, refl, sym, ap, ap₂, _∙_}
+use mathlib.Core.Path.{sym, ap, ap₂, _∙_}
 use mathlib.Core.List.{List}
 use Prim.Native.Nat.{ℕ}
 use lib.ListN.{length}
@@ -25,6 +25,7 @@ returns c =
       ap₂ (λ (n : ℕ) (l : Lookup). record { kind = Refused n; next = a .self; written = 0; handed = l }) (k .refusal .ensures) (c .no-record .ensures)
           ∙ sym (ap (λ (o : Outcome). o .answer) whole),
       sym (ap (λ (o : Outcome). o .buffer) whole),
+      k .refusal .ensures,
     )
 
 write-reply-requires : tie.Need-write-reply-requires
@@ -49,6 +50,7 @@ returns-2 c =
       ap₂ (λ (x : Judgement) (n : ℕ). record { kind = Judged (x .reason); next = x .next; written = n; handed = x .handed }) (j .judge .ensures) (w .write-reply .ensures .0 ∙ ap length reply)
           ∙ sym (ap (λ (o : Outcome). o .answer) whole),
       w .write-reply .ensures .1 ∙ ap (λ (r : List ℕ). headed r b) reply ∙ sym (ap (λ (o : Outcome). o .buffer) whole),
+      sym ok,
     )
 
 pub step-spec : {M : Type 1} → statement M

@@ -1,7 +1,7 @@
 -- `authenticator::accounts::is_answer` meets its contract.
 -- Assumes nothing.
 use borrow.Author.Needs.{needs}
-use mathlib.Core.Path.{_≡_, refl, sym, ap, ap₂, _∙_}
+use mathlib.Core.Path.{ap, _∙_}
 use Rattle.octets.specs.Parts.{agrees}
 use Rattle.authenticator.specs.Account.{answers}
 use Rattle.authenticator.proofs.accounts.is_answer.Statement.{statement}

@@ -1,7 +1,7 @@
 -- `authenticator::changes::hash_in` meets its contract.
 -- Assumes nothing.
 use borrow.Author.Needs.{needs}
-use mathlib.Core.Path.{_≡_, refl, sym, ap, ap₂, _∙_, subst}
+use mathlib.Core.Path.{sym, ap, _∙_, subst}
 use Rattle.credentials.specs.Credentials.{Sound, passwordIn}
 use Rattle.credentials.specs.declared.Content.{Content}
 use Rattle.authenticator.specs.Change.{hashInside}
