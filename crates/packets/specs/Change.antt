@@ -7,7 +7,7 @@ use lib.Dec.{eqb, ltb}
 use lib.ListN.{length}
 use Rattle.octets.specs.Parts.{part, fixed}
 use Rattle.octets.specs.Numbers.{fromBe, toBe}
-use Rattle.packets.specs.Frame.{octet, lengthOf, framed, headed}
+use Rattle.packets.specs.Frame.{octet, lengthOf, framed, answerBy, outBy}
 use Rattle.packets.specs.declared.Change.{Change}
 use Rattle.packets.specs.declared.Written.{Written}
 
@@ -47,8 +47,7 @@ unfoldable pub changeWriteRefusal : List ℕ → ℕ
 changeWriteRefusal out = cond (ltb (length out) 1118) 9 0
 
 unfoldable pub changeWritten : ℕ → Change → List ℕ → Written
-changeWritten id f out =
-    record { refusal = changeWriteRefusal out; length = cond (eqb (changeWriteRefusal out) 0) (length (changePacket id f)) 0 }
+changeWritten id f out = answerBy (changeWriteRefusal out) (changePacket id f)
 
 unfoldable pub changeOut : ℕ → Change → List ℕ → List ℕ
-changeOut id f out = cond (eqb (changeWriteRefusal out) 0) (headed (changePacket id f) out) out
+changeOut id f out = outBy (changeWriteRefusal out) (changePacket id f) out

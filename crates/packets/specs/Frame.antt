@@ -3,10 +3,11 @@
 use mathlib.Core.Bool.{Bool, cond, _||_}
 use mathlib.Core.List.{List, [], _∷_, _++_}
 use Prim.Native.Nat.{ℕ, _+_, _-_}
-use lib.Dec.{leb, ltb}
+use lib.Dec.{eqb, leb, ltb}
 use lib.ListN.{length, getD, drop}
 use Rattle.octets.specs.Parts.{part}
 use Rattle.octets.specs.Numbers.{fromBe, toBe}
+use Rattle.packets.specs.declared.Written.{Written}
 
 -- the octet at the place i, 0 where p does not reach it
 abbrev pub octet : ℕ → List ℕ → ℕ
@@ -36,3 +37,10 @@ headed packet out = cond (leb (length packet) (length out)) (packet ++ drop (len
 -- how many octets were written
 unfoldable pub headedLength : List ℕ → List ℕ → ℕ
 headedLength packet out = cond (leb (length packet) (length out)) (length packet) 0
+
+-- a writer's answer and its buffer afterwards, by the refusal; on refusal nothing is written
+abbrev pub answerBy : ℕ → List ℕ → Written
+answerBy n packet = record { refusal = n; length = cond (eqb n 0) (length packet) 0 }
+
+abbrev pub outBy : ℕ → List ℕ → List ℕ → List ℕ
+outBy n packet out = cond (eqb n 0) (headed packet out) out

@@ -6,7 +6,7 @@ use Prim.Native.Nat.{ℕ, _+_, _-_}
 use lib.Dec.{eqb, ltb}
 use lib.ListN.{length}
 use Rattle.octets.specs.Parts.{part, fixed}
-use Rattle.packets.specs.Frame.{octet, lengthOf, framed, headed}
+use Rattle.packets.specs.Frame.{octet, lengthOf, framed, answerBy, outBy}
 use Rattle.packets.specs.declared.Response.{Response}
 use Rattle.packets.specs.declared.Written.{Written}
 
@@ -41,10 +41,8 @@ badName name = ltb (length name) 1 || ltb 256 (length name)
 unfoldable pub responseWriteRefusal : List ℕ → List ℕ → ℕ
 responseWriteRefusal name out = cond (badName name) 10 (cond (ltb (length out) (54 + length name)) 9 0)
 
--- the writer's answer and the buffer afterwards; on refusal nothing is written
 unfoldable pub responseWritten : ℕ → Response → List ℕ → List ℕ → Written
-responseWritten id f name out =
-    record { refusal = responseWriteRefusal name out; length = cond (eqb (responseWriteRefusal name out) 0) (length (responsePacket id f name)) 0 }
+responseWritten id f name out = answerBy (responseWriteRefusal name out) (responsePacket id f name)
 
 unfoldable pub responseOut : ℕ → Response → List ℕ → List ℕ → List ℕ
-responseOut id f name out = cond (eqb (responseWriteRefusal name out) 0) (headed (responsePacket id f name) out) out
+responseOut id f name out = outBy (responseWriteRefusal name out) (responsePacket id f name) out

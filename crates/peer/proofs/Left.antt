@@ -25,13 +25,6 @@ left w = take (w .answer .length) (w .out)
 
 -- ---- by the refusal
 
-number-same : (n : ℕ) (packet out : List ℕ) → wroteBy n packet out .answer .refusal ≡ n
-number-same n packet out = which (eqb n 0) refl
-  where
-    which : (t : Bool) → eqb n 0 ≡ t → wroteBy n packet out .answer .refusal ≡ n
-    which true e = let z = eqb-true n 0 e in ap (λ (k : ℕ). wroteBy k packet out .answer .refusal) z ∙ sym z
-    which false e = rw e
-
 left-good : (n : ℕ) (packet out : List ℕ) → n ≡ 0 → length packet ≤ length out → left (wroteBy n packet out) ≡ packet
 left-good n packet out e h =
     ap (λ (k : ℕ). left (wroteBy k packet out)) e
@@ -68,7 +61,7 @@ module _ (t : Turn) (password name out : List ℕ) where
 
   response-number : wrote .answer .refusal ≡ writeResponseRefusal password name out
   unfolding writeResponse
-  response-number = number-same (writeResponseRefusal password name out) (responseFor t password name) out
+  response-number = refl
 
   -- its writer refuses with 8, 10 and 9 alone
   pub response-limits : wrote .answer .refusal ≢ 8 → wrote .answer .refusal ≢ 10 → wrote .answer .refusal ≢ 9 → wrote .answer .refusal ≡ 0
@@ -102,7 +95,7 @@ module _ (t : Turn) (old new filler out : List ℕ) where
 
   change-number : changeWrote .answer .refusal ≡ writeChangeRefusal old new filler out
   unfolding writeChange
-  change-number = number-same (writeChangeRefusal old new filler out) (changeFor t old new filler) out
+  change-number = refl
 
   -- its writer refuses with 8, 12 and 9 alone
   pub change-limits : changeWrote .answer .refusal ≢ 8 → changeWrote .answer .refusal ≢ 12 → changeWrote .answer .refusal ≢ 9

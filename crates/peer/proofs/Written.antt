@@ -4,31 +4,19 @@
 use mathlib.Core.Path.{_≡_, refl, ap, ap₂, _∙_}
 use mathlib.Core.Bool.{Bool, true, false, cond, not, _||_}
 use mathlib.Core.List.{List}
-use Prim.Native.Nat.{ℕ, zero, suc}
+use Prim.Native.Nat.{ℕ}
 use native.Mathlib.Omega.{arith}
-use borrow.Author.Tests.{ne-eqb}
 use lib.Dec.{eqb}
 use lib.ListN.{length}
 use Rattle.credentials.specs.Credentials.{badNtPassword, hashed, sealedBlock, sealedAs}
 use Rattle.credentials.specs.declared.Hashed.{Hashed}
 use Rattle.credentials.specs.declared.Sealed.{Sealed}
 use Rattle.credentials.proofs.Laws.{sealed-filler, sealed-good}
-use Rattle.packets.specs.Frame.{headed}
-use Rattle.packets.specs.Response.{responseWriteRefusal, responseWritten, responseOut}
+use Rattle.packets.specs.Response.{responseWritten, responseOut}
 use Rattle.packets.specs.Change.{changeWriteRefusal, changeWritten, changeOut}
 use Rattle.packets.specs.declared.Written.{Written}
 use Rattle.peer.specs.declared.Turn.{Turn}
 use Rattle.peer.specs.Write.{responseFields, changeFields, responseFor, changeFor, writeResponseRefusal, writeChangeRefusal, refusedBy, Wrote, wroteBy, writeResponse, writeChange}
-
--- ---- a writer's answer and its buffer, by the refusal
-
-by-answer : (n : ℕ) (packet out : List ℕ) → record { refusal = n; length = cond (eqb n 0) (length packet) 0 } ≡ wroteBy n packet out .answer
-by-answer zero packet out = refl
-by-answer (suc n) packet out = simp (ne-eqb (suc n) 0 (λ e. omega (arith, e)))
-
-by-out : (n : ℕ) (packet out : List ℕ) → cond (eqb n 0) (headed packet out) out ≡ wroteBy n packet out .out
-by-out zero packet out = refl
-by-out (suc n) packet out = simp (ne-eqb (suc n) 0 (λ e. omega (arith, e)))
 
 -- ---- a hash and a sealed password, by their refusals
 
@@ -70,8 +58,7 @@ module _ (t : Turn) (password name out : List ℕ) where
       → Leaves (writeResponse t password name out) (responseWritten (t .id) (responseFields (t .challenge) password) name out)
       (responseOut (t .id) (responseFields (t .challenge) password) name out)
   unfolding writeResponse writeResponseRefusal responseFor responseWritten responseOut
-  response-written e =
-      rw e (by-answer (responseWriteRefusal name out) (responseFor t password name) out, by-out (responseWriteRefusal name out) (responseFor t password name) out)
+  response-written e = rw e (refl, refl)
 
 -- ---- the change
 
@@ -98,6 +85,4 @@ module _ (t : Turn) (old new filler out : List ℕ) where
       → Leaves (writeChange t old new filler out) (changeWritten (t .id) (changeFields (t .challenge) old new filler) out)
       (changeOut (t .id) (changeFields (t .challenge) old new filler) out)
   unfolding changeFor changeWritten changeOut
-  change-written p q r =
-      rw (by-tests false false true p q r)
-      (by-answer (changeWriteRefusal out) (changeFor t old new filler) out, by-out (changeWriteRefusal out) (changeFor t old new filler) out)
+  change-written p q r = rw (by-tests false false true p q r) (refl, refl)

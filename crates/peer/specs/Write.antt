@@ -6,7 +6,7 @@ use Prim.Native.Nat.{ℕ}
 use lib.Dec.{eqb}
 use lib.ListN.{length, replicate}
 use Rattle.credentials.specs.Credentials.{ntHashOf, badNtPassword, responseOf, oldUnderNew, sealedBlock}
-use Rattle.packets.specs.Frame.{headed}
+use Rattle.packets.specs.Frame.{answerBy, outBy}
 use Rattle.packets.specs.Response.{responsePacket, responseWriteRefusal}
 use Rattle.packets.specs.Change.{changePacket, changeWriteRefusal}
 use Rattle.packets.specs.declared.Response.{Response}
@@ -58,16 +58,13 @@ writeChangeRefusal old new filler out =
 abbrev pub refusedBy : ℕ → Written
 refusedBy n = record { refusal = n; length = 0 }
 
--- a writer's answer and its buffer afterwards, by the refusal; on refusal nothing is written
+-- a writer's answer and its buffer afterwards
 pub record Wrote : Type 0 where
   pub answer : Written
   pub out : List ℕ
 
 abbrev pub wroteBy : ℕ → List ℕ → List ℕ → Wrote
-wroteBy n packet out =
-    cond (eqb n 0)
-    (record { answer = record { refusal = 0; length = length packet }; out = headed packet out })
-    (record { answer = refusedBy n; out = out })
+wroteBy n packet out = record { answer = answerBy n packet; out = outBy n packet out }
 
 unfoldable pub writeResponse : Turn → List ℕ → List ℕ → List ℕ → Wrote
 writeResponse t password name out = wroteBy (writeResponseRefusal password name out) (responseFor t password name) out

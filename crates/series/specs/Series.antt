@@ -14,7 +14,7 @@ use Rattle.packets.specs.Reply.{successPacket, failurePacket, readChallenge, su
 use Rattle.packets.specs.declared.Asked.{Asked}
 use Rattle.authenticator.specs.Account.{found}
 use Rattle.authenticator.specs.Opening.{Opening, retriesOf, opened, openedBuffer}
-use Rattle.authenticator.specs.Response.{valid}
+use Rattle.authenticator.specs.Response.{valid, version}
 use Rattle.authenticator.specs.Step.{Outcome, numberOf}
 use Rattle.authenticator.specs.Steps.{Lent, stepOn, nextAfter, Refused, replyOf, judged, Rightful}
 use Rattle.authenticator.specs.declared.Account.{Account}
@@ -159,7 +159,7 @@ Draws x reply reading = (replyOf (x .outcome) ≡ reply) × (reads (x .peer) (x 
 
 -- a Failure that our box writes
 abbrev pub DrawsFailure : Exchange → ℕ → ℕ → ℕ → Type 0
-DrawsFailure x id e r = Draws x (failurePacket id (textOf e r 2)) (failedWith e r 2 noC)
+DrawsFailure x id e r = Draws x (failurePacket id (textOf e r version)) (failedWith e r version noC)
 
 abbrev pub DrawsSuccess : Exchange → ℕ → Type 0
 DrawsSuccess x id = Draws x (successPacket id) succeeded
