@@ -18,20 +18,20 @@ pub struct Talk {
 }
 
 // The right password, `MyPw` of RFC 2433, B.2, as 16-bit characters.
-pub fn right() -> [u8; 8] {
+pub(crate) fn right() -> [u8; 8] {
     *b"M\0y\0P\0w\0"
 }
 
-pub fn wrong() -> [u8; 6] {
+pub(crate) fn wrong() -> [u8; 6] {
     *b"b\0a\0d\0"
 }
 
-pub fn new_one() -> [u8; 14] {
+pub(crate) fn new_one() -> [u8; 14] {
     *b"M\0y\0N\0e\0w\0P\0w\0"
 }
 
 // The record of the account: its NT hash, no LM hash, and whether the password has expired.
-pub fn account(expired: bool) -> Lookup {
+pub(crate) fn account(expired: bool) -> Lookup {
     let password = right();
     let octets = credentials::nt_hash(&password).hash;
     Lookup {
@@ -54,7 +54,7 @@ pub fn account(expired: bool) -> Lookup {
 }
 
 // The opening: the box sends a Challenge, and the peer reads it.
-pub fn opening(id: u8, challenge: [u8; 8], retries: Retries) -> Talk {
+pub(crate) fn opening(id: u8, challenge: [u8; 8], retries: Retries) -> Talk {
     let mut reply = [0u8; 17];
     let opened = Conversation::open(id, challenge, retries, LmChoice::Silent, &mut reply);
     let sent = octets::part_of(&reply, 0, opened.written);
@@ -92,7 +92,7 @@ fn answered(talk: Talk, written: &[u8], lookup: Lookup) -> Talk {
 }
 
 // A Response that the peer writes from a password.
-pub fn response(talk: Talk, password: &[u8], lookup: Lookup) -> Talk {
+pub(crate) fn response(talk: Talk, password: &[u8], lookup: Lookup) -> Talk {
     let mut out = [0u8; 310];
     let turn = talk.turn;
     let written = peer::write_response(turn, password, b"BENCH\\user", &mut out);
@@ -100,7 +100,7 @@ pub fn response(talk: Talk, password: &[u8], lookup: Lookup) -> Talk {
 }
 
 // The change of the right password to the new one. The box decides by the record that it kept, so that none is lent.
-pub fn change(talk: Talk) -> Talk {
+pub(crate) fn change(talk: Talk) -> Talk {
     let old = right();
     let new = new_one();
     let filler = [0x5au8; 512];
@@ -111,7 +111,7 @@ pub fn change(talk: Talk) -> Talk {
 }
 
 // No record.
-pub fn nobody() -> Lookup {
+pub(crate) fn nobody() -> Lookup {
     let mut none = account(false);
     none.found = false;
     none
@@ -172,7 +172,7 @@ fn retried_and_changed() {
     change(expired);
 }
 
-pub fn all() {
+pub(crate) fn all() {
     successful();
     failed();
     retried();

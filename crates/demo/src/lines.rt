@@ -3,7 +3,7 @@ use libc::STDOUT_FILENO;
 use message::Call;
 use message::Verdict;
 
-pub fn say(text: &[u8]) {
+pub(crate) fn say(text: &[u8]) {
     io::write_all(STDOUT_FILENO, text);
     io::write_all(STDOUT_FILENO, b"\n");
 }
@@ -39,7 +39,7 @@ fn kind(code: u8) -> [u8; 15] {
 }
 
 // One packet: the way it goes, its kind, its identifier, its Length, its octets; of a Failure the message as text, too.
-pub fn packet(way: &[u8], octets: &[u8]) {
+pub(crate) fn packet(way: &[u8], octets: &[u8]) {
     let name = kind(packets::octet(octets, 0));
     io::write_all(STDOUT_FILENO, way);
     io::write_all(STDOUT_FILENO, &name);
@@ -71,7 +71,7 @@ fn call(c: Call) {
 }
 
 // What the peer reads in a reply.
-pub fn verdict(v: Verdict) {
+pub(crate) fn verdict(v: Verdict) {
     match v {
         Verdict::Success => say(b"   The peer reads: welcome."),
         Verdict::Failure(f) => {

@@ -47,7 +47,7 @@ fn unknown() {
     guess_for(account(false));
 }
 
-pub fn all() {
+pub(crate) fn all() {
     carry();
     disabled();
     unknown();

@@ -61,7 +61,7 @@ fn drop_parity(line: &[u8], out: &mut [u8], at: usize) -> usize {
 }
 
 // Runs a line whose command is one of these; puts nothing for any other.
-pub fn run(line: &[u8], out: &mut [u8], at: usize) -> usize {
+pub(crate) fn run(line: &[u8], out: &mut [u8], at: usize) -> usize {
     let name = text::word(line, 0);
     if octets::agree(name, b"md4") {
         return digest(line, out, at);

@@ -24,7 +24,7 @@ fn put_c(out: &mut [u8], at: usize, c: Given) -> usize {
 }
 
 // E R C V CALL
-pub fn put_failed(out: &mut [u8], at: usize, failed: Failed, c: Given) -> usize {
+pub(crate) fn put_failed(out: &mut [u8], at: usize, failed: Failed, c: Given) -> usize {
     let call = failed.call;
     let at_r = text::put_field(out, at, failed.e);
     let at_c = text::put_field(out, at_r, failed.r);
@@ -53,7 +53,7 @@ fn failure(line: &[u8], out: &mut [u8], at: usize) -> usize {
 }
 
 // Runs a line whose command is this one; puts nothing for any other.
-pub fn run(line: &[u8], out: &mut [u8], at: usize) -> usize {
+pub(crate) fn run(line: &[u8], out: &mut [u8], at: usize) -> usize {
     if octets::agree(text::word(line, 0), b"failure") {
         return failure(line, out, at);
     }

@@ -68,7 +68,7 @@ fn old_new(line: &[u8], out: &mut [u8], at: usize) -> usize {
 }
 
 // Runs a line whose command is one of these; puts nothing for any other.
-pub fn run(line: &[u8], out: &mut [u8], at: usize) -> usize {
+pub(crate) fn run(line: &[u8], out: &mut [u8], at: usize) -> usize {
     let name = text::word(line, 0);
     if octets::agree(name, b"nthash") {
         return nt_hash(line, out, at);

@@ -19,7 +19,7 @@ fn name(line: &[u8], out: &mut [u8], at: usize) -> usize {
 }
 
 // Runs a line whose command is this one; puts nothing for any other.
-pub fn run(line: &[u8], out: &mut [u8], at: usize) -> usize {
+pub(crate) fn run(line: &[u8], out: &mut [u8], at: usize) -> usize {
     if octets::agree(text::word(line, 0), b"name") {
         return name(line, out, at);
     }

@@ -2,7 +2,7 @@
 use super::text;
 
 // INPUT DIGEST
-pub fn md4_line(line: &[u8], out: &mut [u8]) -> usize {
+pub(crate) fn md4_line(line: &[u8], out: &mut [u8]) -> usize {
     let word = text::word(line, 0);
     let mut input = [0u8; 8192];
     let n = text::decode(word, &mut input);
@@ -14,7 +14,7 @@ pub fn md4_line(line: &[u8], out: &mut [u8]) -> usize {
 }
 
 // KEY OFFSET STREAM16: of the first 8,192 octets of the keystream, 16 from the offset on.
-pub fn rc4_line(line: &[u8], out: &mut [u8]) -> usize {
+pub(crate) fn rc4_line(line: &[u8], out: &mut [u8]) -> usize {
     let word = text::word(line, 0);
     let offset = text::word(line, 1);
     let mut key = [0u8; 1024];
@@ -34,7 +34,7 @@ pub fn rc4_line(line: &[u8], out: &mut [u8]) -> usize {
 }
 
 // KEY8 PLAIN CIPHER
-pub fn des_line(line: &[u8], out: &mut [u8]) -> usize {
+pub(crate) fn des_line(line: &[u8], out: &mut [u8]) -> usize {
     let key = des::drop_parity(text::eight(line, 0));
     let cipher = des::encrypt(key, text::eight(line, 1));
     let plain = des::decrypt(key, cipher);

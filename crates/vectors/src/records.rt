@@ -42,7 +42,7 @@ fn account(line: &[u8]) -> Account {
 }
 
 // The same, or no record where there is one word only.
-pub fn lookup(line: &[u8]) -> Lookup {
+pub(crate) fn lookup(line: &[u8]) -> Lookup {
     let account = account(line);
     let found = text::word(line, 2).len() != 0;
     Lookup { found, account }
@@ -84,7 +84,7 @@ fn put_account(out: &mut [u8], at: usize, account: Account) -> usize {
 }
 
 // The same, with `-` for no record.
-pub fn put_lookup(out: &mut [u8], at: usize, lookup: Lookup) -> usize {
+pub(crate) fn put_lookup(out: &mut [u8], at: usize, lookup: Lookup) -> usize {
     if lookup.found {
         let account = lookup.account;
         return put_account(out, at, account);
@@ -112,7 +112,7 @@ fn put_lm(out: &mut [u8], at: usize, lm: bool) -> usize {
 }
 
 // ID CHALLENGE RETRIES LM PHASE KEPT
-pub fn put_conversation(out: &mut [u8], at: usize, conversation: Conversation) -> usize {
+pub(crate) fn put_conversation(out: &mut [u8], at: usize, conversation: Conversation) -> usize {
     let terms = conversation.terms;
     let challenge = conversation.challenge;
     let phase = conversation.phase;

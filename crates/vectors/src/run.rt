@@ -26,7 +26,7 @@ pub struct Session {
 }
 
 // At the start.
-pub fn new_session() -> Session {
+pub(crate) fn new_session() -> Session {
     let talk = talks::new_talk();
     Session {
         section: Section::Cases,
@@ -108,7 +108,7 @@ fn run_line(line: &[u8], session: Session) -> Session {
 }
 
 // Runs each line of a script.
-pub fn run_lines(script: &[u8], start: Session) -> Session {
+pub(crate) fn run_lines(script: &[u8], start: Session) -> Session {
     let mut session = start;
     let mut at = 0;
     while at < script.len() {

@@ -23,7 +23,7 @@ pub struct Ran {
 }
 
 // At the start: the conversation of a refused opening (there is no room for its Challenge), and no records.
-pub fn new_talk() -> Talk {
+pub(crate) fn new_talk() -> Talk {
     let mut room = [0u8; 1];
     let opened = Conversation::open(0, [0; 8], Retries::Default, LmChoice::Silent, &mut room);
     let conversation = opened.conversation;
@@ -36,7 +36,7 @@ pub fn new_talk() -> Talk {
 }
 
 // Nothing changes.
-pub fn same(at: usize, talk: Talk) -> Ran {
+pub(crate) fn same(at: usize, talk: Talk) -> Ran {
     Ran { at, talk }
 }
 
@@ -186,7 +186,7 @@ fn step(line: &[u8], talk: Talk, out: &mut [u8], at: usize) -> Ran {
 }
 
 // Runs a line whose command is one of these; puts nothing and changes nothing for any other.
-pub fn run(line: &[u8], talk: Talk, out: &mut [u8], at: usize) -> Ran {
+pub(crate) fn run(line: &[u8], talk: Talk, out: &mut [u8], at: usize) -> Ran {
     let name = text::word(line, 0);
     if octets::agree(name, b"account") {
         return same(at, lend(records::lookup(line), talk));

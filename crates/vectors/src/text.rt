@@ -6,7 +6,7 @@ ghost use Rattle.io.specs.Counts.{Counts};
 // ---- reading
 
 // The place of the first octet that is `mark`, from `at` on; the end where there is none.
-pub fn find(s: &[u8], at: usize, mark: u8) -> usize
+pub(crate) fn find(s: &[u8], at: usize, mark: u8) -> usize
     ensures { λ r. ⌜ (r ≤ length (now (s .entry))) × (at ≤ length (now (s .entry)) → at ≤ r) ⌝ }
 {
     let mut i = at;
@@ -47,12 +47,12 @@ fn word_at(line: &[u8], at: usize) -> &[u8] {
 }
 
 // Word k of a line, counted from 0; no octets where there are fewer words.
-pub fn word(line: &[u8], k: usize) -> &[u8] {
+pub(crate) fn word(line: &[u8], k: usize) -> &[u8] {
     word_at(line, place_of(line, k))
 }
 
 // The number that decimal digits make; 0 where one is none of them or there are more than nine.
-pub fn number(s: &[u8]) -> usize {
+pub(crate) fn number(s: &[u8]) -> usize {
     let mut n: usize = 0;
     let mut i = 0;
     while i < s.len() {
@@ -105,7 +105,7 @@ fn fill(value: u8, n: usize, out: &mut [u8]) -> usize
 }
 
 // The octets that a word names: `-` none, `HH*N` one octet N times, else pairs of digits. Answers how many.
-pub fn decode(word: &[u8], out: &mut [u8]) -> usize
+pub(crate) fn decode(word: &[u8], out: &mut [u8]) -> usize
     ensures { λ r. ⌜ Counts r (now (out .exit)) ⌝ }
 {
     if word.len() < 3 {
@@ -122,37 +122,37 @@ pub fn decode(word: &[u8], out: &mut [u8]) -> usize
 }
 
 // The octet that word k gives as a number.
-pub fn octet(line: &[u8], k: usize) -> u8 {
+pub(crate) fn octet(line: &[u8], k: usize) -> u8 {
     (number(word(line, k)) % 256) as u8
 }
 
 // The octets of word k, where it names a certain number of them.
 
-pub fn seven(line: &[u8], k: usize) -> [u8; 7] {
+pub(crate) fn seven(line: &[u8], k: usize) -> [u8; 7] {
     let mut octets = [0u8; 7];
     decode(word(line, k), &mut octets);
     octets
 }
 
-pub fn eight(line: &[u8], k: usize) -> [u8; 8] {
+pub(crate) fn eight(line: &[u8], k: usize) -> [u8; 8] {
     let mut octets = [0u8; 8];
     decode(word(line, k), &mut octets);
     octets
 }
 
-pub fn sixteen(line: &[u8], k: usize) -> [u8; 16] {
+pub(crate) fn sixteen(line: &[u8], k: usize) -> [u8; 16] {
     let mut octets = [0u8; 16];
     decode(word(line, k), &mut octets);
     octets
 }
 
-pub fn twenty_one(line: &[u8], k: usize) -> [u8; 21] {
+pub(crate) fn twenty_one(line: &[u8], k: usize) -> [u8; 21] {
     let mut octets = [0u8; 21];
     decode(word(line, k), &mut octets);
     octets
 }
 
-pub fn sealed(line: &[u8], k: usize) -> [u8; 516] {
+pub(crate) fn sealed(line: &[u8], k: usize) -> [u8; 516] {
     let mut octets = [0u8; 516];
     decode(word(line, k), &mut octets);
     octets
@@ -161,7 +161,7 @@ pub fn sealed(line: &[u8], k: usize) -> [u8; 516] {
 // ---- writing
 
 // Puts text at the place at of out, as much as it takes. Answers the place after it.
-pub fn put(out: &mut [u8], at: usize, text: &[u8]) -> usize {
+pub(crate) fn put(out: &mut [u8], at: usize, text: &[u8]) -> usize {
     octets::copy_at(out, at, text);
     let size = out.len();
     if at < size {
@@ -186,45 +186,51 @@ fn put_digits(out: &mut [u8], at: usize, octets: &[u8]) -> usize {
 }
 
 // The same, with `-` for no octets.
-pub fn put_hex(out: &mut [u8], at: usize, octets: &[u8]) -> usize {
+pub(crate) fn put_hex(out: &mut [u8], at: usize, octets: &[u8]) -> usize {
     if octets.len() == 0 {
         return put(out, at, b"-");
     }
     put_digits(out, at, octets)
 }
 
-pub fn put_number(out: &mut [u8], at: usize, n: u64) -> usize {
+pub(crate) fn put_number(out: &mut [u8], at: usize, n: u64) -> usize {
     let mut digits = [0u8; 20];
     let k = io::decimal(n, &mut digits);
     put(out, at, &digits[..k])
 }
 
 // A number and a space.
-pub fn put_field(out: &mut [u8], at: usize, n: u64) -> usize {
+pub(crate) fn put_field(out: &mut [u8], at: usize, n: u64) -> usize {
     let end = put_number(out, at, n);
     put(out, end, b" ")
 }
 
 // ID CHALLENGE
-pub fn put_named(out: &mut [u8], at: usize, id: u8, challenge: [u8; 8]) -> usize {
+pub(crate) fn put_named(out: &mut [u8], at: usize, id: u8, challenge: [u8; 8]) -> usize {
     let next = put_field(out, at, id as u64);
     put_hex(out, next, &challenge)
 }
 
 // WRITTEN BUFFER
-pub fn put_sized(out: &mut [u8], at: usize, written: usize, buffer: &[u8]) -> usize {
+pub(crate) fn put_sized(out: &mut [u8], at: usize, written: usize, buffer: &[u8]) -> usize {
     let next = put_field(out, at, written as u64);
     put_hex(out, next, buffer)
 }
 
 // REFUSAL WRITTEN BUFFER
-pub fn put_written(out: &mut [u8], at: usize, refusal: u8, written: usize, buffer: &[u8]) -> usize {
+pub(crate) fn put_written(
+    out: &mut [u8],
+    at: usize,
+    refusal: u8,
+    written: usize,
+    buffer: &[u8],
+) -> usize {
     let next = put_field(out, at, refusal as u64);
     put_sized(out, next, written, buffer)
 }
 
 // Puts a refusal's number, or the octets where it is 0: no refusal.
-pub fn put_outcome(out: &mut [u8], at: usize, refusal: u8, octets: &[u8]) -> usize {
+pub(crate) fn put_outcome(out: &mut [u8], at: usize, refusal: u8, octets: &[u8]) -> usize {
     if refusal == 0 {
         return put_hex(out, at, octets);
     }
@@ -233,7 +239,7 @@ pub fn put_outcome(out: &mut [u8], at: usize, refusal: u8, octets: &[u8]) -> usi
 }
 
 // A command's result: the same after ` = `.
-pub fn put_result(out: &mut [u8], at: usize, refusal: u8, octets: &[u8]) -> usize {
+pub(crate) fn put_result(out: &mut [u8], at: usize, refusal: u8, octets: &[u8]) -> usize {
     let start = put(out, at, b" = ");
     put_outcome(out, start, refusal, octets)
 }

@@ -1,0 +1,139 @@
+-- What an opening and a step hand out fits the next step: no run that the library wrote is ever answered with 100.
+-- Assumes nothing.
+use mathlib.Core.Bool.{Bool, true, false, cond, _&&_}
+use mathlib.Core.List.{List, [], _∷_}
+use mathlib.Core.Option.{Option, none, some}
+use mathlib.Core.Path.{_≡_, refl}
+use Prim.Native.Nat.{ℕ, _%_}
+use lib.Dec.{eqb}
+use lib.ListN.{length}
+use Rattle.credentials.specs.Credentials.{openedAs, passwordIn}
+use Rattle.credentials.specs.declared.Content.{Content}
+use Rattle.credentials.specs.declared.Content.the-variants.{Over, Odd, Password}
+use Rattle.credentials.specs.declared.Opened as blocks
+use Rattle.credentials.proofs.Laws.{length-nt}
+use Rattle.packets.specs.Next.{grown}
+use Rattle.packets.specs.Response.{responseIn}
+use Rattle.packets.specs.Change.{changeIn}
+use Rattle.packets.specs.declared.Change as changes
+use Rattle.authenticator.specs.Account.{blank}
+use Rattle.authenticator.specs.Conversation.{ended, retried, closed}
+use Rattle.authenticator.specs.Opening.{Opening, openRefusal, firstConversation, openingPacket, opened}
+use Rattle.authenticator.specs.Refusal.{refusalOf}
+use Rattle.authenticator.specs.Response.{Drawn, mayRetry, reasonOf, afterReason, responseDrawn}
+use Rattle.authenticator.specs.Change.{hashInside, hashIn, proves, proven, newHash, drawnBy, changeDrawn}
+use Rattle.authenticator.specs.Step.{Outcome, drawnIn, drawn, judgedAs, refusedAs, step}
+use Rattle.authenticator.specs.declared.Account.{Account}
+use Rattle.authenticator.specs.declared.Lookup.{Lookup}
+use Rattle.authenticator.specs.declared.Conversation.{Conversation}
+use Rattle.authenticator.specs.declared.Opened as openings
+use Rattle.authenticator.specs.declared.Phase.{Phase}
+use Rattle.authenticator.specs.declared.Phase.the-variants.{Response, Change, Ended}
+use Rattle.mschap.specs.Layout.{conversationRun, conversationIn, recordRun, recordIn, isConversation, isRecord}
+use Rattle.mschap.specs.Talk.{openingFor, stepOf}
+use Rattle.octets.specs.Parts.{part}
+use Rattle.mschap.proofs.RoundTrip.{SizedAccount, SizedConversation, account-sized, conversation-sized, conversation-fits, record-fits}
+
+-- ---- the successors keep the sizes
+
+blank-sized : SizedAccount blank
+blank-sized = record { nt = refl; lm = refl }
+
+length-grown : (l : List ℕ) → length (grown l) ≡ length l
+length-grown [] = refl
+length-grown (x ∷ l) = refl
+
+choice-sized : (b : Bool) {x y : Conversation} → SizedConversation x → SizedConversation y → SizedConversation (cond b x y)
+choice-sized true s t = s
+choice-sized false s t = t
+
+pub record SizedDrawn (d : Drawn) : Type 0 where
+  pub next : SizedConversation (d .next)
+  pub handed : SizedAccount (d .handed .account)
+
+module _ (c : Conversation) (s : SizedConversation c) where
+  ended-sized : SizedConversation (ended c)
+  ended-sized = record { challenge = s .challenge; kept = blank-sized }
+
+  retried-sized : SizedConversation (retried c)
+  retried-sized = record { challenge = rw length-grown (s .challenge); kept = s .kept }
+
+  after-sized : (a : Account) (e : ℕ) → SizedAccount a → SizedConversation (afterReason c a e)
+  after-sized a e t =
+      choice-sized (mayRetry c e) retried-sized (choice-sized (eqb e 648) (record { challenge = s .challenge; kept = t }) ended-sized)
+
+  -- ---- the hash of an accepted change has sixteen octets
+
+  abbrev Whole : Option (List ℕ) → Type 0
+  Whole none = Unit {0}
+  Whole (some h) = length h ≡ 16
+
+  inside-whole : (k : Content) (o : blocks.Opened) → Whole (hashInside k o)
+  inside-whole Over o = tt
+  inside-whole Odd o = tt
+  inside-whole (Password n) o = length-nt (passwordIn o n)
+
+  choice-whole : (b : Bool) (x : Option (List ℕ)) → Whole x → Whole (cond b x none)
+  choice-whole true x h = h
+  choice-whole false x h = tt
+
+  proven-whole : (f : changes.Change) (x : Option (List ℕ)) → Whole x → Whole (proven c f x)
+  proven-whole f none h = tt
+  proven-whole f (some v) h = choice-whole (proves c f v) (some v) h
+
+  new-whole : (f : changes.Change) → Whole (newHash c f)
+  unfolding newHash
+  new-whole f =
+      let o = openedAs (c .kept .nt .octets) (f .block) in
+      choice-whole (c .kept .nt .present && eqb (f .flags % 2) 1) (proven c f (hashIn o)) (proven-whole f (hashIn o) (inside-whole (o .content) o))
+
+  drawn-by-sized : (x : Option (List ℕ)) → Whole x → SizedDrawn (drawnBy c x)
+  drawn-by-sized none h = record { next = ended-sized; handed = blank-sized }
+  drawn-by-sized (some v) h = record { next = ended-sized; handed = record { nt = h; lm = refl } }
+
+  -- ---- the step
+
+  drawn-in-sized : (phase : Phase) (p : List ℕ) (l : Lookup) → SizedAccount (l .account) → SizedDrawn (drawnIn phase c p l)
+  unfolding responseDrawn changeDrawn
+  drawn-in-sized Response p l t = record { next = after-sized (l .account) (reasonOf c l (responseIn p)) t; handed = blank-sized }
+  drawn-in-sized Change p l t = drawn-by-sized (newHash c (changeIn p)) (new-whole (changeIn p))
+  drawn-in-sized Ended p l t = record { next = s; handed = blank-sized }
+
+  pub step-sized : (p : List ℕ) (l : Lookup) (b : List ℕ) → SizedAccount (l .account)
+      → SizedConversation (step c p l b .answer .next) × SizedAccount (step c p l b .answer .handed .account)
+  unfolding step drawn
+  step-sized p l b t = by (eqb (refusalOf c p b) 0)
+    where
+      by : (k : Bool) → let o = cond {A = Outcome} k (judgedAs (drawn c p l) b) (refusedAs (refusalOf c p b) c b) in
+          SizedConversation (o .answer .next) × SizedAccount (o .answer .handed .account)
+      by true = let d = drawn-in-sized (c .phase) p l t in (d .next, d .handed)
+      by false = (s, blank-sized)
+
+record-sized : (run : List ℕ) → SizedAccount (recordIn run .account)
+unfolding recordIn
+record-sized run = account-sized (part 1 38 run)
+
+pub step-fits : (conversation packet account reply : List ℕ)
+    → (isConversation (conversationRun (stepOf conversation packet account reply .answer .next)) ≡ true)
+    × (isRecord (recordRun (stepOf conversation packet account reply .answer .handed)) ≡ true)
+step-fits conversation packet account reply =
+    let t = step-sized (conversationIn conversation) (conversation-sized conversation) packet (recordIn account) reply (record-sized account) in
+    (conversation-fits (stepOf conversation packet account reply .answer .next) (t .0), record-fits (stepOf conversation packet account reply .answer .handed) (t .1))
+
+-- ---- the opening
+
+opened-sized : (o : Opening) → length (o .challenge) ≡ 8 → SizedConversation (opened o .conversation)
+unfolding opened
+opened-sized o e = by (eqb (openRefusal o) 0)
+  where
+    by : (k : Bool)
+        → SizedConversation
+        (cond {A = openings.Opened} k (record { refusal = 0; conversation = firstConversation o; written = length (openingPacket o) })
+        (record { refusal = openRefusal o; conversation = closed; written = 0 }) .conversation)
+    by true = record { challenge = e; kept = blank-sized }
+    by false = record { challenge = refl; kept = blank-sized }
+
+pub open-fits : (id retries lm : ℕ) (challenge reply : List ℕ) → length challenge ≡ 8
+    → isConversation (conversationRun (opened (openingFor id challenge retries lm reply) .conversation)) ≡ true
+open-fits id retries lm challenge reply e =
+    conversation-fits (opened (openingFor id challenge retries lm reply) .conversation) (opened-sized (openingFor id challenge retries lm reply) e)

@@ -1,0 +1,34 @@
+-- `mschap::ciphers::mschap_challenge_response` meets its contract.
+-- Assumes nothing.
+use mathlib.Core.Path.{_≡_, refl, ap₂, _∙_}
+use borrow.Author.Needs.{needs}
+use borrow.Author.Tests.{eq-eqb, ne-eqb}
+use lib.ListN.{length}
+use Rattle.credentials.specs.Credentials.{responseOf}
+use Rattle.mschap.proofs.Handing.{whole, handed-behind}
+use Rattle.mschap.proofs.ciphers.mschap_challenge_response.Statement.{statement}
+use Rattle.mschap.proofs.ciphers.mschap_challenge_response.Tie as tie
+
+returns : tie.Need-returns
+returns c = (simp (ne-eqb _ _ (c .if1 .taken)), refl)
+
+returns-2 : tie.Need-returns-2
+returns-2 c = (simp (eq-eqb _ _ (c .before .if1 .left), ne-eqb _ _ (c .if2 .taken)), refl)
+
+returns-3 : tie.Need-returns-3
+returns-3 c =
+    let k = c .before .before in
+    let r = k .before .before .before in
+    let h = r .before .before .before in
+    let a = h .before .before .before .before .before .args in
+    let n : length (r .challenge-response .result) ≡ 24 = search needs in
+    let x = r .before .before .sixteen-at .ensures ∙ whole 16 (a .hash .now) (h .before .if1 .left) in
+    let y = r .before .eight-at .ensures ∙ whole 8 (a .challenge .now) (h .if2 .left) in
+    handed-behind (a .hash .now) (a .challenge .now) (a .response .now) (h .before .if1 .left) (h .if2 .left) n (r .challenge-response .ensures ∙ ap₂ responseOf x y) (k .hand .ensures)
+
+pub mschap-challenge-response-spec : {M : Type 1} → statement M
+mschap-challenge-response-spec =
+    tie.close
+    (tie.spec
+    returns returns-2 (λ c κs. search needs) (λ c κs. search needs) (λ c κs. search needs) (λ c. search needs) (λ c κs. search needs)
+    (λ c. search needs) returns-3)

@@ -1,0 +1,11 @@
+-- `mschap::layouts::sent_in` meets its contract.
+-- Assumes nothing.
+use borrow.Author.Needs.{needs}
+use Rattle.mschap.proofs.layouts.sent_in.Statement.{statement}
+use Rattle.mschap.proofs.layouts.sent_in.Tie as tie
+
+returns : tie.Need-returns
+returns c = cc
+
+pub sent-in-spec : {M : Type 1} → statement M
+sent-in-spec = tie.close (tie.spec (λ c κs. search needs) (λ c κs. search needs) returns)

@@ -1,0 +1,28 @@
+-- What a call from C answers and leaves.
+-- Assumes nothing: these are definitions.
+use mathlib.Core.Bool.{Bool, cond}
+use mathlib.Core.List.{List}
+use Prim.Native.Nat.{ℕ}
+use lib.Dec.{eqb}
+use lib.ListN.{length}
+use Rattle.credentials.specs.Credentials.{hashed, badNtPassword, ntHashOf, badLmPassword, lmHashOf}
+use Rattle.credentials.specs.declared.Hashed.{Hashed}
+
+-- a run is lent with the size n
+abbrev pub sized : ℕ → List ℕ → Bool
+sized n run = eqb (length run) n
+
+-- the number that a call answers: 100 unless every run fits, else the refusal number (0 is none)
+abbrev pub numbered : Bool → ℕ → ℕ
+numbered fit n = cond fit n 100
+
+-- what a call that answered r leaves in a lent run: the result where r is 0, else what lay there
+abbrev pub left : ℕ → List ℕ → List ℕ → List ℕ
+left r result run = cond (eqb r 0) result run
+
+-- the hash of a password, or its refusal
+abbrev pub ntHashed : List ℕ → Hashed
+ntHashed password = hashed (badNtPassword password) (ntHashOf password)
+
+abbrev pub lmHashed : List ℕ → Hashed
+lmHashed password = hashed (badLmPassword password) (lmHashOf password)

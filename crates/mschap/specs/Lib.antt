@@ -1,0 +1,4 @@
+pub mod Call
+pub mod Layout
+pub mod Talk
+pub mod Turns

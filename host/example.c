@@ -1,0 +1,126 @@
+/*
+ * A conversation over libmschap.a, end to end: an authenticator opens it, a peer answers with a wrong password and then with the right one, whose
+ * time is up, and changes it. The first Response is made by hand with mschap_challenge_response, the others by the peer's functions.
+ *
+ *     rt staticlib mschap
+ *     gcc -Wall -Wextra -Werror -std=c99 -I host/include host/example.c target/staticlib/libmschap.a -o example
+ */
+#include <mschap.h>
+#include <stdio.h>
+#include <string.h>
+
+static void show(const char *what, const uint8_t *octets, size_t size)
+{
+    size_t i;
+    printf("%-28s", what);
+    for (i = 0; i < size; i++)
+        printf("%02x", octets[i]);
+    printf("\n");
+}
+
+/* A packet ends at its own Length. */
+static size_t length(const uint8_t *packet)
+{
+    return (size_t)packet[2] * 256 + packet[3];
+}
+
+static int failed(const char *what, uint32_t number)
+{
+    if (number == MSCHAP_OK)
+        return 0;
+    printf("%s: refused with %u\n", what, (unsigned)number);
+    return 1;
+}
+
+static void tell(const uint8_t *conversation)
+{
+    printf("%-28s%u, retries left %u\n", "awaited code", (unsigned)conversation[0], (unsigned)conversation[3]);
+}
+
+int main(void)
+{
+    /* the account: an NT hash of the password "clientPass", and an expired password */
+    static const uint8_t password[] = {'c', 0, 'l', 0, 'i', 0, 'e', 0, 'n', 0, 't', 0, 'P', 0, 'a', 0, 's', 0, 's', 0};
+    static const uint8_t renewed[] = {'n', 0, 'e', 0, 'w', 0, 'e', 0, 'r', 0};
+    static const uint8_t wrong[MSCHAP_HASH_SIZE] = {0};
+    static const uint8_t challenge[MSCHAP_CHALLENGE_SIZE] = {0x10, 0x2d, 0xb5, 0xdf, 0x08, 0x5d, 0x30, 0x41};
+    static const uint8_t name[] = {'D', 'O', 'M', '\\', 'U', 's', 'e', 'r'};
+    static const uint8_t filler[MSCHAP_FILLER_SIZE] = {0}; /* an example only: a real one is random */
+    uint8_t record[MSCHAP_RECORD_SIZE] = {0};
+    uint8_t handed[MSCHAP_RECORD_SIZE] = {0};
+    uint8_t conversation[MSCHAP_CONVERSATION_SIZE];
+    uint8_t reply[MSCHAP_REPLY_SIZE];
+    uint8_t packet[MSCHAP_CHANGE_PACKET];
+    uint8_t sent[MSCHAP_TURN_SIZE];
+    uint8_t turn[MSCHAP_TURN_SIZE];
+    uint8_t fields[MSCHAP_FIELDS_SIZE];
+    uint8_t account[256];
+    size_t size;
+
+    record[0] = 1; /* found */
+    record[1] = 1; /* an NT hash */
+    record[38] = 1; /* expired */
+    if (failed("nt_hash", mschap_nt_hash(password, sizeof password, record + 2, MSCHAP_HASH_SIZE)))
+        return 1;
+    show("NT hash", record + 2, MSCHAP_HASH_SIZE);
+
+    if (failed("open", mschap_open(7, challenge, sizeof challenge, 255, 0, conversation, sizeof conversation, reply, sizeof reply)))
+        return 1;
+    show("Challenge", reply, length(reply));
+    tell(conversation);
+    if (failed("read_challenge", mschap_read_challenge(reply, length(reply), turn, sizeof turn)))
+        return 1;
+
+    /* a Response with a wrong hash, by hand: code 2, identifier, Length, size 49, LM response 24, NT response 24, flag 1, name */
+    memset(packet, 0, 54);
+    packet[0] = 2;
+    packet[1] = turn[0];
+    packet[3] = (uint8_t)(54 + sizeof name);
+    packet[4] = 49;
+    if (failed("challenge_response", mschap_challenge_response(wrong, sizeof wrong, turn + 1, MSCHAP_CHALLENGE_SIZE, packet + 29, MSCHAP_RESPONSE_SIZE)))
+        return 1;
+    packet[53] = 1;
+    memcpy(packet + 54, name, sizeof name);
+    memcpy(sent, turn, sizeof sent);
+    show("Response, by hand", packet, length(packet));
+    size = mschap_account(packet, length(packet), account, sizeof account);
+    printf("%-28s%.*s\n", "account", (int)size, (const char *)account);
+    if (failed("step", mschap_step(conversation, sizeof conversation, packet, length(packet), record, sizeof record, reply, sizeof reply, handed, sizeof handed)))
+        return 1;
+    printf("%-28s%.*s\n", "Failure", (int)(length(reply) - 4), (const char *)reply + 4);
+    tell(conversation);
+
+    /* a retry, with the right password: it has expired */
+    if (failed("read_reply", mschap_read_reply(sent[0], reply, length(reply), fields, sizeof fields)))
+        return 1;
+    printf("%-28s%u\n", "the Failure calls for", (unsigned)fields[1]);
+    if (failed("next_turn", mschap_next_turn(sent, sizeof sent, reply, length(reply), turn, sizeof turn)))
+        return 1;
+    if (failed("write_response", mschap_write_response(turn, sizeof turn, password, sizeof password, name, sizeof name, packet, sizeof packet)))
+        return 1;
+    memcpy(sent, turn, sizeof sent);
+    show("Response", packet, length(packet));
+    if (failed("step", mschap_step(conversation, sizeof conversation, packet, length(packet), record, sizeof record, reply, sizeof reply, handed, sizeof handed)))
+        return 1;
+    printf("%-28s%.*s\n", "Failure", (int)(length(reply) - 4), (const char *)reply + 4);
+    tell(conversation);
+
+    /* a packet that is refused changes nothing */
+    printf("%-28s%u\n", "the same Response again", (unsigned)mschap_step(conversation, sizeof conversation, packet, length(packet), record, sizeof record, reply, sizeof reply, handed, sizeof handed));
+
+    /* the change */
+    if (failed("read_reply", mschap_read_reply(sent[0], reply, length(reply), fields, sizeof fields)))
+        return 1;
+    printf("%-28s%u\n", "the Failure calls for", (unsigned)fields[1]);
+    if (failed("next_turn", mschap_next_turn(sent, sizeof sent, reply, length(reply), turn, sizeof turn)))
+        return 1;
+    if (failed("write_change", mschap_write_change(turn, sizeof turn, password, sizeof password, renewed, sizeof renewed, filler, sizeof filler, packet, sizeof packet)))
+        return 1;
+    printf("%-28s%u octets\n", "change", (unsigned)length(packet));
+    if (failed("step", mschap_step(conversation, sizeof conversation, packet, length(packet), record, sizeof record, reply, sizeof reply, handed, sizeof handed)))
+        return 1;
+    show(reply[0] == 3 ? "Success" : "Failure", reply, length(reply));
+    show("the new NT hash", handed + 2, MSCHAP_HASH_SIZE);
+    tell(conversation);
+    return reply[0] == 3 ? 0 : 1;
+}

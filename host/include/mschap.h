@@ -1,0 +1,236 @@
+/*
+ * mschap.h: MS-CHAP (RFC 2433) in C, over a library whose every function is proved against its promise.
+ *
+ * LINKING
+ *   `rt staticlib mschap` writes target/staticlib/libmschap.a, for x86-64 Linux:
+ *       cc -I host/include program.c target/staticlib/libmschap.a
+ *
+ * RUNS OF OCTETS
+ *   A run is a pointer and, right behind it, its number of octets. A run that is const is only read. One that is not is read or written as said
+ *   at the function. No two runs of a call may overlap, unless both are const. A run of no octets may have any pointer.
+ *
+ * WHAT A FUNCTION RETURNS
+ *   0             done
+ *   1 to 13       refused, by the numbers below
+ *   100           MSCHAP_MISFIT: a run that has a fixed size was lent with another one, or it holds octets that no value writes (a mark that is
+ *                 neither 0 nor 1, an awaited code that is not 0, 2 or 6), or the number for LM is not one of the three
+ *   (mschap_domain and mschap_account return a size instead.)
+ *   100 comes before any refusal. On every return but 0, each run that was lent is as it was.
+ *
+ * STATE
+ *   Nothing is allocated and there is no state in the library: all that a conversation knows is in the run that the caller keeps. So calls on
+ *   different runs may be made at the same time, and a conversation may be stored and continued later. Secrets that pass through are left on
+ *   the stack; the library does not wipe them.
+ */
+#ifndef MSCHAP_H
+#define MSCHAP_H
+
+#include <stddef.h>
+#include <stdint.h>
+
+#ifdef __cplusplus
+extern "C" {
+#endif
+
+/* ---- the numbers that refuse */
+
+#define MSCHAP_OK 0
+#define MSCHAP_ENDED 1         /* the conversation has ended */
+#define MSCHAP_REPLY_ROOM 2    /* the reply buffer has under 17 octets */
+#define MSCHAP_FRAME 3         /* a packet under 4 octets, or Length under 4 or over what was lent */
+#define MSCHAP_CODE 4          /* another code than the awaited one */
+#define MSCHAP_IDENTIFIER 5    /* another identifier than the awaited one */
+#define MSCHAP_SIZE 6          /* sizes within the packet */
+#define MSCHAP_FLAGS 7         /* a flag or flags out of range */
+#define MSCHAP_INPUT 8         /* a password, key or input of a size that is not taken */
+#define MSCHAP_ROOM 9          /* too little room for the packet to be written */
+#define MSCHAP_NAME 10         /* a name that is empty or over 256 octets */
+#define MSCHAP_READING 11      /* no Challenge, Success or Failure, or one that cannot be read */
+#define MSCHAP_FILLER 12       /* a filler that has not 512 octets */
+#define MSCHAP_RETRIES 13      /* over 7 retries */
+#define MSCHAP_MISFIT 100      /* see above */
+
+/* ---- the sizes of runs */
+
+#define MSCHAP_DIGEST_SIZE 16
+#define MSCHAP_HASH_SIZE 16
+#define MSCHAP_KEY_SIZE 7
+#define MSCHAP_BLOCK_SIZE 8
+#define MSCHAP_CHALLENGE_SIZE 8
+#define MSCHAP_RESPONSE_SIZE 24
+#define MSCHAP_FILLER_SIZE 512
+#define MSCHAP_ACCOUNT_SIZE 38
+#define MSCHAP_RECORD_SIZE 39
+#define MSCHAP_CONVERSATION_SIZE 50
+#define MSCHAP_TURN_SIZE 9
+#define MSCHAP_FIELDS_SIZE 35
+#define MSCHAP_REPLY_SIZE 17          /* the longest packet of the authenticator */
+#define MSCHAP_RESPONSE_PACKET 310    /* the longest Response */
+#define MSCHAP_CHANGE_PACKET 1118     /* every change */
+
+/*
+ * ---- layouts
+ *
+ * A mark is 1 for yes and 0 for no.
+ *
+ * An account, 38 octets:
+ *    0       there is an NT hash (mark)
+ *    1 .. 16 the NT hash; of no effect where there is none
+ *   17       there is an LM hash (mark)
+ *   18 .. 33 the LM hash; of no effect where there is none
+ *   34       the account is disabled (mark)
+ *   35       the hours do not allow a logon (mark)
+ *   36       there is no permission to dial in (mark)
+ *   37       the password has expired (mark)
+ *
+ * A record, 39 octets: what the lookup of a name found.
+ *    0       an account was found (mark)
+ *    1 .. 38 the account; of no effect unless it was found, yet each mark is 0 or 1
+ *
+ * A conversation, 50 octets: written by mschap_open and mschap_step; a caller may read it.
+ *    0       the code of the packet that is awaited: 2 is a Response, 6 is a change of the password, 0 is none: it has ended
+ *    1       LM is allowed (mark)
+ *    2       the awaited identifier
+ *    3       the retries that are left
+ *    4 .. 11 the challenge in force
+ *   12 .. 49 the account that was kept, while a change is awaited
+ *
+ * A turn, and what was sent, 9 octets each: once the packet of a turn is written and sent, the turn's run is the run of what was sent.
+ *    0       the identifier
+ *    1 ..  8 the challenge
+ *
+ * What a reply says ("fields"), 35 octets; a number has its most significant octet first:
+ *    0       0 is Success, 1 is a Failure
+ *    1       what a Failure calls for: 1 is another Response, 2 is a version 2 change of the password, 3 is a version 1 change (which is not
+ *            written here), 4 is the end; 0 with Success
+ *    2 ..  9 E, the reason; 0 with Success
+ *   10 .. 17 R
+ *   18 .. 25 V
+ *   26       a challenge C was given (mark)
+ *   27 .. 34 C, or octets 0
+ */
+
+/* ---- ciphers, hashes and the challenge response */
+
+/* The MD4 digest (RFC 1320) of at most 4,096 octets, into digest (16).
+   Returns 0; 8 for more octets; 100 where digest has not 16 octets. */
+uint32_t mschap_md4(const uint8_t *input, size_t input_size,
+                    uint8_t *digest, size_t digest_size);
+
+/* RC4 over octets in place, from the start of the stream of a key of 1 to 256 octets.
+   Returns 0; 8 for another key. */
+uint32_t mschap_rc4(const uint8_t *key, size_t key_size,
+                    uint8_t *octets, size_t octets_size);
+
+/* DES of a block (8) under a key of 56 bits (7 octets, without parity), into out (8).
+   Returns 0; 100 for another size. */
+uint32_t mschap_des_encrypt(const uint8_t *key, size_t key_size,
+                            const uint8_t *block, size_t block_size,
+                            uint8_t *out, size_t out_size);
+
+/* The block (8) that mschap_des_encrypt makes into block under the same key (7), into out (8).
+   Returns 0; 100 for another size. */
+uint32_t mschap_des_decrypt(const uint8_t *key, size_t key_size,
+                            const uint8_t *block, size_t block_size,
+                            uint8_t *out, size_t out_size);
+
+/* NtPasswordHash() of RFC 2433, A.6, into hash (16): password is in 16-bit characters, the least significant octet first, with no terminator.
+   Returns 0; 8 for an odd number of octets or over 512; 100 where hash has not 16 octets. */
+uint32_t mschap_nt_hash(const uint8_t *password, size_t password_size,
+                        uint8_t *hash, size_t hash_size);
+
+/* LmPasswordHash() of RFC 2433, A.2, into hash (16): a to z count as A to Z, and no other octet is changed.
+   Returns 0; 8 for over 14 octets; 100 where hash has not 16 octets. */
+uint32_t mschap_lm_hash(const uint8_t *password, size_t password_size,
+                        uint8_t *hash, size_t hash_size);
+
+/* ChallengeResponse() of RFC 2433, A.7: the response of a hash (16) to a challenge (8), into response (24).
+   Returns 0; 100 for another size. */
+uint32_t mschap_challenge_response(const uint8_t *hash, size_t hash_size,
+                                   const uint8_t *challenge, size_t challenge_size,
+                                   uint8_t *response, size_t response_size);
+
+/* ---- the authenticator */
+
+/* Opens a conversation. identifier and challenge (8) are the caller's; a challenge is to be one that nobody can foretell. retries is how often
+   a wrong password may be tried again, 0 to 7, or 255 for the default, 2. lm is 1 where a response by LM is allowed, 0 where it is not, or 255
+   for the default, allowed. Writes the conversation (50) and, at the front of reply (17 or more), the Challenge to be sent. The packet's size
+   is its own Length field: reply[2] * 256 + reply[3]; what lay behind it stays.
+   Returns 0; 13 for over 7 retries; 2 where reply has under 17 octets; 100 for another size of challenge or conversation, or another lm. */
+uint32_t mschap_open(uint8_t identifier,
+                     const uint8_t *challenge, size_t challenge_size,
+                     uint8_t retries, uint8_t lm,
+                     uint8_t *conversation, size_t conversation_size,
+                     uint8_t *reply, size_t reply_size);
+
+/* One step of a conversation (50): packet was received, and record (39) is what the lookup of its name found (mschap_account and mschap_domain
+   tell the name). While a change is awaited record is ignored, yet it must be one: 39 octets 0 will do. Writes the next conversation over this
+   one; at the front of reply (17 or more) the Success or Failure to be sent, whose size is its own Length field, reply[2] * 256 + reply[3]; and
+   into handed (39) the record after an accepted change of the password, to be stored by the caller, or else one that is not found.
+   Returns 0 where the packet is judged, for better or worse: reply tells the verdict; reply[0] is 3 for Success and 4 for Failure. Returns 1
+   to 7 where the packet is refused, in that order: no reply is sent and the conversation goes on as if it had not come. Returns 100 for
+   another size of conversation, record or handed, or octets in the first two that no value writes. */
+uint32_t mschap_step(uint8_t *conversation, size_t conversation_size,
+                     const uint8_t *packet, size_t packet_size,
+                     const uint8_t *record, size_t record_size,
+                     uint8_t *reply, size_t reply_size,
+                     uint8_t *handed, size_t handed_size);
+
+/* The domain in the name of a Response: what stands before its first backslash or, where it has none, home; nothing for a packet that is
+   refused as a Response. Written at the front of out where out has the room; else out is as it was.
+   Returns how many octets the domain has. */
+size_t mschap_domain(const uint8_t *packet, size_t packet_size,
+                     const uint8_t *home, size_t home_size,
+                     uint8_t *out, size_t out_size);
+
+/* The account in the name of a Response: what stands behind its first backslash or, where it has none, the whole name; nothing for a packet
+   that is refused as a Response. Written at the front of out where out has the room (256 octets are always enough); else out is as it was.
+   Returns how many octets the account has. */
+size_t mschap_account(const uint8_t *packet, size_t packet_size,
+                      uint8_t *out, size_t out_size);
+
+/* ---- the peer */
+
+/* Reads a Challenge, and writes the turn (9) that it asks for: a Response with its identifier to its challenge.
+   Returns 0; 3 for a bad frame; 11 for another kind of packet, one that is cut short, or a challenge that has not 8 octets; 100 where turn has
+   not 9 octets. */
+uint32_t mschap_read_challenge(const uint8_t *packet, size_t packet_size,
+                               uint8_t *turn, size_t turn_size);
+
+/* Reads the reply to the packet that was sent last, which had the identifier last: a Success or a Failure. Writes what it says into fields (35).
+   Returns 0; 3 for a bad frame; 5 for another identifier; 11 for another kind of packet, or a message that cannot be read; 100 where fields has
+   not 35 octets. */
+uint32_t mschap_read_reply(uint8_t last,
+                           const uint8_t *packet, size_t packet_size,
+                           uint8_t *fields, size_t fields_size);
+
+/* Reads the same reply, and writes the turn (9) after what was sent (9): the identifier and the challenge of the next packet. A packet is to be
+   sent only where mschap_read_reply tells a call of 1 (mschap_write_response) or 2 (mschap_write_change); else the turn is that of the last
+   packet. What was sent is left alone, so that a reply that comes twice may be read twice.
+   Returns 0, 3, 5 or 11 as mschap_read_reply; 100 where sent or turn has not 9 octets. */
+uint32_t mschap_next_turn(const uint8_t *sent, size_t sent_size,
+                          const uint8_t *packet, size_t packet_size,
+                          uint8_t *turn, size_t turn_size);
+
+/* Writes the Response of a turn (9) by an NT password, with a name of 1 to 256 octets, at the front of out. The packet has 54 octets more than
+   its name; what lay behind it stays.
+   Returns 0; 8 for the password (as mschap_nt_hash); 10 for the name; 9 for too little room; 100 where turn has not 9 octets. */
+uint32_t mschap_write_response(const uint8_t *turn, size_t turn_size,
+                               const uint8_t *password, size_t password_size,
+                               const uint8_t *name, size_t name_size,
+                               uint8_t *out, size_t out_size);
+
+/* Writes the version 2 change of a turn (9) from an old to a new NT password, at the front of out: 1,118 octets. filler (512) fills the block
+   that hides the new password's length, and is to be octets that nobody can foretell.
+   Returns 0; 8 for either password; 12 for a filler of another size; 9 for too little room; 100 where turn has not 9 octets. */
+uint32_t mschap_write_change(const uint8_t *turn, size_t turn_size,
+                             const uint8_t *old_password, size_t old_password_size,
+                             const uint8_t *new_password, size_t new_password_size,
+                             const uint8_t *filler, size_t filler_size,
+                             uint8_t *out, size_t out_size);
+
+#ifdef __cplusplus
+}
+#endif
+
+#endif
