@@ -1,10 +1,12 @@
-# make test   everything: layout, the independent program, showfail's cases, and the gate `rt ci`, which proves all crates from nothing
+# make test   everything: layout, the independent program, showfail's cases, the gate `rt ci`, which proves all crates from nothing, and the
+#             library as C and Rust link it
 # make demo   a box and a peer talk: each packet as a line, with what it means
+# make bench  times of the library, next to OpenSSL's where its headers are installed
 
-.PHONY: test demo layout reference showfail expected
+.PHONY: test demo bench layout reference showfail host expected
 
 test: layout reference showfail
-	rt ci
+	sh tests/gate.sh
 
 # The first run proves the crates beneath, which takes some minutes.
 demo:
@@ -23,6 +25,16 @@ reference:
 showfail:
 	rt check showfail
 	sh tests/showfail.sh target/bin/showfail
+
+# The archive for C: the example, and through the Rust wrapper the comparison with the independent program.
+host:
+	rt staticlib mschap
+	sh tests/host.sh
+	cargo test --quiet --release --offline --manifest-path host/rust/Cargo.toml
+
+bench:
+	rt staticlib mschap
+	sh tests/bench.sh target/staticlib/libmschap.a
 
 # Makes the expected output of `vectors` anew, by the independent program alone.
 expected:

@@ -1,0 +1,457 @@
+/*
+ * How long the library takes, next to OpenSSL's libcrypto where its headers are installed (HAVE_OPENSSL): medians of interleaved batches.
+ * Exit status 1 where the two do not give the same octets, or a packet is not judged as it should be. tests/bench.sh compiles and runs it.
+ */
+#define _XOPEN_SOURCE 700 /* clock_gettime and ucontext, which C11 alone hides */
+
+#include <mschap.h>
+#include <stdio.h>
+#include <stdlib.h>
+#include <string.h>
+#include <time.h>
+#include <ucontext.h>
+
+#ifdef HAVE_OPENSSL
+#include <openssl/crypto.h>
+#include <openssl/des.h>
+#include <openssl/md4.h>
+#include <openssl/rc4.h>
+#endif
+
+#define ROUNDS 201
+#define BATCH_NS 2.5e5 /* well under the slice of a scheduler: few batches are broken into, and the median leaves those out */
+#define CHAINED 100 /* calls in a row for the comparison of octets */
+#define LONGEST 4096
+#define STREAM 516
+#define PASSWORD 20
+#define STACK 1048576
+
+/* What a batch works on. Every call takes its input from the output of the call before: so none can be dropped, no two can overlap, and one
+   wrong octet shows in all that follows. */
+struct work {
+    uint8_t octets[LONGEST];
+    uint8_t key[16];
+    uint8_t challenge[8];
+    uint32_t wrong; /* not 0 once a call was refused or a verdict was not Success */
+};
+
+/* The two packets to be judged, each with the conversation that awaits it. */
+struct judged {
+    uint8_t conversation[MSCHAP_CONVERSATION_SIZE];
+    uint8_t packet[MSCHAP_CHANGE_PACKET];
+    size_t size;
+    uint8_t record[MSCHAP_RECORD_SIZE];
+    uint8_t reply[MSCHAP_REPLY_SIZE];
+    uint8_t handed[MSCHAP_RECORD_SIZE];
+};
+
+static struct judged response, change;
+
+typedef void batch(struct work *w, long calls);
+
+/* ---- ours */
+
+static void our_md4(struct work *w, long calls)
+{
+    uint8_t digest[16];
+    while (calls-- > 0) {
+        w->wrong |= mschap_md4(w->octets, LONGEST, digest, sizeof digest);
+        memcpy(w->octets, digest, sizeof digest);
+    }
+}
+
+static void our_des(struct work *w, long calls)
+{
+    uint8_t out[8];
+    while (calls-- > 0) {
+        w->wrong |= mschap_des_encrypt(w->key, 7, w->challenge, 8, out, sizeof out);
+        memcpy(w->key, out + 1, 7);
+        memcpy(w->challenge, out, 8);
+    }
+}
+
+static void our_rc4(struct work *w, long calls)
+{
+    while (calls-- > 0) {
+        w->wrong |= mschap_rc4(w->key, sizeof w->key, w->octets, STREAM);
+        memcpy(w->key, w->octets, sizeof w->key);
+    }
+}
+
+static void our_answer(struct work *w, long calls)
+{
+    uint8_t out[24];
+    while (calls-- > 0) {
+        w->wrong |= mschap_challenge_response(w->key, sizeof w->key, w->challenge, 8, out, sizeof out);
+        memcpy(w->key, out, 16);
+        memcpy(w->challenge, out + 16, 8);
+    }
+}
+
+static void our_hash_and_answer(struct work *w, long calls)
+{
+    uint8_t hash[16], out[24];
+    while (calls-- > 0) {
+        w->wrong |= mschap_nt_hash(w->octets, PASSWORD, hash, sizeof hash);
+        w->wrong |= mschap_challenge_response(hash, sizeof hash, w->challenge, 8, out, sizeof out);
+        memcpy(w->octets, out, 16);
+        memcpy(w->challenge, out + 16, 8);
+    }
+}
+
+/* A judged packet ends or changes its conversation, so each call starts from a copy. The identifier is the reply's plus 1: it is the one part of
+   the input that may follow the output while the verdict stays Success. */
+static void judge(struct judged *j, struct work *w, long calls)
+{
+    uint8_t conversation[MSCHAP_CONVERSATION_SIZE];
+    while (calls-- > 0) {
+        memcpy(conversation, j->conversation, sizeof conversation);
+        conversation[2] = j->packet[1] = (uint8_t)(j->reply[1] + 1);
+        w->wrong |= mschap_step(conversation, sizeof conversation, j->packet, j->size, j->record, sizeof j->record,
+                                j->reply, sizeof j->reply, j->handed, sizeof j->handed);
+        w->wrong |= j->reply[0] != 3;
+    }
+}
+
+static void our_response(struct work *w, long calls)
+{
+    judge(&response, w, calls);
+}
+
+static void our_change(struct work *w, long calls)
+{
+    judge(&change, w, calls);
+}
+
+/* ---- OpenSSL's */
+
+#ifdef HAVE_OPENSSL
+
+static void their_md4(struct work *w, long calls)
+{
+    uint8_t digest[16];
+    while (calls-- > 0) {
+        MD4(w->octets, LONGEST, digest);
+        memcpy(w->octets, digest, sizeof digest);
+    }
+}
+
+/* libcrypto takes a key of 8 octets, with a parity bit in each that it ignores: spreading the 7 is part of what a caller pays. */
+static void their_block(const uint8_t *key, uint8_t *block, uint8_t *out)
+{
+    DES_cblock spread;
+    DES_key_schedule schedule;
+    spread[0] = key[0];
+    for (int i = 1; i < 7; i++)
+        spread[i] = (uint8_t)(key[i - 1] << (8 - i) | key[i] >> i);
+    spread[7] = (uint8_t)(key[6] << 1);
+    DES_set_key_unchecked(&spread, &schedule);
+    DES_ecb_encrypt((const_DES_cblock *)block, (DES_cblock *)out, &schedule, DES_ENCRYPT);
+}
+
+static void their_des(struct work *w, long calls)
+{
+    uint8_t out[8];
+    while (calls-- > 0) {
+        their_block(w->key, w->challenge, out);
+        memcpy(w->key, out + 1, 7);
+        memcpy(w->challenge, out, 8);
+    }
+}
+
+static void their_rc4(struct work *w, long calls)
+{
+    RC4_KEY stream;
+    while (calls-- > 0) {
+        RC4_set_key(&stream, sizeof w->key, w->key);
+        RC4(&stream, STREAM, w->octets, w->octets);
+        memcpy(w->key, w->octets, sizeof w->key);
+    }
+}
+
+static void their_three(const uint8_t *hash, uint8_t *challenge, uint8_t *out)
+{
+    uint8_t keys[21] = {0};
+    memcpy(keys, hash, 16);
+    for (int i = 0; i < 3; i++)
+        their_block(keys + 7 * i, challenge, out + 8 * i);
+}
+
+static void their_answer(struct work *w, long calls)
+{
+    uint8_t out[24];
+    while (calls-- > 0) {
+        their_three(w->key, w->challenge, out);
+        memcpy(w->key, out, 16);
+        memcpy(w->challenge, out + 16, 8);
+    }
+}
+
+static void their_hash_and_answer(struct work *w, long calls)
+{
+    uint8_t hash[16], out[24];
+    while (calls-- > 0) {
+        MD4(w->octets, PASSWORD, hash);
+        their_three(hash, w->challenge, out);
+        memcpy(w->octets, out, 16);
+        memcpy(w->challenge, out + 16, 8);
+    }
+}
+
+#define THEIRS(function) function
+#else
+#define THEIRS(function) NULL
+#endif
+
+/* ---- what is measured */
+
+#define OURS 0
+#define OPENSSL 1
+
+static struct line {
+    const char *what;
+    batch *run[2]; /* NULL where OpenSSL has no such thing */
+    long calls[2];
+    double ns[2][ROUNDS];
+} lines[] = {
+    {.what = "MD4 of 4,096 octets", .run = {our_md4, THEIRS(their_md4)}},
+    {.what = "DES block, fresh key", .run = {our_des, THEIRS(their_des)}},
+    {.what = "RC4 key and 516 octets", .run = {our_rc4, THEIRS(their_rc4)}},
+    {.what = "challenge response", .run = {our_answer, THEIRS(their_answer)}},
+    {.what = "NT hash, challenge response", .run = {our_hash_and_answer, THEIRS(their_hash_and_answer)}},
+    {.what = "judged Response", .run = {our_response, NULL}},
+    {.what = "judged change", .run = {our_change, NULL}},
+};
+
+#define LINES (sizeof lines / sizeof lines[0])
+#define ANSWER 3
+#define HASH_AND_ANSWER 4
+#define RESPONSE 5
+
+static void begin(struct work *w)
+{
+    uint32_t x = 2433;
+    memset(w, 0, sizeof *w);
+    for (size_t i = 0; i < LONGEST; i++) {
+        x = x * 1664525 + 1013904223;
+        w->octets[i] = (uint8_t)(x >> 24);
+    }
+    memcpy(w->key, w->octets + 1000, sizeof w->key);
+    memcpy(w->challenge, w->octets + 2000, sizeof w->challenge);
+}
+
+static double now_ns(void)
+{
+    struct timespec t;
+    clock_gettime(CLOCK_MONOTONIC, &t);
+    return (double)t.tv_sec * 1e9 + (double)t.tv_nsec;
+}
+
+static double timed(batch *run, struct work *w, long calls)
+{
+    double start = now_ns();
+    run(w, calls);
+    return now_ns() - start;
+}
+
+/* Calls that make a batch of about BATCH_NS; finding them warms the caches as well. */
+static long sized(batch *run, struct work *w)
+{
+    long calls = 1;
+    double ns;
+    while ((ns = timed(run, w, calls)) < BATCH_NS / 2)
+        calls *= 2;
+    calls = (long)((double)calls * BATCH_NS / ns);
+    return calls > 0 ? calls : 1;
+}
+
+static int ascending(const void *a, const void *b)
+{
+    double x = *(const double *)a, y = *(const double *)b;
+    return (x > y) - (x < y);
+}
+
+static double median(double *ns)
+{
+    qsort(ns, ROUNDS, sizeof *ns, ascending);
+    return ns[ROUNDS / 2];
+}
+
+/* A conversation up to each of the two packets, by the library's own peer. Returns 0 where both could be made. */
+static uint32_t prepare(const struct work *w)
+{
+    static const uint8_t password[PASSWORD] = {'c', 0, 'l', 0, 'i', 0, 'e', 0, 'n', 0, 't', 0, 'P', 0, 'a', 0, 's', 0, 's', 0};
+    static const uint8_t renewed[] = {'n', 0, 'e', 0, 'w', 0, 'e', 0, 'r', 0};
+    static const uint8_t name[] = {'D', 'O', 'M', '\\', 'U', 's', 'e', 'r'};
+    uint8_t sent[MSCHAP_TURN_SIZE], turn[MSCHAP_TURN_SIZE];
+    uint32_t wrong = 0;
+
+    response.record[0] = response.record[1] = 1; /* found, with an NT hash */
+    wrong |= mschap_nt_hash(password, sizeof password, response.record + 2, MSCHAP_HASH_SIZE);
+    wrong |= mschap_open(7, w->challenge, 8, 255, 0, response.conversation, sizeof response.conversation, response.reply, sizeof response.reply);
+    wrong |= mschap_read_challenge(response.reply, sizeof response.reply, sent, sizeof sent);
+    wrong |= mschap_write_response(sent, sizeof sent, password, sizeof password, name, sizeof name, response.packet, sizeof response.packet);
+    response.size = 54 + sizeof name;
+
+    /* the same Response where the password has expired: then a change is awaited */
+    change = response;
+    change.record[38] = 1;
+    wrong |= mschap_step(change.conversation, sizeof change.conversation, response.packet, response.size, change.record, sizeof change.record,
+                         change.reply, sizeof change.reply, change.handed, sizeof change.handed);
+    wrong |= change.conversation[0] != 6;
+    wrong |= mschap_next_turn(sent, sizeof sent, change.reply, sizeof change.reply, turn, sizeof turn);
+    wrong |= mschap_write_change(turn, sizeof turn, password, sizeof password, renewed, sizeof renewed, w->octets, MSCHAP_FILLER_SIZE,
+                                 change.packet, sizeof change.packet);
+    change.size = sizeof change.packet;
+    return wrong;
+}
+
+/* ---- the stack of a step: the step is run on a stack of its own, which was painted; what is no longer paint was touched */
+
+typedef uint32_t step(uint8_t *, size_t, const uint8_t *, size_t, const uint8_t *, size_t, uint8_t *, size_t, uint8_t *, size_t);
+
+static uint8_t stack[STACK];
+static ucontext_t here, there;
+static step *volatile stepped;
+static struct judged stepped_on;
+
+/* Takes what a step takes and uses no stack: what it leaves touched is the caller's share. */
+static uint32_t no_step(uint8_t *a, size_t b, const uint8_t *c, size_t d, const uint8_t *e, size_t f, uint8_t *g, size_t h, uint8_t *i, size_t j)
+{
+    (void)a, (void)b, (void)c, (void)d, (void)e, (void)f, (void)g, (void)h, (void)i, (void)j;
+    return 0;
+}
+
+static void on_the_stack(void)
+{
+    struct judged *j = &stepped_on;
+    stepped(j->conversation, sizeof j->conversation, j->packet, j->size, j->record, sizeof j->record, j->reply, sizeof j->reply, j->handed,
+            sizeof j->handed);
+}
+
+/* Apart from the counting, since getcontext may return twice and a local might then be lost. */
+static void visit(void)
+{
+    getcontext(&there);
+    there.uc_stack.ss_sp = stack;
+    there.uc_stack.ss_size = sizeof stack;
+    there.uc_link = &here;
+    makecontext(&there, on_the_stack, 0);
+    swapcontext(&here, &there);
+}
+
+static size_t touched(step *function, const struct judged *j)
+{
+    /* two paints, since a step may happen to write one of them */
+    static const uint8_t paints[] = {0x5a, 0xa5};
+    size_t most = 0;
+    for (int p = 0; p < 2; p++) {
+        size_t clean = 0;
+        memset(stack, paints[p], sizeof stack);
+        stepped_on = *j;
+        stepped = function;
+        visit();
+        while (clean < sizeof stack && stack[clean] == paints[p])
+            clean++;
+        if (sizeof stack - clean > most)
+            most = sizeof stack - clean;
+    }
+    return most;
+}
+
+/* What the step touches below its return address; 0 where its verdict was not Success, for then less may have been run. */
+static size_t stack_of(struct judged *j)
+{
+    size_t with, without;
+    j->packet[1] = j->conversation[2];
+    j->reply[0] = 0;
+    with = touched(mschap_step, j);
+    if (stepped_on.reply[0] != 3)
+        return 0;
+    without = touched(no_step, j);
+    return with - without;
+}
+
+int main(void)
+{
+    static struct work ours, theirs;
+    struct work *works[2] = {&ours, &theirs};
+    double ns[LINES][2];
+    size_t of_change, of_response;
+    uint32_t x = 1320;
+
+    begin(&ours);
+    if (prepare(&ours)) {
+        printf("the packets to be judged could not be made\n");
+        return 1;
+    }
+
+    for (size_t i = 0; i < LINES; i++) {
+        begin(&ours);
+        lines[i].run[OURS](&ours, CHAINED);
+        if (ours.wrong) {
+            printf("%s: refused, or not judged a Success\n", lines[i].what);
+            return 1;
+        }
+        if (lines[i].run[OPENSSL]) {
+            begin(&theirs);
+            lines[i].run[OPENSSL](&theirs, CHAINED);
+            if (memcmp(&ours, &theirs, sizeof ours)) {
+                printf("%s: ours and OpenSSL's are not the same octets\n", lines[i].what);
+                return 1;
+            }
+        }
+    }
+
+    for (size_t i = 0; i < LINES; i++)
+        for (int side = 0; side < 2; side++)
+            if (lines[i].run[side])
+                lines[i].calls[side] = sized(lines[i].run[side], works[side]);
+
+    /* Every round runs every line once, ours first in one round and OpenSSL's first in the next: a busy while hits all alike. The line that comes
+       first changes irregularly, so that no line keeps step with the slices of the scheduler. */
+    for (int round = 0; round < ROUNDS; round++) {
+        x = x * 1664525 + 1013904223;
+        for (size_t i = 0; i < LINES; i++)
+            for (int turn = 0; turn < 2; turn++) {
+                struct line *l = &lines[((x >> 16) + i) % LINES];
+                int side = turn ^ (round & 1);
+                if (l->run[side])
+                    l->ns[side][round] = timed(l->run[side], works[side], l->calls[side]) / (double)l->calls[side];
+            }
+    }
+    if (ours.wrong) {
+        printf("refused, or not judged a Success, while timed\n");
+        return 1;
+    }
+
+    of_change = stack_of(&change);
+    of_response = stack_of(&response);
+    if (!of_change || !of_response) {
+        printf("not judged a Success, on a stack of its own\n");
+        return 1;
+    }
+
+#ifdef HAVE_OPENSSL
+    printf("OpenSSL: %s; the same octets as ours\n", OpenSSL_version(OPENSSL_VERSION));
+#else
+    printf("OpenSSL: not installed\n");
+#endif
+    printf("medians of %d interleaved batches, nanoseconds a call\n\n", ROUNDS);
+    printf("%-30s%12s%12s%10s\n", "", "ours", "OpenSSL", "ratio");
+    for (size_t i = 0; i < LINES; i++) {
+        ns[i][OURS] = median(lines[i].ns[OURS]);
+        printf("%-30s%12.0f", lines[i].what, ns[i][OURS]);
+        if (lines[i].run[OPENSSL]) {
+            ns[i][OPENSSL] = median(lines[i].ns[OPENSSL]);
+            printf("%12.0f%10.2f\n", ns[i][OPENSSL], ns[i][OURS] / ns[i][OPENSSL]);
+        } else {
+            printf("%12s%10s\n", "-", "-");
+        }
+    }
+    printf("\njudged Response / (challenge response + NT hash): %.2f\n", ns[RESPONSE][OURS] / ns[HASH_AND_ANSWER][OURS]);
+    /* The record holds the hash, so a step has only the answer to work out: this is what judging adds to that. */
+    printf("judged Response / challenge response: %.2f\n", ns[RESPONSE][OURS] / ns[ANSWER][OURS]);
+    printf("stack of a step: %zu octets for a change, %zu for a Response\n", of_change, of_response);
+    return 0;
+}

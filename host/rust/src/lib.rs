@@ -1,0 +1,71 @@
+//! MS-CHAP (RFC 2433) in safe Rust, over the proved library `libmschap.a`.
+//!
+//! Runs of a fixed size are arrays, so that the archive never meets a wrong size. Every refusal is
+//! a [`Refusal`]; nothing here panics.
+//!
+//! ```
+//! use mschap::{nt_hash, Account, Conversation, Reading, Turn, REPLY_SIZE, RESPONSE_PACKET};
+//!
+//! let password = b"P\0w\0";
+//! let account = Account { nt_hash: Some(nt_hash(password)?), ..Account::default() };
+//! let mut reply = [0; REPLY_SIZE];
+//! let mut packet = [0; RESPONSE_PACKET];
+//!
+//! // An example only: a real challenge is one that nobody can foretell.
+//! let (mut conversation, size) = Conversation::open(1, &[0; 8], None, None, &mut reply)?;
+//! let turn = Turn::read_challenge(&reply[..size])?;
+//! let size = turn.write_response(password, b"DOM\\User", &mut packet)?;
+//! let judged = conversation.step(&packet[..size], Some(&account), &mut reply)?;
+//! assert_eq!(turn.sent().read_reply(&reply[..judged.size])?, Reading::Success);
+//! # Ok::<(), mschap::Refusal>(())
+//! ```
+
+#![deny(unsafe_code)]
+#![deny(unsafe_op_in_unsafe_fn)]
+
+mod account;
+mod authenticator;
+mod cipher;
+mod hash;
+mod peer;
+mod refusal;
+#[allow(unsafe_code)]
+pub mod sys;
+
+pub use account::Account;
+pub use authenticator::{account_of, domain_of, Awaited, Conversation, Judged};
+pub use cipher::{des_decrypt, des_encrypt, md4, rc4};
+pub use hash::{challenge_response, lm_hash, nt_hash};
+pub use peer::{Call, Reading, Sent, Turn};
+pub use refusal::Refusal;
+
+/// The octets of a challenge.
+pub type Challenge = [u8; sys::CHALLENGE_SIZE];
+/// The octets of a password hash.
+pub type Hash = [u8; sys::HASH_SIZE];
+/// The octets of a response, without its packet.
+pub type Response = [u8; sys::RESPONSE_SIZE];
+
+/// The least room for a reply of the authenticator.
+pub const REPLY_SIZE: usize = sys::REPLY_SIZE;
+/// Room for the longest Response.
+pub const RESPONSE_PACKET: usize = sys::RESPONSE_PACKET;
+/// The size of every change of the password.
+pub const CHANGE_PACKET: usize = sys::CHANGE_PACKET;
+
+/// The size of a packet that the archive wrote: its own Length field.
+pub(crate) fn length(packet: &[u8]) -> usize {
+    match packet {
+        [_, _, high, low, ..] => usize::from(*high) * 256 + usize::from(*low),
+        _ => 0,
+    }
+}
+
+/// `N` octets from a place on; octets 0 where there are too few.
+pub(crate) fn part<const N: usize>(octets: &[u8], from: usize) -> [u8; N] {
+    let mut out = [0; N];
+    for (to, octet) in out.iter_mut().zip(octets.iter().skip(from)) {
+        *to = *octet;
+    }
+    out
+}

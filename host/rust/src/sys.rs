@@ -1,0 +1,433 @@
+//! The archive's functions: as C declares them in `raw`, and over slices.
+//!
+//! A slice is a pointer and a size that fit each other, and no slice that may be written overlaps
+//! another one. That is all the archive asks of its caller, so the functions over slices are safe.
+//! They return the number of the C interface; `mschap.h` says what each one does.
+
+/// Done.
+pub const OK: u32 = 0;
+/// A run of another size than its fixed one, or octets that no value writes.
+pub const MISFIT: u32 = 100;
+/// A number of retries, or a choice for LM, that stands for the default.
+pub const DEFAULT: u8 = 255;
+
+/// Octets of an MD4 digest.
+pub const DIGEST_SIZE: usize = 16;
+/// Octets of a password hash.
+pub const HASH_SIZE: usize = 16;
+/// Octets of a DES key.
+pub const KEY_SIZE: usize = 7;
+/// Octets of a DES block.
+pub const BLOCK_SIZE: usize = 8;
+/// Octets of a challenge.
+pub const CHALLENGE_SIZE: usize = 8;
+/// Octets of a response.
+pub const RESPONSE_SIZE: usize = 24;
+/// Octets of a filler.
+pub const FILLER_SIZE: usize = 512;
+/// Octets of an account.
+pub const ACCOUNT_SIZE: usize = 38;
+/// Octets of a record.
+pub const RECORD_SIZE: usize = 39;
+/// Octets of a conversation.
+pub const CONVERSATION_SIZE: usize = 50;
+/// Octets of a turn, and of what was sent.
+pub const TURN_SIZE: usize = 9;
+/// Octets of what a reply says.
+pub const FIELDS_SIZE: usize = 35;
+/// Octets of the authenticator's longest packet.
+pub const REPLY_SIZE: usize = 17;
+/// Octets of the longest Response.
+pub const RESPONSE_PACKET: usize = 310;
+/// Octets of every change.
+pub const CHANGE_PACKET: usize = 1118;
+
+/// The C interface itself. Each pointer goes with the size behind it.
+pub mod raw {
+    extern "C" {
+        /// The MD4 digest of input, into digest.
+        pub fn mschap_md4(
+            input: *const u8,
+            input_size: usize,
+            digest: *mut u8,
+            digest_size: usize,
+        ) -> u32;
+        /// RC4 over octets in place.
+        pub fn mschap_rc4(
+            key: *const u8,
+            key_size: usize,
+            octets: *mut u8,
+            octets_size: usize,
+        ) -> u32;
+        /// DES of a block under a key of 7 octets, into out.
+        pub fn mschap_des_encrypt(
+            key: *const u8,
+            key_size: usize,
+            block: *const u8,
+            block_size: usize,
+            out: *mut u8,
+            out_size: usize,
+        ) -> u32;
+        /// The inverse of `des_encrypt`, into out.
+        pub fn mschap_des_decrypt(
+            key: *const u8,
+            key_size: usize,
+            block: *const u8,
+            block_size: usize,
+            out: *mut u8,
+            out_size: usize,
+        ) -> u32;
+        /// The NT hash of a password, into hash.
+        pub fn mschap_nt_hash(
+            password: *const u8,
+            password_size: usize,
+            hash: *mut u8,
+            hash_size: usize,
+        ) -> u32;
+        /// The LM hash of a password, into hash.
+        pub fn mschap_lm_hash(
+            password: *const u8,
+            password_size: usize,
+            hash: *mut u8,
+            hash_size: usize,
+        ) -> u32;
+        /// The response of a hash to a challenge, into response.
+        pub fn mschap_challenge_response(
+            hash: *const u8,
+            hash_size: usize,
+            challenge: *const u8,
+            challenge_size: usize,
+            response: *mut u8,
+            response_size: usize,
+        ) -> u32;
+        /// Opens a conversation, and writes its Challenge into reply.
+        pub fn mschap_open(
+            identifier: u8,
+            challenge: *const u8,
+            challenge_size: usize,
+            retries: u8,
+            lm: u8,
+            conversation: *mut u8,
+            conversation_size: usize,
+            reply: *mut u8,
+            reply_size: usize,
+        ) -> u32;
+        /// One step of a conversation.
+        pub fn mschap_step(
+            conversation: *mut u8,
+            conversation_size: usize,
+            packet: *const u8,
+            packet_size: usize,
+            record: *const u8,
+            record_size: usize,
+            reply: *mut u8,
+            reply_size: usize,
+            handed: *mut u8,
+            handed_size: usize,
+        ) -> u32;
+        /// The domain in the name of a Response; returns its size.
+        pub fn mschap_domain(
+            packet: *const u8,
+            packet_size: usize,
+            home: *const u8,
+            home_size: usize,
+            out: *mut u8,
+            out_size: usize,
+        ) -> usize;
+        /// The account in the name of a Response; returns its size.
+        pub fn mschap_account(
+            packet: *const u8,
+            packet_size: usize,
+            out: *mut u8,
+            out_size: usize,
+        ) -> usize;
+        /// Reads a Challenge, and writes the turn it asks for.
+        pub fn mschap_read_challenge(
+            packet: *const u8,
+            packet_size: usize,
+            turn: *mut u8,
+            turn_size: usize,
+        ) -> u32;
+        /// Reads a reply, and writes what it says into fields.
+        pub fn mschap_read_reply(
+            last: u8,
+            packet: *const u8,
+            packet_size: usize,
+            fields: *mut u8,
+            fields_size: usize,
+        ) -> u32;
+        /// Reads a reply, and writes the turn after what was sent.
+        pub fn mschap_next_turn(
+            sent: *const u8,
+            sent_size: usize,
+            packet: *const u8,
+            packet_size: usize,
+            turn: *mut u8,
+            turn_size: usize,
+        ) -> u32;
+        /// Writes the Response of a turn into out.
+        pub fn mschap_write_response(
+            turn: *const u8,
+            turn_size: usize,
+            password: *const u8,
+            password_size: usize,
+            name: *const u8,
+            name_size: usize,
+            out: *mut u8,
+            out_size: usize,
+        ) -> u32;
+        /// Writes the change of a turn into out.
+        pub fn mschap_write_change(
+            turn: *const u8,
+            turn_size: usize,
+            old_password: *const u8,
+            old_password_size: usize,
+            new_password: *const u8,
+            new_password_size: usize,
+            filler: *const u8,
+            filler_size: usize,
+            out: *mut u8,
+            out_size: usize,
+        ) -> u32;
+    }
+}
+
+/// The MD4 digest of input, into digest.
+pub fn md4(input: &[u8], digest: &mut [u8]) -> u32 {
+    // SAFETY: slices, as said above.
+    unsafe {
+        raw::mschap_md4(
+            input.as_ptr(),
+            input.len(),
+            digest.as_mut_ptr(),
+            digest.len(),
+        )
+    }
+}
+
+/// RC4 over octets in place.
+pub fn rc4(key: &[u8], octets: &mut [u8]) -> u32 {
+    // SAFETY: slices, as said above.
+    unsafe { raw::mschap_rc4(key.as_ptr(), key.len(), octets.as_mut_ptr(), octets.len()) }
+}
+
+/// DES of a block under a key of 7 octets, into out.
+pub fn des_encrypt(key: &[u8], block: &[u8], out: &mut [u8]) -> u32 {
+    // SAFETY: slices, as said above.
+    unsafe {
+        raw::mschap_des_encrypt(
+            key.as_ptr(),
+            key.len(),
+            block.as_ptr(),
+            block.len(),
+            out.as_mut_ptr(),
+            out.len(),
+        )
+    }
+}
+
+/// The inverse of `des_encrypt`, into out.
+pub fn des_decrypt(key: &[u8], block: &[u8], out: &mut [u8]) -> u32 {
+    // SAFETY: slices, as said above.
+    unsafe {
+        raw::mschap_des_decrypt(
+            key.as_ptr(),
+            key.len(),
+            block.as_ptr(),
+            block.len(),
+            out.as_mut_ptr(),
+            out.len(),
+        )
+    }
+}
+
+/// The NT hash of a password, into hash.
+pub fn nt_hash(password: &[u8], hash: &mut [u8]) -> u32 {
+    // SAFETY: slices, as said above.
+    unsafe {
+        raw::mschap_nt_hash(
+            password.as_ptr(),
+            password.len(),
+            hash.as_mut_ptr(),
+            hash.len(),
+        )
+    }
+}
+
+/// The LM hash of a password, into hash.
+pub fn lm_hash(password: &[u8], hash: &mut [u8]) -> u32 {
+    // SAFETY: slices, as said above.
+    unsafe {
+        raw::mschap_lm_hash(
+            password.as_ptr(),
+            password.len(),
+            hash.as_mut_ptr(),
+            hash.len(),
+        )
+    }
+}
+
+/// The response of a hash to a challenge, into response.
+pub fn challenge_response(hash: &[u8], challenge: &[u8], response: &mut [u8]) -> u32 {
+    // SAFETY: slices, as said above.
+    unsafe {
+        raw::mschap_challenge_response(
+            hash.as_ptr(),
+            hash.len(),
+            challenge.as_ptr(),
+            challenge.len(),
+            response.as_mut_ptr(),
+            response.len(),
+        )
+    }
+}
+
+/// Opens a conversation, and writes its Challenge into reply.
+pub fn open(
+    identifier: u8,
+    challenge: &[u8],
+    retries: u8,
+    lm: u8,
+    conversation: &mut [u8],
+    reply: &mut [u8],
+) -> u32 {
+    // SAFETY: slices, as said above.
+    unsafe {
+        raw::mschap_open(
+            identifier,
+            challenge.as_ptr(),
+            challenge.len(),
+            retries,
+            lm,
+            conversation.as_mut_ptr(),
+            conversation.len(),
+            reply.as_mut_ptr(),
+            reply.len(),
+        )
+    }
+}
+
+/// One step of a conversation.
+pub fn step(
+    conversation: &mut [u8],
+    packet: &[u8],
+    record: &[u8],
+    reply: &mut [u8],
+    handed: &mut [u8],
+) -> u32 {
+    // SAFETY: slices, as said above.
+    unsafe {
+        raw::mschap_step(
+            conversation.as_mut_ptr(),
+            conversation.len(),
+            packet.as_ptr(),
+            packet.len(),
+            record.as_ptr(),
+            record.len(),
+            reply.as_mut_ptr(),
+            reply.len(),
+            handed.as_mut_ptr(),
+            handed.len(),
+        )
+    }
+}
+
+/// The domain in the name of a Response; returns its size.
+pub fn domain(packet: &[u8], home: &[u8], out: &mut [u8]) -> usize {
+    // SAFETY: slices, as said above.
+    unsafe {
+        raw::mschap_domain(
+            packet.as_ptr(),
+            packet.len(),
+            home.as_ptr(),
+            home.len(),
+            out.as_mut_ptr(),
+            out.len(),
+        )
+    }
+}
+
+/// The account in the name of a Response; returns its size.
+pub fn account(packet: &[u8], out: &mut [u8]) -> usize {
+    // SAFETY: slices, as said above.
+    unsafe { raw::mschap_account(packet.as_ptr(), packet.len(), out.as_mut_ptr(), out.len()) }
+}
+
+/// Reads a Challenge, and writes the turn it asks for.
+pub fn read_challenge(packet: &[u8], turn: &mut [u8]) -> u32 {
+    // SAFETY: slices, as said above.
+    unsafe {
+        raw::mschap_read_challenge(packet.as_ptr(), packet.len(), turn.as_mut_ptr(), turn.len())
+    }
+}
+
+/// Reads a reply, and writes what it says into fields.
+pub fn read_reply(last: u8, packet: &[u8], fields: &mut [u8]) -> u32 {
+    // SAFETY: slices, as said above.
+    unsafe {
+        raw::mschap_read_reply(
+            last,
+            packet.as_ptr(),
+            packet.len(),
+            fields.as_mut_ptr(),
+            fields.len(),
+        )
+    }
+}
+
+/// Reads a reply, and writes the turn after what was sent.
+pub fn next_turn(sent: &[u8], packet: &[u8], turn: &mut [u8]) -> u32 {
+    // SAFETY: slices, as said above.
+    unsafe {
+        raw::mschap_next_turn(
+            sent.as_ptr(),
+            sent.len(),
+            packet.as_ptr(),
+            packet.len(),
+            turn.as_mut_ptr(),
+            turn.len(),
+        )
+    }
+}
+
+/// Writes the Response of a turn into out.
+pub fn write_response(turn: &[u8], password: &[u8], name: &[u8], out: &mut [u8]) -> u32 {
+    // SAFETY: slices, as said above.
+    unsafe {
+        raw::mschap_write_response(
+            turn.as_ptr(),
+            turn.len(),
+            password.as_ptr(),
+            password.len(),
+            name.as_ptr(),
+            name.len(),
+            out.as_mut_ptr(),
+            out.len(),
+        )
+    }
+}
+
+/// Writes the change of a turn into out.
+pub fn write_change(
+    turn: &[u8],
+    old_password: &[u8],
+    new_password: &[u8],
+    filler: &[u8],
+    out: &mut [u8],
+) -> u32 {
+    // SAFETY: slices, as said above.
+    unsafe {
+        raw::mschap_write_change(
+            turn.as_ptr(),
+            turn.len(),
+            old_password.as_ptr(),
+            old_password.len(),
+            new_password.as_ptr(),
+            new_password.len(),
+            filler.as_ptr(),
+            filler.len(),
+            out.as_mut_ptr(),
+            out.len(),
+        )
+    }
+}

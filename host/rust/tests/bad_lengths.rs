@@ -1,0 +1,248 @@
+//! Wrong sizes and wrong octets at the C interface: each is answered with 100 before any refusal,
+//! and changes nothing. A run of no octets may have any pointer, the null pointer too.
+
+use mschap::sys;
+use std::ptr::{null, null_mut};
+
+const FILL: u8 = 0xA5;
+
+/// Sizes about the right one, without it.
+fn others(right: usize) -> impl Iterator<Item = usize> {
+    (0..right + 3).filter(move |size| *size != right)
+}
+
+/// Lends a run of each wrong size: the answer is 100, and the run is as it was.
+fn misfits(right: usize, call: impl Fn(&mut [u8]) -> u32) {
+    for size in others(right) {
+        let mut run = vec![FILL; size];
+        assert_eq!(call(&mut run), sys::MISFIT, "size {size} for {right}");
+        assert!(run.iter().all(|octet| *octet == FILL), "size {size}");
+    }
+}
+
+#[test]
+fn ciphers_and_hashes() {
+    let challenge = [0; 8];
+    misfits(16, |digest| sys::md4(b"abc", digest));
+    misfits(16, |hash| sys::nt_hash(b"a\0", hash));
+    misfits(16, |hash| sys::lm_hash(b"a", hash));
+    // 100 comes before the refusal of the input
+    misfits(16, |digest| sys::md4(&[0; 4097], digest));
+    misfits(16, |hash| sys::nt_hash(b"a", hash));
+    misfits(16, |hash| sys::lm_hash(&[0; 15], hash));
+    for des in [sys::des_encrypt, sys::des_decrypt] {
+        misfits(7, |key| des(key, &[0; 8], &mut [0; 8]));
+        misfits(8, |block| des(&[0; 7], block, &mut [0; 8]));
+        misfits(8, |out| des(&[0; 7], &[0; 8], out));
+    }
+    misfits(16, |hash| {
+        sys::challenge_response(hash, &challenge, &mut [0; 24])
+    });
+    misfits(8, |value| {
+        sys::challenge_response(&[0; 16], value, &mut [0; 24])
+    });
+    misfits(24, |out| sys::challenge_response(&[0; 16], &challenge, out));
+}
+
+#[test]
+fn openings() {
+    let open = |challenge: &[u8], retries, lm, conversation: &mut [u8], reply: &mut [u8]| {
+        sys::open(7, challenge, retries, lm, conversation, reply)
+    };
+    misfits(8, |challenge| {
+        open(challenge, 2, 1, &mut [0; 50], &mut [0; 17])
+    });
+    misfits(50, |run| open(&[0; 8], 2, 1, run, &mut [0; 17]));
+    misfits(50, |run| open(&[0; 8], 8, 1, run, &mut [0; 16]));
+    for lm in 2..255 {
+        let mut conversation = [FILL; 50];
+        let mut reply = [FILL; 17];
+        let number = open(&[0; 8], 8, lm, &mut conversation, &mut reply);
+        assert_eq!(number, sys::MISFIT, "LM {lm}");
+        assert_eq!((conversation, reply), ([FILL; 50], [FILL; 17]));
+    }
+    // a refusal leaves both runs alone too
+    for (retries, size, refusal) in [(8, 0, 13), (254, 17, 13), (7, 16, 2), (255, 0, 2)] {
+        let mut conversation = [FILL; 50];
+        let mut reply = vec![FILL; size];
+        let number = open(&[0; 8], retries, 255, &mut conversation, &mut reply);
+        assert_eq!(number, refusal);
+        assert_eq!(conversation, [FILL; 50]);
+        assert_eq!(reply, vec![FILL; size]);
+    }
+}
+
+/// A conversation that awaits a Response, and a Response for it.
+fn opened() -> ([u8; 50], Vec<u8>) {
+    let mut conversation = [0; 50];
+    let number = sys::open(7, &[0; 8], 2, 1, &mut conversation, &mut [0; 17]);
+    assert_eq!(number, sys::OK);
+    let mut packet = vec![0; 55];
+    assert_eq!(
+        sys::write_response(&[7, 0, 0, 0, 0, 0, 0, 0, 0], b"", b"u", &mut packet),
+        sys::OK
+    );
+    (conversation, packet)
+}
+
+/// One step with 100 for its answer, after which each run is as it was.
+fn step_misfits(conversation: &[u8], record: &[u8], handed: usize) {
+    let (_, packet) = opened();
+    let mut after = conversation.to_vec();
+    let mut reply = [FILL; 17];
+    let mut out = vec![FILL; handed];
+    let number = sys::step(&mut after, &packet, record, &mut reply, &mut out);
+    assert_eq!(number, sys::MISFIT);
+    assert_eq!(after, conversation);
+    assert_eq!(reply, [FILL; 17]);
+    assert_eq!(out, vec![FILL; handed]);
+}
+
+#[test]
+fn steps() {
+    let (conversation, _) = opened();
+    for size in others(50) {
+        let mut cut = conversation.to_vec();
+        cut.resize(size, 0);
+        step_misfits(&cut, &[0; 39], 39);
+    }
+    for size in others(39) {
+        step_misfits(&conversation, &vec![0; size], 39);
+        step_misfits(&conversation, &[0; 39], size);
+    }
+    // octets that no value writes
+    for code in (0..=255).filter(|code| ![0, 2, 6].contains(code)) {
+        let mut bad = conversation;
+        bad[0] = code;
+        step_misfits(&bad, &[0; 39], 39);
+    }
+    for value in 2..=255 {
+        for mark in [1, 12, 29, 46, 47, 48, 49] {
+            let mut bad = conversation;
+            bad[mark] = value;
+            step_misfits(&bad, &[0; 39], 39);
+        }
+        for mark in [0, 1, 18, 35, 36, 37, 38] {
+            let mut bad = [0; 39];
+            bad[mark] = value;
+            step_misfits(&conversation, &bad, 39);
+        }
+    }
+    // the right runs draw an answer: the account is not found
+    let (mut conversation, packet) = opened();
+    let mut reply = [FILL; 17];
+    let mut handed = [FILL; 39];
+    let number = sys::step(
+        &mut conversation,
+        &packet,
+        &[0; 39],
+        &mut reply,
+        &mut handed,
+    );
+    assert_eq!((number, handed[0]), (sys::OK, 0));
+    assert_eq!(&reply, b"\x04\x07\x00\x11E=691 R=1 V=2");
+}
+
+#[test]
+fn peers() {
+    let challenge = [1, 7, 0, 13, 8, 1, 2, 3, 4, 5, 6, 7, 8];
+    let success = [3, 7, 0, 4];
+    misfits(9, |turn| sys::read_challenge(&challenge, turn));
+    misfits(9, |turn| sys::read_challenge(&[], turn));
+    misfits(35, |fields| sys::read_reply(7, &success, fields));
+    misfits(35, |fields| sys::read_reply(8, &[], fields));
+    misfits(9, |sent| sys::next_turn(sent, &success, &mut [0; 9]));
+    misfits(9, |turn| sys::next_turn(&[7; 9], &success, turn));
+    misfits(9, |turn| sys::write_response(turn, b"", b"u", &mut [0; 55]));
+    misfits(9, |turn| sys::write_response(turn, b"a", b"", &mut []));
+    misfits(9, |turn| {
+        sys::write_change(turn, b"", b"", &[0; 512], &mut [0; 1118])
+    });
+    // a filler of another size is refused by 12, behind the passwords and before the room
+    for size in [0, 1, 511, 513, 1024] {
+        let filler = vec![0; size];
+        let mut out = [FILL; 1118];
+        let number = sys::write_change(&[7; 9], b"", b"", &filler, &mut out);
+        assert_eq!((number, out), (12, [FILL; 1118]));
+        assert_eq!(sys::write_change(&[7; 9], b"", b"", &filler, &mut []), 12);
+        assert_eq!(sys::write_change(&[7; 9], b"a", b"", &filler, &mut out), 8);
+        assert_eq!(sys::write_change(&[7; 9], b"", b"a", &filler, &mut out), 8);
+    }
+}
+
+#[test]
+fn null_with_no_octets() {
+    use sys::raw::*;
+    let (n, m) = (null(), null_mut());
+    let mut hash = [0; 16];
+    let mut same = [0; 16];
+    let mut run = [FILL; 50];
+    let mut out = [FILL; 64];
+    let (conversation, packet) = opened();
+    let mut next = conversation;
+    // SAFETY: each pointer is null with size 0, or that of an array with its size or less.
+    unsafe {
+        assert_eq!(mschap_md4(n, 0, hash.as_mut_ptr(), 16), sys::OK);
+        assert_eq!(mschap_nt_hash(n, 0, same.as_mut_ptr(), 16), sys::OK);
+        assert_eq!(hash, same);
+        assert_eq!(hash[..4], [0x31, 0xd6, 0xcf, 0xe0]);
+        assert_eq!(mschap_lm_hash(n, 0, hash.as_mut_ptr(), 16), sys::OK);
+        assert_eq!(hash[..4], [0xaa, 0xd3, 0xb4, 0x35]);
+        assert_eq!(mschap_rc4([1].as_ptr(), 1, m, 0), sys::OK);
+        assert_eq!(mschap_rc4(n, 0, m, 0), 8);
+        assert_eq!(mschap_md4(n, 0, m, 0), sys::MISFIT);
+        assert_eq!(mschap_nt_hash(n, 0, m, 0), sys::MISFIT);
+        assert_eq!(mschap_lm_hash(n, 0, m, 0), sys::MISFIT);
+        assert_eq!(mschap_des_encrypt(n, 0, n, 0, m, 0), sys::MISFIT);
+        assert_eq!(mschap_des_decrypt(n, 0, n, 0, m, 0), sys::MISFIT);
+        assert_eq!(mschap_challenge_response(n, 0, n, 0, m, 0), sys::MISFIT);
+
+        assert_eq!(mschap_open(7, n, 0, 2, 1, m, 0, m, 0), sys::MISFIT);
+        let challenge = [0; 8];
+        let number = mschap_open(7, challenge.as_ptr(), 8, 2, 1, run.as_mut_ptr(), 50, m, 0);
+        assert_eq!((number, run), (2, [FILL; 50]));
+        assert_eq!(mschap_step(m, 0, n, 0, n, 0, m, 0, m, 0), sys::MISFIT);
+        let record = [0; 39];
+        let (c, r, o) = (next.as_mut_ptr(), record.as_ptr(), out.as_mut_ptr());
+        assert_eq!(
+            mschap_step(c, 50, n, 0, r, 39, run.as_mut_ptr(), 17, o, 39),
+            3
+        );
+        assert_eq!(
+            mschap_step(c, 50, packet.as_ptr(), 55, r, 39, m, 0, o, 39),
+            2
+        );
+        assert_eq!((next, run, out), (conversation, [FILL; 50], [FILL; 64]));
+
+        assert_eq!(mschap_domain(n, 0, n, 0, m, 0), 0);
+        assert_eq!(mschap_account(n, 0, m, 0), 0);
+        assert_eq!(mschap_domain(packet.as_ptr(), 55, n, 0, m, 0), 0);
+        assert_eq!(mschap_account(packet.as_ptr(), 55, m, 0), 1);
+
+        assert_eq!(mschap_read_challenge(n, 0, m, 0), sys::MISFIT);
+        assert_eq!(mschap_read_reply(7, n, 0, m, 0), sys::MISFIT);
+        assert_eq!(mschap_next_turn(n, 0, n, 0, m, 0), sys::MISFIT);
+        assert_eq!(mschap_read_challenge(n, 0, run.as_mut_ptr(), 9), 3);
+        assert_eq!(mschap_read_reply(7, n, 0, run.as_mut_ptr(), 35), 3);
+        let turn = [7; 9];
+        let t = turn.as_ptr();
+        assert_eq!(mschap_next_turn(t, 9, n, 0, run.as_mut_ptr(), 9), 3);
+        assert_eq!(run, [FILL; 50]);
+        assert_eq!(mschap_write_response(n, 0, n, 0, n, 0, m, 0), sys::MISFIT);
+        assert_eq!(mschap_write_response(t, 9, n, 0, n, 0, m, 0), 10);
+        assert_eq!(
+            mschap_write_response(t, 9, n, 0, [b'u'].as_ptr(), 1, m, 0),
+            9
+        );
+        assert_eq!(
+            mschap_write_change(n, 0, n, 0, n, 0, n, 0, m, 0),
+            sys::MISFIT
+        );
+        assert_eq!(mschap_write_change(t, 9, n, 0, n, 0, n, 0, m, 0), 12);
+        let filler = [0; 512];
+        assert_eq!(
+            mschap_write_change(t, 9, n, 0, n, 0, filler.as_ptr(), 512, m, 0),
+            9
+        );
+    }
+}

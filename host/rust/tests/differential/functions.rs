@@ -1,0 +1,122 @@
+//! Ciphers, hashes and the peer's writers, with sizes on both sides of every limit.
+
+use crate::both::{our_turn, plain};
+use crate::packets;
+use crate::random::Random;
+use crate::run::{run, Seen};
+use mschap::sys;
+use reference::{des, hashes, md4, peer, rc4};
+
+fn ciphers(random: &mut Random) {
+    let (key, block) = (random.array(), random.array());
+    let sealed = mschap::des_encrypt(&key, &block);
+    assert_eq!(sealed, Ok(des::encrypt(&key, &block)));
+    let opened = mschap::des_decrypt(&key, &block);
+    assert_eq!(opened, Ok(des::decrypt(&key, &block)));
+
+    let size = random.below_any(&[70, 300, 4200]);
+    let input = random.octets(size);
+    assert_eq!(plain(mschap::md4(&input)), md4::md4(&input));
+
+    let size = random.below_any(&[2, 20, 260]);
+    let key = random.octets(size);
+    let mut ours = input.clone();
+    let mut theirs = input;
+    let answer = plain(mschap::rc4(&key, &mut ours));
+    assert_eq!(answer, rc4::rc4(&key, &mut theirs));
+    assert_eq!(ours, theirs);
+}
+
+fn hashes_agree(random: &mut Random) {
+    let size = random.below_any(&[30, 520]);
+    let password = random.octets(size);
+    assert_eq!(
+        plain(mschap::nt_hash(&password)),
+        hashes::nt_hash(&password)
+    );
+    let size = random.below(18);
+    let password = random.octets(size);
+    assert_eq!(
+        plain(mschap::lm_hash(&password)),
+        hashes::lm_hash(&password)
+    );
+    let (hash, challenge) = (random.array(), random.array());
+    assert_eq!(
+        mschap::challenge_response(&hash, &challenge),
+        Ok(hashes::challenge_response(&hash, &challenge))
+    );
+}
+
+/// At times an odd password, or one that is too long.
+fn any_password(random: &mut Random) -> Vec<u8> {
+    let mut password = packets::password(random);
+    if random.chance(10) {
+        password.push(0);
+    } else if random.chance(5) {
+        password.resize(514, 1);
+    }
+    password
+}
+
+fn response(random: &mut Random, seen: &mut Seen) {
+    let turn = peer::Turn {
+        id: random.octet(),
+        challenge: random.array(),
+    };
+    let password = any_password(random);
+    let name = packets::name(random);
+    let size = 54 + name.len() + 20 - random.below(24);
+    let mut ours = random.octets(size);
+    let mut theirs = ours.clone();
+    let answer = plain(our_turn(&turn).write_response(&password, &name, &mut ours));
+    let expected = peer::write_response(&turn, &password, &name, &mut theirs);
+    compare(answer, expected, "response", seen);
+    assert_eq!(ours, theirs);
+}
+
+fn change(random: &mut Random, seen: &mut Seen) {
+    let turn = peer::Turn {
+        id: random.octet(),
+        challenge: random.array(),
+    };
+    let (old, new) = (any_password(random), any_password(random));
+    let filler: [u8; sys::FILLER_SIZE] = random.array();
+    let size = random.pick(&[0, 1117, 1118, 1118, 1118, 1119, 1300]);
+    let mut ours = random.octets(size);
+    let mut theirs = ours.clone();
+    let answer = plain(our_turn(&turn).write_change(&old, &new, &filler, &mut ours));
+    let expected = peer::write_change(&turn, &old, &new, &filler, &mut theirs);
+    compare(answer, expected, "change", seen);
+    assert_eq!(ours, theirs);
+}
+
+fn compare(ours: Result<usize, u8>, theirs: peer::Written, what: &str, seen: &mut Seen) {
+    let theirs = match theirs.refusal {
+        0 => Ok(theirs.written),
+        refusal => Err(refusal),
+    };
+    assert_eq!(ours, theirs);
+    seen.note(match theirs {
+        Ok(_) => format!("{what} written"),
+        Err(refusal) => format!("{what} refused {refusal}"),
+    });
+}
+
+#[test]
+fn functions_agree() {
+    let seen = run("functions", 40_000, |random, seen| match random.below(4) {
+        0 => ciphers(random),
+        1 => hashes_agree(random),
+        2 => response(random, seen),
+        _ => change(random, seen),
+    });
+    seen.expect(&[
+        "response written",
+        "response refused 8",
+        "response refused 9",
+        "response refused 10",
+        "change written",
+        "change refused 8",
+        "change refused 9",
+    ]);
+}

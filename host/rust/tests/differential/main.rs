@@ -1,0 +1,11 @@
+//! Differential tests: the archive, through this package, against the independent second
+//! implementation `reference`. Every case is drawn from a fixed seed and its own number.
+
+mod both;
+mod functions;
+mod packets;
+mod random;
+mod readers;
+mod run;
+mod series;
+mod steps;

@@ -1,0 +1,287 @@
+//! Whole series from opening to end: our peer against their box, their peer against our box.
+
+use crate::both::{our_reading, our_turn, plain, their_conversation, Boxes};
+use crate::packets;
+use crate::random::Random;
+use crate::run::{run, Seen};
+use mschap::{sys, Conversation, Turn};
+use reference::authenticator::{self as their, Account};
+use reference::message::Call;
+use reference::peer::{self, Verdict};
+use reference::{hashes, packet};
+
+/// Both peers: each reads what the other implementation's box wrote.
+struct Peers {
+    ours: Turn,
+    theirs: peer::Turn,
+}
+
+impl Peers {
+    fn agree(&self) {
+        assert_eq!(self.ours, our_turn(&self.theirs), "the turns");
+    }
+
+    /// The Response of both, compared.
+    fn response(&self, password: &[u8], name: &[u8], random: &mut Random) -> Vec<u8> {
+        let more = random.below(20);
+        let mut ours = random.octets(54 + name.len() + more);
+        let mut theirs = ours.clone();
+        let size = self.ours.write_response(password, name, &mut ours);
+        let written = peer::write_response(&self.theirs, password, name, &mut theirs);
+        assert_eq!((plain(size), 0), (Ok(written.written), written.refusal));
+        assert_eq!(ours, theirs, "the Response");
+        ours.truncate(written.written);
+        ours
+    }
+
+    /// The change of both, compared.
+    fn change(&self, old: &[u8], new: &[u8], random: &mut Random) -> Vec<u8> {
+        let filler: [u8; sys::FILLER_SIZE] = random.array();
+        let mut ours = vec![0; sys::CHANGE_PACKET];
+        let mut theirs = ours.clone();
+        let size = self.ours.write_change(old, new, &filler, &mut ours);
+        let written = peer::write_change(&self.theirs, old, new, &filler, &mut theirs);
+        assert_eq!((plain(size), 0), (Ok(written.written), written.refusal));
+        assert_eq!(ours, theirs, "the change");
+        ours
+    }
+
+    /// Reads the replies crosswise, and gives what they call for; none after Success.
+    fn read(&mut self, our_reply: &[u8], their_reply: &[u8]) -> Option<Call> {
+        let sent = self.ours.sent();
+        let theirs = peer::read_reply(self.theirs.id, our_reply);
+        let ours = plain(sent.read_reply(their_reply));
+        let expected = theirs.as_ref().map(our_reading).map_err(|number| *number);
+        assert_eq!(ours, expected, "the reading");
+        let next = plain(sent.next_turn(their_reply));
+        self.theirs = peer::next_turn(&self.theirs, &theirs);
+        assert_eq!(next, Ok(our_turn(&self.theirs)), "the next turn");
+        self.ours = our_turn(&self.theirs);
+        match theirs {
+            Ok(Verdict::Failure(fields)) => Some(fields.call()),
+            _ => None,
+        }
+    }
+}
+
+/// Opens in both, with the same octets in both buffers.
+fn open(random: &mut Random) -> (Boxes, Peers) {
+    let id = random.octet();
+    let challenge = random.array();
+    let retries = random.chance(80).then(|| random.below(8) as u8);
+    let lm = random.chance(80).then(|| random.chance(70));
+    let size = random.between(17, 40);
+    let mut our_reply = random.octets(size);
+    let mut their_reply = our_reply.clone();
+    let ours = Conversation::open(id, &challenge, retries, lm, &mut our_reply);
+    let theirs = their::open(id, &challenge, retries, lm, &mut their_reply);
+    let (conversation, written) = plain(ours).expect("an opening");
+    assert_eq!((0, written), (theirs.refusal, theirs.written));
+    assert_eq!(
+        our_reply, their_reply,
+        "the Challenge and what lies behind it"
+    );
+    assert_eq!(their_conversation(&conversation), theirs.conversation);
+    let peers = Peers {
+        ours: plain(Turn::read_challenge(&their_reply[..written])).expect("a Challenge"),
+        theirs: peer::read_challenge(&our_reply[..written]).expect("a Challenge"),
+    };
+    peers.agree();
+    let boxes = Boxes {
+        ours: conversation,
+        theirs: theirs.conversation,
+    };
+    (boxes, peers)
+}
+
+/// The passwords behind a record.
+struct User {
+    password: Vec<u8>,
+    lm_password: Vec<u8>,
+    account: Account,
+    found: bool,
+}
+
+fn user(random: &mut Random) -> User {
+    let password = packets::password(random);
+    let size = random.below(15);
+    let lm_password = random.octets(size);
+    let kind = random.below(100);
+    let nt = (kind < 85).then(|| mschap::nt_hash(&password).expect("a password"));
+    let lm = (kind >= 50).then(|| mschap::lm_hash(&lm_password).expect("a password"));
+    let account = Account {
+        nt,
+        lm,
+        disabled: random.chance(5),
+        hours: random.chance(5),
+        no_dialin: random.chance(5),
+        expired: random.chance(45),
+    };
+    User {
+        password,
+        lm_password,
+        account,
+        found: random.chance(97),
+    }
+}
+
+/// A Response by LM, which neither peer writes: by hand, from the hashes of both.
+fn lm_response(peers: &Peers, password: &[u8], name: &[u8], random: &mut Random) -> Vec<u8> {
+    let hash = hashes::lm_hash(password).expect("a password");
+    let challenge = peers.theirs.challenge;
+    let lm = hashes::challenge_response(&hash, &challenge);
+    let ours = mschap::lm_hash(password).and_then(|h| mschap::challenge_response(&h, &challenge));
+    assert_eq!(ours, Ok(lm));
+    let flag = random.chance(30).into();
+    packet::response(peers.theirs.id, &lm, &random.array(), flag, name)
+}
+
+/// A packet that the box is to refuse, as a rule; the boxes must agree even where it is judged.
+fn noise(random: &mut Random, next: &[u8], earlier: Option<&Vec<u8>>) -> Vec<u8> {
+    let mut packet = next.to_vec();
+    match (random.below(6), earlier) {
+        (0, Some(earlier)) => return earlier.clone(),
+        (0 | 1, _) => return packets::noise(random),
+        (2, _) => packet[1] = packet[1].wrapping_add(random.between(1, 255) as u8),
+        (3, _) => packet[0] = random.pick(&[0, 1, 3, 4, 5, 7]),
+        (4, _) => packet.truncate(random.below(next.len())),
+        _ => {
+            let length = random.below(55);
+            packets::set_length(&mut packet, length);
+        }
+    }
+    if random.chance(5) {
+        packets::damage(random, &mut packet);
+    }
+    packet
+}
+
+fn series(random: &mut Random, seen: &mut Seen) {
+    let user = user(random);
+    let record = user.found.then_some(&user.account);
+    let (mut boxes, mut peers) = open(random);
+    let retries = boxes.theirs.retries;
+    let name = {
+        let size = random.pick(&[1, 4, 9, 20, 256]);
+        random.octets(size)
+    };
+    let wrong = random.pick(&[0, 30, 60, 100]);
+    let new = packets::password(random);
+    let mut earlier: Option<Vec<u8>> = None;
+    let mut change = false;
+    let mut judged = 0;
+    let mut accepted = None;
+    loop {
+        let mut packet = if change {
+            // at times from another old password, which is refused by 709
+            let other = random.chance(10).then(|| packets::password(random));
+            let old = other.as_ref().unwrap_or(&user.password);
+            peers.change(old, &new, random)
+        } else if user.account.lm.is_some() && random.chance(50) {
+            let mut password = user.lm_password.clone();
+            if random.chance(wrong) {
+                password = random.octets(9);
+            }
+            lm_response(&peers, &password, &name, random)
+        } else {
+            let mut password = user.password.clone();
+            if random.chance(wrong) {
+                password = random.octets(10);
+            }
+            peers.response(&password, &name, random)
+        };
+        for _ in 0..random.pick(&[0, 0, 0, 1, 2]) {
+            let noise = noise(random, &packet, earlier.as_ref());
+            let mut our_reply = packets::buffer(random);
+            let mut their_reply = our_reply.clone();
+            let outcome = boxes.step(&noise, record, &mut our_reply, &mut their_reply);
+            judged += u32::from(outcome.refusal == 0);
+            seen.note(format!("noise answered {}", outcome.refusal));
+        }
+        if random.chance(20) {
+            let more = random.between(1, 30);
+            packet.extend(random.octets(more));
+        }
+        let size = random.between(17, 30);
+        let mut our_reply = random.octets(size);
+        let mut their_reply = our_reply.clone();
+        let outcome = boxes.step(&packet, record, &mut our_reply, &mut their_reply);
+        if outcome.refusal != 0 {
+            // Noise was judged in its place: the peer has no reply to read.
+            seen.note("overtaken by noise");
+            break;
+        }
+        judged += 1;
+        seen.note(format!("judged {}", outcome.reason));
+        let written = outcome.written;
+        let call = peers.read(&our_reply[..written], &their_reply[..written]);
+        accepted = outcome.changed;
+        earlier = Some(packet);
+        match call {
+            Some(Call::Retry) => {}
+            Some(Call::Change2) => change = true,
+            _ => break,
+        }
+    }
+    assert!(judged <= u32::from(retries) + 2, "packets judged: {judged}");
+    if let Some(account) = accepted {
+        seen.note("password changed");
+        if random.chance(25) {
+            later(random, &account, &new);
+            seen.note("later conversation");
+        }
+    }
+}
+
+/// The record that was handed out lets the new password in at the first Response.
+fn later(random: &mut Random, account: &Account, password: &[u8]) {
+    let (mut boxes, mut peers) = open(random);
+    let packet = peers.response(password, b"DOM\\User", random);
+    let mut our_reply = random.octets(17);
+    let mut their_reply = our_reply.clone();
+    let outcome = boxes.step(&packet, Some(account), &mut our_reply, &mut their_reply);
+    assert_eq!((outcome.refusal, outcome.reason), (0, 0));
+    let written = outcome.written;
+    let call = peers.read(&our_reply[..written], &their_reply[..written]);
+    assert_eq!(call, None);
+}
+
+#[test]
+fn series_agree() {
+    let seen = run("series", 200_000, series);
+    for reason in [0, 646, 647, 648, 649, 691, 709] {
+        seen.expect(&[&format!("judged {reason}")]);
+    }
+    seen.expect(&["password changed", "later conversation"]);
+}
+
+/// Openings, with retries over the limit and buffers that are too small.
+#[test]
+fn openings_agree() {
+    let seen = run("openings", 100_000, |random, seen| {
+        let id = random.octet();
+        let challenge = random.array();
+        let retries = match random.below(20) {
+            0..=4 => None,
+            5 => Some(255),
+            6 => Some(random.octet()),
+            _ => Some(random.below(10) as u8),
+        };
+        let lm = random.pick(&[None, Some(false), Some(true)]);
+        let size = random.between(0, 30);
+        let mut ours = random.octets(size);
+        let mut theirs = ours.clone();
+        let answer = plain(Conversation::open(id, &challenge, retries, lm, &mut ours));
+        let opening = their::open(id, &challenge, retries, lm, &mut theirs);
+        assert_eq!(ours, theirs);
+        match answer {
+            Ok((conversation, written)) => {
+                assert_eq!((0, written), (opening.refusal, opening.written));
+                assert_eq!(their_conversation(&conversation), opening.conversation);
+            }
+            Err(refusal) => assert_eq!(refusal, opening.refusal),
+        }
+        seen.note(format!("opening {}", opening.refusal));
+    });
+    seen.expect(&["opening 0", "opening 2", "opening 13"]);
+}

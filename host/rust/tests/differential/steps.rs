@@ -1,0 +1,124 @@
+//! Single steps of drawn conversations with right, wrong, damaged and random packets.
+
+use crate::both::{account_octets, our_conversation, their_account, their_conversation, Boxes};
+use crate::packets;
+use crate::random::Random;
+use crate::run::{run, Seen};
+use mschap::sys;
+use reference::authenticator::{Account, Conversation, Phase};
+use reference::{hashes, packet, peer};
+
+/// A Response that is valid for the account as often as not.
+fn response(random: &mut Random, conversation: &Conversation, account: &Account) -> Vec<u8> {
+    let mut right = |hash: &Option<[u8; 16]>| match hash {
+        Some(hash) if random.chance(35) => {
+            hashes::challenge_response(hash, &conversation.challenge)
+        }
+        _ => random.array(),
+    };
+    let (lm, nt) = (right(&account.lm), right(&account.nt));
+    let flag = random.below(2) as u8;
+    let name = packets::name(random);
+    packet::response(conversation.id, &lm, &nt, flag, &name)
+}
+
+/// A change from the old password.
+fn change(random: &mut Random, conversation: &Conversation, old: &[u8]) -> Vec<u8> {
+    let turn = peer::Turn {
+        id: conversation.id,
+        challenge: conversation.challenge,
+    };
+    let new = packets::password(random);
+    let filler = random.octets(512);
+    let mut out = vec![0; packet::CHANGE_LENGTH];
+    let written = peer::write_change(&turn, old, &new, &filler, &mut out);
+    assert_eq!(written.refusal, 0);
+    out
+}
+
+fn step(random: &mut Random, seen: &mut Seen) {
+    let account = packets::account(random);
+    let mut conversation = Conversation {
+        id: random.octet(),
+        challenge: random.array(),
+        retries: random.below(8) as u8,
+        lm: random.chance(60),
+        phase: Phase::Response,
+    };
+    let mut packet = if random.chance(30) {
+        packets::noise(random)
+    } else if random.chance(75) {
+        response(random, &conversation, &account)
+    } else {
+        let old = packets::password(random);
+        let mut kept = account;
+        if kept.nt.is_some() && random.chance(90) {
+            kept.nt = hashes::nt_hash(&old).ok();
+        }
+        conversation.phase = Phase::Change(kept);
+        change(random, &conversation, &old)
+    };
+    match random.below(25) {
+        0 => conversation.phase = Phase::Ended,
+        1 => conversation.phase = Phase::Change(account),
+        2 => conversation.phase = Phase::Response,
+        _ => {}
+    }
+    if random.chance(75) {
+        packets::damage(random, &mut packet);
+    }
+    let record = random.chance(90).then_some(&account);
+
+    let mut boxes = Boxes {
+        ours: our_conversation(&conversation, random),
+        theirs: conversation,
+    };
+    let before = boxes.ours;
+    let lent = packets::buffer(random);
+    let (mut our_reply, mut their_reply) = (lent.clone(), lent.clone());
+    let outcome = boxes.step(&packet, record, &mut our_reply, &mut their_reply);
+    seen.note(match (outcome.refusal, outcome.reason) {
+        (0, 0) if outcome.changed.is_some() => "judged: changed".to_string(),
+        (0, reason) => format!("judged {reason}"),
+        (refusal, _) => format!("refused {refusal}"),
+    });
+
+    // The same by runs, with drawn octets wherever they have no effect.
+    if random.chance(20) {
+        let mut octets = *before.octets();
+        let mut raw = [0; sys::RECORD_SIZE];
+        raw[1..].copy_from_slice(&account_octets(&account, random));
+        raw[0] = record.is_some().into();
+        let garbage: [u8; sys::RECORD_SIZE] = random.array();
+        let mut handed = garbage;
+        let mut reply = lent;
+        let number = sys::step(&mut octets, &packet, &raw, &mut reply, &mut handed);
+        assert_eq!(number, u32::from(outcome.refusal));
+        // Octets of no effect may be kept as they were lent, so values are compared here.
+        let next = mschap::Conversation::from_octets(octets).expect("a conversation");
+        assert_eq!(their_conversation(&next), boxes.theirs);
+        assert_eq!(reply, our_reply);
+        if number == sys::OK {
+            let found = handed[0] == 1;
+            let octets = handed[1..].try_into().expect("an account");
+            let account = mschap::Account::from_octets(octets).expect("an account");
+            assert!(handed[0] <= 1);
+            assert_eq!(found.then_some(their_account(&account)), outcome.changed);
+        } else {
+            assert_eq!(&octets, before.octets(), "a refusal changes nothing");
+            assert_eq!(handed, garbage, "a refusal hands out nothing");
+        }
+    }
+}
+
+#[test]
+fn steps_agree() {
+    let seen = run("steps", 500_000, step);
+    for refusal in 1..=7 {
+        seen.expect(&[&format!("refused {refusal}")]);
+    }
+    for reason in [0, 646, 647, 648, 649, 691, 709] {
+        seen.expect(&[&format!("judged {reason}")]);
+    }
+    seen.expect(&["judged: changed"]);
+}
