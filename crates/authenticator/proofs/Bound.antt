@@ -10,14 +10,15 @@ use native.Mathlib.Omega.{arith}
 use borrow.Author.Tests.{eqb-true, eqb-false, ltb-true}
 use lib.Dec.{eqb, ltb}
 use Rattle.packets.specs.Response.{responseIn}
-use Rattle.packets.specs.Change.{changeIn}
+use Rattle.packets.specs.declared.Response as fields
+use Rattle.packets.specs.declared.Change as changes
 use Rattle.authenticator.specs.Conversation.{isEnded, ended, retried, keeping}
 use Rattle.authenticator.specs.Opening.{Opening, retriesOf, firstConversation}
 use Rattle.authenticator.specs.Refusal.{refusalOf}
 use Rattle.authenticator.specs.Response.{reasonOf, afterReason, responseDrawn}
 use Rattle.authenticator.specs.Change.{newHash, drawnBy, changeDrawn}
 use Rattle.authenticator.specs.Step.{drawnIn, drawn, Outcome}
-use Rattle.authenticator.specs.Steps.{Lent, nextAfter, refusalAt, judged}
+use Rattle.authenticator.specs.Steps.{Lent, stepOn, nextAfter, refusalAt, judged}
 use Rattle.authenticator.specs.declared.Account.{Account}
 use Rattle.authenticator.specs.declared.Lookup.{Lookup}
 use Rattle.authenticator.specs.declared.Conversation.{Conversation}
@@ -47,15 +48,22 @@ after-less c a e ph = which (eqb e 691) (ltb 0 (c .retries)) (eqb e 648) refl
     which false u true h = omega arith
     which false u false h = omega arith
 
-change-less : (c : Conversation) (o : Option (List ℕ)) → leftIn (drawnBy c o .next) < 1
-change-less c none = omega arith
-change-less c (some h) = omega arith
+response-less : (c : Conversation) (l : Lookup) (f : fields.Response) → c .phase ≡ Response → leftIn (responseDrawn c l f .next) < c .retries + 2
+unfolding responseDrawn
+response-less c l f ph = after-less c (l .account) (reasonOf c l f) ph
+
+change-less : (c : Conversation) (f : changes.Change) → leftIn (changeDrawn c f .next) < 1
+unfolding changeDrawn
+change-less c f = which (newHash c f)
+  where
+    which : (o : Option (List ℕ)) → leftIn (drawnBy c o .next) < 1
+    which none = omega arith
+    which (some h) = omega arith
 
 phase-less : (ph : Phase) (c : Conversation) (p : List ℕ) (l : Lookup) → c .phase ≡ ph → isEnded ph ≡ false
     → leftIn (drawnIn ph c p l .next) < left ph (c .retries)
-unfolding responseDrawn changeDrawn
-phase-less Response c p l e live = after-less c (l .account) (reasonOf c l (responseIn p)) e
-phase-less Change c p l e live = change-less c (newHash c (changeIn p))
+phase-less Response c p l e live = response-less c l (responseIn p) e
+phase-less Change c p l e live = change-less _ _
 phase-less Ended c p l e live = let z : _≡_ {A = ℕ} 0 1 = cc in absurd (omega arith)
 
 drawn-less : (c : Conversation) (p : List ℕ) (l : Lookup) → isEnded (c .phase) ≡ false → leftIn (drawn c p l .next) < leftIn c
@@ -63,15 +71,15 @@ unfolding drawn
 drawn-less c p l live = phase-less (c .phase) c p l refl live
 
 -- for any packet, record and buffer
-pub judged-less : (c : Conversation) (s : Lent) → judged c s + leftIn (nextAfter c s) ≤ leftIn c
-judged-less c s = which (eqb (refusalAt c s) 0) refl
+pub judged-less : (c : Conversation) (s : Lent) → judged stepOn c s + leftIn (nextAfter stepOn c s) ≤ leftIn c
+judged-less c s = which (eqb (refusalAt stepOn c s) 0) refl
   where
-    which : (t : Bool) → eqb (refusalAt c s) 0 ≡ t → judged c s + leftIn (nextAfter c s) ≤ leftIn c
+    which : (t : Bool) → eqb (refusalAt stepOn c s) 0 ≡ t → judged stepOn c s + leftIn (nextAfter stepOn c s) ≤ leftIn c
     which true e =
-        let z = eqb-true (refusalAt c s) 0 e in
+        let z = eqb-true (refusalAt stepOn c s) 0 e in
         let ok : refusalOf c (s .packet) (s .buffer) ≡ 0 = sym (number-step c (s .packet) (s .account) (s .buffer)) ∙ z in
         let next = ap (λ (o : Outcome). leftIn (o .answer .next)) (judged-step c (s .packet) (s .account) (s .buffer) ok) in
         omega (arith, judged-one c s z, next, drawn-less c (s .packet) (s .account) (live-and-roomy c (s .packet) (s .buffer) ok .0))
     which false e =
-        let n = eqb-false (refusalAt c s) 0 e in
+        let n = eqb-false (refusalAt stepOn c s) 0 e in
         omega (arith, judged-none c s n, ap leftIn (refused-same c s n))

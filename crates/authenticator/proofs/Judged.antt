@@ -25,7 +25,7 @@ use Rattle.packets.specs.declared.Change as changes
 use Rattle.authenticator.specs.Account.{nobody, found, renewed}
 use Rattle.authenticator.specs.Conversation.{ended, retried, keeping}
 use Rattle.authenticator.specs.Refusal.{refusalOf}
-use Rattle.authenticator.specs.Response.{version, Drawn, valid, reasonOf, afterReason, replyFor, responseDrawn}
+use Rattle.authenticator.specs.Response.{version, Drawn, valid, firstReason, reasonOf, afterReason, replyFor, responseDrawn}
 use Rattle.authenticator.specs.Change.{hashInside, hashIn, proves, proven, newHash, drawnBy, changeDrawn}
 use Rattle.authenticator.specs.Step.{drawnIn, drawn, judgedAs, step}
 use Rattle.authenticator.specs.Steps.{Rightful}
@@ -66,7 +66,7 @@ module _ (c : Conversation) (p b : List ℕ) (ok : refusalOf c p b ≡ 0) where
 
 -- no record, or an invalid Response
 reason-invalid : (c : Conversation) (l : Lookup) (f : fields.Response) → (l .found && valid c (l .account) f) ≡ false → reasonOf c l f ≡ 691
-unfolding reasonOf
+unfolding reasonOf firstReason
 reason-invalid c l f v = rw v
 
 reason-valid : (v d h n : Bool) (m : ℕ) → v ≡ true → d ≡ false → h ≡ false → n ≡ false
@@ -75,7 +75,7 @@ reason-valid v d h n m e₁ e₂ e₃ e₄ = rw (e₁, e₂, e₃, e₄)
 
 rightful-reason : (c : Conversation) (a : Account) (f : fields.Response) → Rightful a → valid c a f ≡ true
     → reasonOf c (found a) f ≡ cond (a .expired) 648 0
-unfolding reasonOf
+unfolding reasonOf firstReason
 rightful-reason c a f g v =
     reason-valid (valid c a f) (a .disabled) (a .hours) (a .nodialin) (cond (a .expired) 648 0) v (g .enabled) (g .hours) (g .dialin)
 

@@ -14,13 +14,15 @@ use Rattle.packets.specs.Response.{responseIn}
 use Rattle.packets.specs.Change.{changeIn}
 use Rattle.packets.specs.Reply.{successPacket, failurePacket, readReply, succeeded}
 use Rattle.packets.specs.declared.Response as fields
+use Rattle.packets.specs.declared.Change as changes
 use Rattle.packets.proofs.ReadBack.{success-back, failure-read}
 use Rattle.authenticator.specs.Conversation.{isEnded}
 use Rattle.authenticator.specs.Refusal.{refusalOf}
-use Rattle.authenticator.specs.Response.{version, Drawn, valid, reasonOf, mayRetry, replyFor, responseDrawn}
+use Rattle.authenticator.specs.Response.{version, Drawn, firstReason, reasonOf, mayRetry, replyFor, responseDrawn}
 use Rattle.authenticator.specs.Change.{newHash, drawnBy, changeDrawn}
 use Rattle.authenticator.specs.Step.{reasonIn, drawnIn, drawn, Outcome, judgedAs}
 use Rattle.authenticator.specs.Steps.{Lent, stepOn, refusalAt, replyOf}
+use Rattle.authenticator.specs.declared.Account.{Account}
 use Rattle.authenticator.specs.declared.Lookup.{Lookup}
 use Rattle.authenticator.specs.declared.Conversation.{Conversation}
 use Rattle.authenticator.specs.declared.Phase.{Phase}
@@ -46,10 +48,9 @@ three-digits nodialin = omega arith
 three-digits invalid = omega arith
 three-digits change = omega arith
 
-response-reason : (c : Conversation) (l : Lookup) (f : fields.Response) → Reason (reasonOf c l f)
-unfolding reasonOf
-response-reason c l f =
-    which (l .found && valid c (l .account) f) (l .account .disabled) (l .account .hours) (l .account .nodialin) (l .account .expired)
+first-reason : (v : Bool) (a : Account) → Reason (firstReason v a)
+unfolding firstReason
+first-reason v a = which v (a .disabled) (a .hours) (a .nodialin) (a .expired)
   where
     which : (v d h n x : Bool) → Reason (cond (not v) 691 (cond d 647 (cond h 646 (cond n 649 (cond x 648 0)))))
     which false d h n x = invalid
@@ -59,18 +60,30 @@ response-reason c l f =
     which true false false false true = expired
     which true false false false false = success
 
+response-reason : (c : Conversation) (l : Lookup) (f : fields.Response) → Reason (reasonOf c l f)
+unfolding reasonOf
+response-reason c l f = first-reason _ _
+
 -- what a judged packet draws: a reason, and its reply
 abbrev pub Fitting : Conversation → Drawn → Type 0
 Fitting c d = Reason (d .reason) × (d .reply ≡ replyFor c (d .reason))
 
-change-fitting : (c : Conversation) (o : Option (List ℕ)) → Fitting c (drawnBy c o)
-change-fitting c none = (change, refl)
-change-fitting c (some h) = (success, refl)
+response-fitting : (c : Conversation) (l : Lookup) (f : fields.Response) → Fitting c (responseDrawn c l f)
+unfolding responseDrawn
+response-fitting c l f = (response-reason c l f, refl)
+
+-- by the identifier alone
+change-fitting : (c d : Conversation) (f : changes.Change) → d .id ≡ c .id → Fitting c (changeDrawn d f)
+unfolding changeDrawn
+change-fitting c d f e = which (newHash d f)
+  where
+    which : (o : Option (List ℕ)) → Fitting c (drawnBy d o)
+    which none = (change, ap (λ (n : ℕ). failurePacket n (textOf 709 0 version)) e)
+    which (some h) = (success, ap successPacket e)
 
 phase-fitting : (ph : Phase) (c : Conversation) (p : List ℕ) (l : Lookup) → isEnded ph ≡ false → Fitting c (drawnIn ph c p l)
-unfolding responseDrawn changeDrawn
-phase-fitting Response c p l e = (response-reason c l (responseIn p), refl)
-phase-fitting Change c p l e = change-fitting c (newHash c (changeIn p))
+phase-fitting Response c p l e = response-fitting c l (responseIn p)
+phase-fitting Change c p l e = change-fitting c _ _ refl
 phase-fitting Ended c p l e = let z : _≡_ {A = ℕ} 0 1 = cc in absurd (omega arith)
 
 pub drawn-fitting : (c : Conversation) (p : List ℕ) (l : Lookup) → isEnded (c .phase) ≡ false → Fitting c (drawn c p l)
@@ -91,7 +104,7 @@ read-reply c e behind small = which (eqb e 0) (mayRetry c e)
     which false true = failure-read (c .id) e 1 version behind small (omega arith) (omega arith)
     which false false = failure-read (c .id) e 0 version behind small (omega arith) (omega arith)
 
-module _ (c : Conversation) (s : Lent) (ok : refusalAt c s ≡ 0) where
+module _ (c : Conversation) (s : Lent) (ok : refusalAt stepOn c s ≡ 0) where
   abbrev reason : ℕ
   reason = reasonIn (stepOn c s .answer .kind)
 

@@ -13,9 +13,11 @@ use lib.Dec.{eqb, ltb}
 use lib.ListN.{length}
 use Rattle.message.specs.Message.{textOf}
 use Rattle.packets.specs.Frame.{octet, badFrame}
-use Rattle.packets.specs.Response.{responseIn, badResponseSize, badResponseFlag, responseRefusal}
-use Rattle.packets.specs.Change.{changeIn, badChangeSize, badChangeFlags, changeRefusal}
+use Rattle.packets.specs.Response.{badResponseSize, badResponseFlag, responseRefusal}
+use Rattle.packets.specs.Change.{badChangeSize, badChangeFlags, changeRefusal}
 use Rattle.packets.specs.Reply.{successPacket, failurePacket}
+use Rattle.packets.specs.declared.Response as fields
+use Rattle.packets.specs.declared.Change as changes
 use Rattle.packets.proofs.Writing.{taken}
 use Rattle.authenticator.specs.Conversation.{awaitedCode, isEnded}
 use Rattle.authenticator.specs.Opening.{badRoom}
@@ -51,12 +53,12 @@ module _ (c : Conversation) (p : List ℕ) (l : Lookup) (b : List ℕ) where
       which false e = ap (λ (o : Outcome). numberOf (o .answer .kind)) (refused-step (eqb-false (refusalOf c p b) 0 e))
 
 -- a refused step leaves the conversation and the buffer as they were, writes nothing and hands out no record
-pub refused-whole : (c : Conversation) (s : Lent) → Refused c s → stepOn c s ≡ refusedAs (refusalAt c s) c (s .buffer)
+pub refused-whole : (c : Conversation) (s : Lent) → Refused stepOn c s → stepOn c s ≡ refusedAs (refusalAt stepOn c s) c (s .buffer)
 refused-whole c s h =
     let n = number-step c (s .packet) (s .account) (s .buffer) in
     refused-step c (s .packet) (s .account) (s .buffer) (λ e. h (n ∙ e)) ∙ ap (λ (k : ℕ). refusedAs k c (s .buffer)) (sym n)
 
-pub refused-same : (c : Conversation) (s : Lent) → Refused c s → nextAfter c s ≡ c
+pub refused-same : (c : Conversation) (s : Lent) → Refused stepOn c s → nextAfter stepOn c s ≡ c
 refused-same c s h = ap (λ (o : Outcome). o .answer .next) (refused-whole c s h)
 
 -- ---- the checks
@@ -83,7 +85,7 @@ passes c p b h =
     (ap not (eq-eqb (octet 1 p) (c .id) (h .id))) (h .body)
 
 -- a live conversation: a number that is not 2 says that the buffer has room
-pub roomy : (c : Conversation) (s : Lent) → isEnded (c .phase) ≡ false → refusalAt c s ≢ 2 → 17 ≤ length (s .buffer)
+pub roomy : (c : Conversation) (s : Lent) → isEnded (c .phase) ≡ false → refusalAt stepOn c s ≢ 2 → 17 ≤ length (s .buffer)
 unfolding refusalOf
 roomy c s live two =
     ltb-false (length (s .buffer)) 17
@@ -135,20 +137,26 @@ live-and-roomy c p b e = which (isEnded (c .phase)) (badRoom b) _ refl refl e
 
 -- ---- the reply
 
-response-fits : (t : Bool) (id e r : ℕ) → Fits (cond t (successPacket id) (failurePacket id (textOf e r version)))
-response-fits true id e r = success-fits id
-response-fits false id e r = failure-fits id e r version
+response-fits : (c : Conversation) (l : Lookup) (f : fields.Response) → Fits (responseDrawn c l f .reply)
+unfolding responseDrawn
+response-fits c l f = which (eqb (reasonOf c l f) 0)
+  where
+    which : (t : Bool)
+        → Fits (cond t (successPacket (c .id)) (failurePacket (c .id) (textOf (reasonOf c l f) (cond (mayRetry c (reasonOf c l f)) 1 0) version)))
+    which true = success-fits (c .id)
+    which false = failure-fits (c .id) (reasonOf c l f) (cond (mayRetry c (reasonOf c l f)) 1 0) version
 
-change-fits : (c : Conversation) (o : Option (List ℕ)) → Fits (drawnBy c o .reply)
-change-fits c none = failure-fits (c .id) 709 0 version
-change-fits c (some h) = success-fits (c .id)
+change-fits : (c : Conversation) (f : changes.Change) → Fits (changeDrawn c f .reply)
+unfolding changeDrawn
+change-fits c f = which (newHash c f)
+  where
+    which : (o : Option (List ℕ)) → Fits (drawnBy c o .reply)
+    which none = failure-fits (c .id) 709 0 version
+    which (some h) = success-fits (c .id)
 
 phase-fits : (ph : Phase) (c : Conversation) (p : List ℕ) (l : Lookup) → isEnded ph ≡ false → Fits (drawnIn ph c p l .reply)
-unfolding responseDrawn changeDrawn
-phase-fits Response c p l e =
-    let n = reasonOf c l (responseIn p) in
-    response-fits (eqb n 0) (c .id) n (cond (mayRetry c n) 1 0)
-phase-fits Change c p l e = change-fits c (newHash c (changeIn p))
+phase-fits Response c p l e = response-fits _ _ _
+phase-fits Change c p l e = change-fits _ _
 phase-fits Ended c p l e = let z : _≡_ {A = ℕ} 0 1 = cc in absurd (omega arith)
 
 pub drawn-fits : (c : Conversation) (p : List ℕ) (l : Lookup) → isEnded (c .phase) ≡ false → Fits (drawn c p l .reply)
@@ -161,19 +169,19 @@ reply-of d b h = taken (d .reply) b h
 
 -- "a packet is judged exactly when it draws a reply": 1 where the step is not refused, and 0 where it is
 module _ (c : Conversation) (s : Lent) where
-  pub judged-one : refusalAt c s ≡ 0 → judged c s ≡ 1
+  pub judged-one : refusalAt stepOn c s ≡ 0 → judged stepOn c s ≡ 1
   judged-one e =
       let ok : refusalOf c (s .packet) (s .buffer) ≡ 0 = sym (number-step c (s .packet) (s .account) (s .buffer)) ∙ e in
       let live = live-and-roomy c (s .packet) (s .buffer) ok .0 in
       ap (λ (o : Outcome). cond {A = ℕ} (ltb 0 (o .answer .written)) 1 0) (judged-step c (s .packet) (s .account) (s .buffer) ok)
       ∙ ap (λ (t : Bool). cond {A = ℕ} t 1 0) (lt-ltb 0 _ (drawn-fits c (s .packet) (s .account) live .0))
 
-  pub judged-none : Refused c s → judged c s ≡ 0
+  pub judged-none : Refused stepOn c s → judged stepOn c s ≡ 0
   judged-none h = ap (λ (o : Outcome). cond {A = ℕ} (ltb 0 (o .answer .written)) 1 0) (refused-whole c s h)
 
-  pub judged-exactly : judged c s ≡ cond (eqb (refusalAt c s) 0) 1 0
-  judged-exactly = which (eqb (refusalAt c s) 0) refl
+  pub judged-exactly : judged stepOn c s ≡ cond (eqb (refusalAt stepOn c s) 0) 1 0
+  judged-exactly = which (eqb (refusalAt stepOn c s) 0) refl
     where
-      which : (t : Bool) → eqb (refusalAt c s) 0 ≡ t → judged c s ≡ cond t 1 0
-      which true e = judged-one (eqb-true (refusalAt c s) 0 e)
-      which false e = judged-none (eqb-false (refusalAt c s) 0 e)
+      which : (t : Bool) → eqb (refusalAt stepOn c s) 0 ≡ t → judged stepOn c s ≡ cond t 1 0
+      which true e = judged-one (eqb-true (refusalAt stepOn c s) 0 e)
+      which false e = judged-none (eqb-false (refusalAt stepOn c s) 0 e)

@@ -31,14 +31,17 @@ valid c a f =
     (answers (a .nt) (c .challenge) (f .nt))
     (c .terms .lm && answers (a .lm) (c .challenge) (f .lm))
 
--- the first reason that applies
+-- the first reason that applies, by whether there is a record for which the Response is valid
+unfoldable pub firstReason : Bool → Account → ℕ
+firstReason v a =
+    cond (not v) 691
+    (cond (a .disabled) 647
+    (cond (a .hours) 646
+    (cond (a .nodialin) 649
+    (cond (a .expired) 648 0))))
+
 unfoldable pub reasonOf : Conversation → Lookup → Response → ℕ
-reasonOf c l f =
-    cond (not (l .found && valid c (l .account) f)) 691
-    (cond (l .account .disabled) 647
-    (cond (l .account .hours) 646
-    (cond (l .account .nodialin) 649
-    (cond (l .account .expired) 648 0))))
+reasonOf c l f = firstReason (l .found && valid c (l .account) f) (l .account)
 
 -- R: 691 with retries left may be retried
 abbrev pub mayRetry : Conversation → ℕ → Bool

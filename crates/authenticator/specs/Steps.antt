@@ -18,27 +18,33 @@ pub record Lent : Type 0 where
   pub account : Lookup
   pub buffer : List ℕ
 
-abbrev pub stepOn : Conversation → Lent → Outcome
+-- What a box makes of a conversation and of what a step is lent; ours is `stepOn`. What follows is said of any box, so that it can be shown which
+-- boxes demand 3 shuts out.
+abbrev pub Box : Type 0
+Box = Conversation → Lent → Outcome
+
+abbrev pub stepOn : Box
 stepOn c s = step c (s .packet) (s .account) (s .buffer)
-
--- "the conversation that .. the step before gave back"
-abbrev pub nextAfter : Conversation → Lent → Conversation
-nextAfter c s = stepOn c s .answer .next
-
-abbrev pub refusalAt : Conversation → Lent → ℕ
-refusalAt c s = numberOf (stepOn c s .answer .kind)
-
--- a packet "with which the box refuses it"
-abbrev pub Refused : Conversation → Lent → Type 0
-Refused c s = refusalAt c s ≢ 0
 
 -- the reply of a step
 abbrev pub replyOf : Outcome → List ℕ
 replyOf o = take (o .answer .written) (o .buffer)
 
--- "judged": 1 for a packet that draws a reply
-abbrev pub judged : Conversation → Lent → ℕ
-judged c s = cond (ltb 0 (stepOn c s .answer .written)) 1 0
+module _ (box : Box) where
+  -- "the conversation that .. the step before gave back"
+  abbrev pub nextAfter : Conversation → Lent → Conversation
+  nextAfter c s = box c s .answer .next
+
+  abbrev pub refusalAt : Conversation → Lent → ℕ
+  refusalAt c s = numberOf (box c s .answer .kind)
+
+  -- a packet "with which the box refuses it"
+  abbrev pub Refused : Conversation → Lent → Type 0
+  Refused c s = refusalAt c s ≢ 0
+
+  -- "judged": 1 for a packet that draws a reply
+  abbrev pub judged : Conversation → Lent → ℕ
+  judged c s = cond (ltb 0 (box c s .answer .written)) 1 0
 
 -- the rightful user's record: with an NT hash, and neither disabled, barred by hours nor without dial-in
 pub record Rightful (a : Account) : Type 0 where

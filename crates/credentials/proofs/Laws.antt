@@ -41,7 +41,7 @@ two-blocks key₁ block₁ key₂ block₂ =
 
 pub length-lm : (password : List ℕ) → length (lmHashOf password) ≡ 16
 unfolding lmHashOf
-length-lm password = two-blocks (part 0 7 (lmKeys password)) stdText (part 7 7 (lmKeys password)) stdText
+length-lm password = two-blocks _ _ _ _
 
 pub length-response : (hash challenge : List ℕ) → length (responseOf hash challenge) ≡ 24
 unfolding responseOf
@@ -49,7 +49,7 @@ length-response hash challenge = length-three (fixed 21 hash) challenge
 
 pub length-old-under-new : (old new : List ℕ) → length (oldUnderNew old new) ≡ 16
 unfolding oldUnderNew
-length-old-under-new old new = two-blocks (part 0 7 new) (part 0 8 old) (part 7 7 new) (part 8 8 old)
+length-old-under-new old new = two-blocks _ _ _ _
 
 module _ (filler password : List ℕ) (room : length filler ≡ 512) (fits : length password ≤ 512) where
   abbrev front : List ℕ
@@ -69,10 +69,6 @@ module _ (filler password : List ℕ) (room : length filler ≡ 512) (fits : len
   length-plain : length (plainBlock filler password) ≡ 516
   length-plain = ap length plain-parts ∙ length-append (front ++ password) (toLe 4 (length password)) ∙ omega (arith, body-length)
 
-  pub length-sealed : (old : List ℕ) → length (sealedBlock old filler password) ≡ 516
-  unfolding sealedBlock
-  length-sealed old = length-crypted old (plainBlock filler password) ∙ length-plain
-
   -- ---- opening what was sealed
 
   length-read : lengthIn (plainBlock filler password) ≡ length password
@@ -91,6 +87,9 @@ module _ (filler password : List ℕ) (room : length filler ≡ 512) (fits : len
   opened-plain : (old : List ℕ) → crypted old (sealedBlock old filler password) ≡ plainBlock filler password
   unfolding sealedBlock
   opened-plain old = crypted-twice old (plainBlock filler password)
+
+  pub length-sealed : (old : List ℕ) → length (sealedBlock old filler password) ≡ 516
+  length-sealed old = sym (length-crypted old (sealedBlock old filler password)) ∙ ap length (opened-plain old) ∙ length-plain
 
   pub open-sealed : (old : List ℕ) → openedAs old (sealedBlock old filler password) ≡ record { content = contentFor (length password); octets = front ++ password }
   unfolding openedAs

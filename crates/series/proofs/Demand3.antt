@@ -45,24 +45,24 @@ not-valid false v h = refl
 
 -- ---- our peer's packets, within the limits
 
-module _ (p : Place) (h : InStep (p .box) (p .peer .turn)) where
+module _ (p : Place) (h : InStep (p .conversation) (p .peer .turn)) where
   abbrev turn : Turn
   turn = p .peer .turn
 
   -- what the reply reads as, by the identifier that both have
-  read-by : (reply behind : List ℕ) (r : Reading) → readReply (p .box .id) (reply ++ behind) ≡ r → readReply (turn .id) (reply ++ behind) ≡ r
+  read-by : (reply behind : List ℕ) (r : Reading) → readReply (p .conversation .id) (reply ++ behind) ≡ r → readReply (turn .id) (reply ++ behind) ≡ r
   read-by reply behind r e = ap (λ (i : ℕ). readReply i (reply ++ behind)) (sym (h .id)) ∙ e
 
   read-failure : (e r : ℕ) (behind : List ℕ) → e < 1000 → r < 2
-      → readReply (turn .id) (failurePacket (p .box .id) (textOf e r 2) ++ behind) ≡ failedWith e r 2 noC
+      → readReply (turn .id) (failurePacket (p .conversation .id) (textOf e r 2) ++ behind) ≡ failedWith e r 2 noC
   read-failure e r behind small bit =
-      read-by (failurePacket (p .box .id) (textOf e r 2)) behind (failedWith e r 2 noC) (failure-read (p .box .id) e r 2 behind small bit (omega arith))
+      read-by (failurePacket (p .conversation .id) (textOf e r 2)) behind (failedWith e r 2 noC) (failure-read (p .conversation .id) e r 2 behind small bit (omega arith))
 
-  read-success : (behind : List ℕ) → readReply (turn .id) (successPacket (p .box .id) ++ behind) ≡ succeeded
-  read-success behind = read-by (successPacket (p .box .id)) behind succeeded (success-back (p .box .id) behind)
+  read-success : (behind : List ℕ) → readReply (turn .id) (successPacket (p .conversation .id) ++ behind) ≡ succeeded
+  read-success behind = read-by (successPacket (p .conversation .id)) behind succeeded (success-back (p .conversation .id) behind)
 
   -- a try
-  module _ (password name : List ℕ) (l : Line) (kept : Kept (exchange p (right password name) l)) (ph : p .box .phase ≡ Response) where
+  module _ (password name : List ℕ) (l : Line) (kept : Kept (exchange stepOn p (right password name) l)) (ph : p .conversation .phase ≡ Response) where
     abbrev wrote : Wrote
     wrote = writeResponse turn password name (l .out)
 
@@ -70,7 +70,7 @@ module _ (p : Place) (h : InStep (p .box) (p .peer .turn)) where
     try-written = response-limits turn password name (l .out) (kept .0 .not8) (kept .0 .not10) (kept .0 .not9)
 
     try-room : 17 ≤ length (l .buffer)
-    try-room = roomy (p .box) (reaching wrote l) (ap isEnded ph) (kept .1 .not2)
+    try-room = roomy (p .conversation) (reaching wrote l) (ap isEnded ph) (kept .1 .not2)
 
     try-left : reaching wrote l .packet ≡ responseFor turn password name ++ l .after
     try-left = ap (λ (x : List ℕ). x ++ l .after) (response-left turn password name (l .out) try-written)
@@ -78,29 +78,29 @@ module _ (p : Place) (h : InStep (p .box) (p .peer .turn)) where
     try-name : (1 ≤ length name) × (length name ≤ 256)
     try-name = name-fits turn password name (l .out) try-written
 
-    invalid-exchanged : (l .account .found && valid (p .box) (l .account .account) (responseIn (reaching wrote l .packet))) ≡ false → 0 < p .box .retries
-        → Exchanged p wrote l (again (p .box)) (failedWith 691 1 2 noC)
+    invalid-exchanged : (l .account .found && valid (p .conversation) (l .account .account) (responseIn (reaching wrote l .packet))) ≡ false → 0 < p .conversation .retries
+        → Exchanged p wrote l (again (p .conversation)) (failedWith 691 1 2 noC)
     invalid-exchanged v pos =
-        exchanged p wrote l (again (p .box)) (failedWith 691 1 2 noC) try-written try-room (failure-fits (p .box .id) 691 1 2)
-        (ap (λ (x : List ℕ). step (p .box) x (l .account) (l .buffer)) try-left
-        ∙ invalid-taken (p .box) turn h ph password name (l .after) (l .buffer) try-room try-name (l .account)
-        (ap (λ (x : List ℕ). l .account .found && valid (p .box) (l .account .account) (responseIn x)) (sym try-left) ∙ v) pos)
+        exchanged p wrote l (again (p .conversation)) (failedWith 691 1 2 noC) try-written try-room (failure-fits (p .conversation .id) 691 1 2)
+        (ap (λ (x : List ℕ). step (p .conversation) x (l .account) (l .buffer)) try-left
+        ∙ invalid-taken (p .conversation) turn h ph password name (l .after) (l .buffer) try-room try-name (l .account)
+        (ap (λ (x : List ℕ). l .account .found && valid (p .conversation) (l .account .account) (responseIn x)) (sym try-left) ∙ v) pos)
         (read-failure 691 1 (l .behind) (omega arith) (omega arith))
 
     right-exchanged : (a : Account) → Rightful a → ntHashOf password ≡ a .nt .octets → l .account ≡ found a
-        → Exchanged p wrote l (drawnRight (a .expired) (p .box) a) (readRight (a .expired))
+        → Exchanged p wrote l (drawnRight (a .expired) (p .conversation) a) (readRight (a .expired))
     right-exchanged a g hash lent =
-        exchanged p wrote l (drawnRight (a .expired) (p .box) a) (readRight (a .expired)) try-written try-room (right-fits (a .expired) (p .box) a)
-        (ap₂ (λ (x : List ℕ) (y : Lookup). step (p .box) x y (l .buffer)) try-left lent
-        ∙ right-taken (p .box) turn h ph password name (l .after) (l .buffer) try-room try-name a g hash)
+        exchanged p wrote l (drawnRight (a .expired) (p .conversation) a) (readRight (a .expired)) try-written try-room (right-fits (a .expired) (p .conversation) a)
+        (ap₂ (λ (x : List ℕ) (y : Lookup). step (p .conversation) x y (l .buffer)) try-left lent
+        ∙ right-taken (p .conversation) turn h ph password name (l .after) (l .buffer) try-room try-name a g hash)
         (heard (a .expired))
       where
-        heard : (x : Bool) → readReply (turn .id) (drawnRight x (p .box) a .reply ++ l .behind) ≡ readRight x
+        heard : (x : Bool) → readReply (turn .id) (drawnRight x (p .conversation) a .reply ++ l .behind) ≡ readRight x
         heard true = read-failure 648 0 (l .behind) (omega arith) (omega arith)
         heard false = read-success (l .behind)
 
   -- the change
-  module _ (old new filler : List ℕ) (l : Line) (kept : Kept (exchange p (renewal old new filler) l)) (ph : p .box .phase ≡ Change) where
+  module _ (old new filler : List ℕ) (l : Line) (kept : Kept (exchange stepOn p (renewal old new filler) l)) (ph : p .conversation .phase ≡ Change) where
     abbrev changeWrote : Wrote
     changeWrote = writeChange turn old new filler (l .out)
 
@@ -108,41 +108,41 @@ module _ (p : Place) (h : InStep (p .box) (p .peer .turn)) where
     change-written = change-limits turn old new filler (l .out) (kept .0 .not8) (kept .0 .not12) (kept .0 .not9)
 
     change-room : 17 ≤ length (l .buffer)
-    change-room = roomy (p .box) (reaching changeWrote l) (ap isEnded ph) (kept .1 .not2)
+    change-room = roomy (p .conversation) (reaching changeWrote l) (ap isEnded ph) (kept .1 .not2)
 
-    module _ (there : p .box .kept .nt .present ≡ true) (hash : ntHashOf old ≡ p .box .kept .nt .octets) where
-      change-outcome : stepOn (p .box) (reaching changeWrote l) ≡ judgedAs (changed (p .box) (ntHashOf new)) (l .buffer)
+    module _ (there : p .conversation .kept .nt .present ≡ true) (hash : ntHashOf old ≡ p .conversation .kept .nt .octets) where
+      change-outcome : stepOn (p .conversation) (reaching changeWrote l) ≡ judgedAs (changed (p .conversation) (ntHashOf new)) (l .buffer)
       change-outcome =
-          ap (λ (x : List ℕ). step (p .box) (x ++ l .after) (l .account) (l .buffer)) (change-left turn old new filler (l .out) change-written)
-          ∙ change-taken (p .box) turn h ph old new filler (l .after) (l .buffer) change-room
+          ap (λ (x : List ℕ). step (p .conversation) (x ++ l .after) (l .account) (l .buffer)) (change-left turn old new filler (l .out) change-written)
+          ∙ change-taken (p .conversation) turn h ph old new filler (l .after) (l .buffer) change-room
           (filler-full turn old new filler (l .out) change-written) (new-fits turn old new filler (l .out) change-written) there hash (l .account)
 
-      change-exchanged : Exchanged p changeWrote l (changed (p .box) (ntHashOf new)) succeeded
+      change-exchanged : Exchanged p changeWrote l (changed (p .conversation) (ntHashOf new)) succeeded
       change-exchanged =
-          exchanged p changeWrote l (changed (p .box) (ntHashOf new)) succeeded change-written change-room (success-fits (p .box .id)) change-outcome
+          exchanged p changeWrote l (changed (p .conversation) (ntHashOf new)) succeeded change-written change-room (success-fits (p .conversation .id)) change-outcome
           (read-success (l .behind))
 
 -- ---- a later conversation
 
-through : (c : Conversation) (ss : List Lent) → Along nextAfter Refused c ss → end nextAfter c ss ≡ c
+through : (c : Conversation) (ss : List Lent) → Along (nextAfter stepOn) (Refused stepOn) c ss → end (nextAfter stepOn) c ss ≡ c
 through c [] h = refl
-through c (s ∷ ss) h = through (nextAfter c s) ss (h .1) ∙ refused-same c s (h .0)
+through c (s ∷ ss) h = through (nextAfter stepOn c s) ss (h .1) ∙ refused-same c s (h .0)
 
-lets-in : (a : Account) (password : List ℕ) → Rightful a → a .expired ≡ false → ntHashOf password ≡ a .nt .octets → LetsIn a password
+lets-in : (a : Account) (password : List ℕ) → Rightful a → a .expired ≡ false → ntHashOf password ≡ a .nt .octets → LetsIn stepOn a password
 lets-in a password g fresh hash o behind name ss l ok eight quiet lent kept =
     let first = opened o .conversation in
     let back = through first ss quiet in
-    let p : Place = record { box = end nextAfter first ss; peer = start o behind .peer } in
-    let i : InStep (p .box) (p .peer .turn) = subst (λ (c : Conversation). InStep c (start o behind .peer .turn)) (sym back) (opened-in-step o ok eight behind) in
-    let ph : p .box .phase ≡ Response = ap (λ (c : Conversation). c .phase) (back ∙ opened-first o ok) in
+    let p : Place = record { conversation = end (nextAfter stepOn) first ss; peer = start o behind .peer } in
+    let i : InStep (p .conversation) (p .peer .turn) = subst (λ (c : Conversation). InStep c (start o behind .peer .turn)) (sym back) (opened-in-step o ok eight behind) in
+    let ph : p .conversation .phase ≡ Response = ap (λ (c : Conversation). c .phase) (back ∙ opened-first o ok) in
     let d = right-exchanged p i password name l kept ph a g hash lent .draws in
-    let id : p .box .id ≡ o .id = ap (λ (c : Conversation). c .id) (back ∙ opened-first o ok) in
-    (d .0 ∙ ap (λ (x : Bool). drawnRight x (p .box) a .reply) fresh ∙ ap successPacket id, d .1 ∙ ap readRight fresh)
+    let id : p .conversation .id ≡ o .id = ap (λ (c : Conversation). c .id) (back ∙ opened-first o ok) in
+    (d .0 ∙ ap (λ (x : Bool). drawnRight x (p .conversation) a .reply) fresh ∙ ap successPacket id, d .1 ∙ ap readRight fresh)
 
 -- ---- each move
 
 abbrev Ready : Account → List Kind → Place → Type 0
-Ready a due p = FitIn a due (p .box) × InStep (p .box) (p .peer .turn)
+Ready a due p = FitIn a due (p .conversation) × InStep (p .conversation) (p .peer .turn)
 
 right-answered : (x : Bool) (e : Exchange) (c : Conversation) (a : Account) → Draws e (drawnRight x c a .reply) (readRight x)
     → cond x (DrawsFailure e (c .id) 648 0) (DrawsSuccess e (c .id))
@@ -150,39 +150,39 @@ right-answered true e c a h = h
 right-answered false e c a h = h
 
 module _ (a : Account) (g : Rightful a) where
-  law : (due : List Kind) (p : Place) (m : Move) → Ready a (kindsOf m ++ due) p → Allowed a p m
-      → Claimed a p m × (judgedAt p m ≡ length (kindsOf m)) × Ready a due (go p m)
+  law : (due : List Kind) (p : Place) (m : Move) → Ready a (kindsOf m ++ due) p → Allowed stepOn a p m
+      → Claimed stepOn a p m × (judgedAt stepOn p m ≡ length (kindsOf m)) × Ready a due (go stepOn p m)
   law due p (other s) (f, i) h =
-      (tt, judged-none (p .box) s h, subst (λ (c : Conversation). FitIn a due c × InStep c (p .peer .turn)) (sym (refused-same (p .box) s h)) (f, i))
+      (tt, judged-none (p .conversation) s h, subst (λ (c : Conversation). FitIn a due c × InStep c (p .peer .turn)) (sym (refused-same (p .conversation) s h)) (f, i))
   law due p (ours (invalid password name) l) (f, i) h =
       let x = invalid-exchanged p i password name l (h .0) (f .0) (not-valid (l .account .found) _ (h .1)) (f .1) in (
-        subst (λ (n : ℕ). DrawsFailure (exchange p (invalid password name) l) n 691 1) (i .id) (x .draws),
+        subst (λ (n : ℕ). DrawsFailure (exchange stepOn p (invalid password name) l) n 691 1) (i .id) (x .draws),
         x .judges,
-        subst (Ready a due) (sym (x .leads)) (f .2, retried-in-step (p .box) (p .peer .turn) i),
+        subst (Ready a due) (sym (x .leads)) (f .2, retried-in-step (p .conversation) (p .peer .turn) i),
       )
   law due p (ours (right password name) l) (f, i) h =
       let x = right-exchanged p i password name l (h .0) (f .0) a g (h .1 .0) (h .1 .1) in
-      let answered = right-answered (a .expired) (exchange p (right password name) l) (p .box) a (x .draws) in (
-        subst (λ (n : ℕ). Answered a n (right password name) (exchange p (right password name) l)) (i .id) answered,
+      let answered = right-answered (a .expired) (exchange stepOn p (right password name) l) (p .conversation) a (x .draws) in (
+        subst (λ (n : ℕ). Answered stepOn a n (right password name) (exchange stepOn p (right password name) l)) (i .id) answered,
         x .judges,
-        subst (Ready a due) (sym (x .leads)) (right-fit (a .expired) (p .box) a a due (f .1), right-in-step (p .box) (p .peer .turn) i (a .expired) a),
+        subst (Ready a due) (sym (x .leads)) (right-fit (a .expired) (p .conversation) a a due (f .1), right-in-step (p .conversation) (p .peer .turn) i (a .expired) a),
       )
   law due p (ours (renewal old new filler) l) (f, i) h =
-      let kept : Rightful (p .box .kept) = subst Rightful (sym (f .1)) g in
-      let hash : ntHashOf old ≡ p .box .kept .nt .octets = h .1 ∙ sym (ap (λ (b : Account). b .nt .octets) (f .1)) in
+      let kept : Rightful (p .conversation .kept) = subst Rightful (sym (f .1)) g in
+      let hash : ntHashOf old ≡ p .conversation .kept .nt .octets = h .1 ∙ sym (ap (λ (b : Account). b .nt .octets) (f .1)) in
       let x = change-exchanged p i old new filler l (h .0) (f .0) (kept .nt) hash in
       let handed = ap (λ (o : Outcome). o .answer .handed) (change-outcome p i old new filler l (h .0) (f .0) (kept .nt) hash) in
-      let n = renewed-rightful (p .box .kept) (ntHashOf new) kept in (
+      let n = renewed-rightful (p .conversation .kept) (ntHashOf new) kept in (
         (
-          subst (λ (n : ℕ). DrawsSuccess (exchange p (renewal old new filler) l) n) (i .id) (x .draws),
+          subst (λ (n : ℕ). DrawsSuccess (exchange stepOn p (renewal old new filler) l) n) (i .id) (x .draws),
           ap (λ (b : Lookup). b .found) handed,
-          subst (λ (b : Lookup). LetsIn (b .account) new) (sym handed) (lets-in (renewed (p .box .kept) (ntHashOf new)) new (n .0) (n .1) (sym (n .2))),
+          subst (λ (b : Lookup). LetsIn stepOn (b .account) new) (sym handed) (lets-in (renewed (p .conversation .kept) (ntHashOf new)) new (n .0) (n .1) (sym (n .2))),
         ),
         x .judges,
-        subst (Ready a due) (sym (x .leads)) (f .2, ended-in-step (p .box) (p .peer .turn) i),
+        subst (Ready a due) (sym (x .leads)) (f .2, ended-in-step (p .conversation) (p .peer .turn) i),
       )
 
-  talk : Talk go kindsOf judgedAt (Allowed a) (Claimed a)
+  talk : Talk (go stepOn) kindsOf (judgedAt stepOn) (Allowed stepOn a) (Claimed stepOn a)
   talk = record { Ready = Ready a; law = law }
 
 -- ---- the whole
@@ -196,7 +196,7 @@ count k x =
     last true = refl
     last false = refl
 
-pub demand3 : Demand3
+pub demand3 : Demand3 stepOn
 unfolding talk
 demand3 o ok eight = (
   (λ behind. challenge-read o ok eight behind),
@@ -206,6 +206,6 @@ demand3 o ok eight = (
       let all = whole (talk a g) (start o behind) ms ready h in
       (all .0, all .1 ∙ ap length due ∙ count k (a .expired), all .2 .0)),
   (λ ss.
-      let most = within nextAfter judged leftIn judged-less (opened o .conversation) ss in
+      let most = within (nextAfter stepOn) (judged stepOn) leftIn judged-less (opened o .conversation) ss in
       omega (arith, ap leftIn (opened-first o ok) ∙ left-first o)),
 )

@@ -11,10 +11,10 @@ use Rattle.packets.specs.Response.{responseRefusal}
 use Rattle.packets.specs.Reply.{challengePacket, failurePacket}
 use Rattle.authenticator.specs.Opening.{openRefusal, opened, openedBuffer}
 use Rattle.authenticator.specs.Refusal.{refusalOf}
-use Rattle.authenticator.specs.Response.{reasonOf, responseDrawn}
+use Rattle.authenticator.specs.Response.{firstReason, reasonOf, responseDrawn}
 use Rattle.authenticator.specs.Step.{drawn, step}
 use Rattle.series.specs.Twelve.{Row, outputOf, rows}
 
 pub twelve : map outputOf (map (λ (r : Row). r .input) rows) ≡ map (λ (r : Row). r .output) rows
-unfolding outputOf expandKey contentFor words isField fieldOf calledFor readMessage textOf digitOf hexOf headed responseRefusal challengePacket failurePacket openRefusal opened openedBuffer refusalOf reasonOf responseDrawn drawn step
+unfolding outputOf expandKey contentFor words isField fieldOf calledFor readMessage textOf digitOf hexOf headed responseRefusal challengePacket failurePacket openRefusal opened openedBuffer refusalOf firstReason reasonOf responseDrawn drawn step
 twelve = refl

@@ -15,7 +15,7 @@ use Rattle.authenticator.specs.Account.{noHash, nobody, found}
 use Rattle.authenticator.specs.Conversation.{isEnded}
 use Rattle.authenticator.specs.Opening.{Opening, openRefusal, opened}
 use Rattle.authenticator.specs.Refusal.{refusalOf}
-use Rattle.authenticator.specs.Steps.{Lent, refusalAt, Refused, Rightful}
+use Rattle.authenticator.specs.Steps.{Lent, stepOn, refusalAt, Refused, Rightful}
 use Rattle.authenticator.specs.declared.Account.{Account}
 use Rattle.authenticator.specs.declared.Lookup.{Lookup}
 use Rattle.authenticator.specs.declared.Conversation.{Conversation}
@@ -82,68 +82,68 @@ in-range n h two =
     record { not2 = two; not8 = λ e. omega arith; not9 = λ e. omega arith; not10 = λ e. omega arith; not12 = λ e. omega arith }
 
 -- a reply buffer of 17 octets
-step-within : (c : Conversation) (s : Lent) → length (s .buffer) ≡ 17 → Within (refusalAt c s)
+step-within : (c : Conversation) (s : Lent) → length (s .buffer) ≡ 17 → Within (refusalAt stepOn c s)
 step-within c s room =
     let n = number-step c (s .packet) (s .account) (s .buffer) in
     let r = number-range c (s .packet) (s .buffer) in
-    in-range (refusalAt c s) (omega (arith, n, r .0)) (λ e. let z = r .1 (sym n ∙ e) in omega arith)
+    in-range (refusalAt stepOn c s) (omega (arith, n, r .0)) (λ e. let z = r .1 (sym n ∙ e) in omega arith)
 
 within-none : (n : ℕ) → n ≡ 0 → Within n
 within-none n e = in-range n (omega arith) (λ f. omega arith)
 
 -- a short packet and a narrow buffer are refused in any conversation, with 1 where it has ended and else with n
-refused : (c : Conversation) (s : Lent) (n : ℕ) → 0 < n → refusalOf c (s .packet) (s .buffer) ≡ cond (isEnded (c .phase)) 1 n → Refused c s
+refused : (c : Conversation) (s : Lent) (n : ℕ) → 0 < n → refusalOf c (s .packet) (s .buffer) ≡ cond (isEnded (c .phase)) 1 n → Refused stepOn c s
 refused c s n pos e z = which (isEnded (c .phase)) (sym e ∙ sym (number-step c (s .packet) (s .account) (s .buffer)) ∙ z)
   where
     which : (t : Bool) → cond t 1 n ≡ 0 → ⊥
     which true h = omega arith
     which false h = omega arith
 
-short-refused : (c : Conversation) → Refused c short
+short-refused : (c : Conversation) → Refused stepOn c short
 unfolding refusalOf
 short-refused c = refused c short 3 (omega arith) refl
 
-narrow-refused : (c : Conversation) → Refused c narrow
+narrow-refused : (c : Conversation) → Refused stepOn c narrow
 unfolding refusalOf
 narrow-refused c = refused c narrow 2 (omega arith) refl
 
 -- what is allowed at any place is allowed along any course
 abbrev Anywhere : List Move → Type 0
 Anywhere [] = Unit {0}
-Anywhere (m ∷ ms) = ((p : Place) → Allowed account p m) × Anywhere ms
+Anywhere (m ∷ ms) = ((p : Place) → Allowed stepOn account p m) × Anywhere ms
 
-along : (p : Place) (ms : List Move) → Anywhere ms → Along go (Allowed account) p ms
+along : (p : Place) (ms : List Move) → Anywhere ms → Along (go stepOn) (Allowed stepOn account) p ms
 along p [] h = tt
-along p (m ∷ ms) h = (h .0 p, along (go p m) ms (h .1))
+along p (m ∷ ms) h = (h .0 p, along (go stepOn p m) ms (h .1))
 
-kept : (p : Place) (t : Packet) (l : Line) → exchange p t l .wrote .answer .refusal ≡ 0 → length (l .buffer) ≡ 17 → Kept (exchange p t l)
-kept p t l e room = (within-none (exchange p t l .wrote .answer .refusal) e, step-within (p .box) (exchange p t l .lent) room)
+kept : (p : Place) (t : Packet) (l : Line) → exchange stepOn p t l .wrote .answer .refusal ≡ 0 → length (l .buffer) ≡ 17 → Kept (exchange stepOn p t l)
+kept p t l e room = (within-none (exchange stepOn p t l .wrote .answer .refusal) e, step-within (p .conversation) (exchange stepOn p t l .lent) room)
 
 try-written : (p : Place) (password : List ℕ) (l : Line) → writeResponseRefusal password user (l .out) ≡ 0
-    → exchange p (right password user) l .wrote .answer .refusal ≡ 0
+    → exchange stepOn p (right password user) l .wrote .answer .refusal ≡ 0
 unfolding writeResponse
 try-written p password l e = rw e
 
 change-written : (p : Place) (l : Line) → writeChangeRefusal old new (replicate 512 7) (l .out) ≡ 0
-    → exchange p (renewal old new (replicate 512 7)) l .wrote .answer .refusal ≡ 0
+    → exchange stepOn p (renewal old new (replicate 512 7)) l .wrote .answer .refusal ≡ 0
 unfolding writeChange
 change-written p l e = rw e
 
 allowed : Anywhere moves
 unfolding writeResponseRefusal writeChangeRefusal responseWriteRefusal changeWriteRefusal
 allowed = (
-  (λ p. short-refused (p .box)),
+  (λ p. short-refused (p .conversation)),
   (
     (λ p. (kept p (invalid bad user) (line 60 nobody) (try-written p bad (line 60 nobody) refl) refl, λ e. absurd (false≢true e))),
     (
-      (λ p. narrow-refused (p .box)),
+      (λ p. narrow-refused (p .conversation)),
       (
         (λ p. (kept p (right old user) (line 55 (found account)) (try-written p old (line 55 (found account)) refl) refl, (refl, refl))),
         (
-          (λ p. short-refused (p .box)),
+          (λ p. short-refused (p .conversation)),
           (
             (λ p. (kept p (renewal old new (replicate 512 7)) (line 1118 nobody) (change-written p (line 1118 nobody) refl) refl, refl)),
-            ((λ p. narrow-refused (p .box)), tt),
+            ((λ p. narrow-refused (p .conversation)), tt),
           ),
         ),
       ),
@@ -151,7 +151,7 @@ allowed = (
   ),
 )
 
-pub met : Along go (Allowed account) (start opening []) moves
+pub met : Along (go stepOn) (Allowed stepOn account) (start opening []) moves
 met = along (start opening []) moves allowed
 
 rightful : Rightful account
@@ -164,21 +164,21 @@ unfolding opened openRefusal
 opens = refl
 
 -- each packet draws what it should, three are judged, and the conversation has ended
-pub claimed : Along go (Claimed account) (start opening []) moves
-    × (total go judgedAt (start opening []) moves ≡ 3)
-    × (end go (start opening []) moves .box .phase ≡ Ended)
+pub claimed : Along (go stepOn) (Claimed stepOn account) (start opening []) moves
+    × (total (go stepOn) (judgedAt stepOn) (start opening []) moves ≡ 3)
+    × (end (go stepOn) (start opening []) moves .conversation .phase ≡ Ended)
 claimed = demand3 opening opens refl .1 account 1 [] moves rightful (omega arith) refl met
 
 -- ---- a later conversation, with the record that the change handed out
 
 -- the place of the change
 abbrev place : Place
-place = end go (start opening []) (take 5 moves)
+place = end (go stepOn) (start opening []) (take 5 moves)
 
 abbrev handed : Account
-handed = exchange place (renewal old new (replicate 512 7)) (line 1118 nobody) .outcome .answer .handed .account
+handed = exchange stepOn place (renewal old new (replicate 512 7)) (line 1118 nobody) .outcome .answer .handed .account
 
-lets-in : LetsIn handed new
+lets-in : LetsIn stepOn handed new
 lets-in = claimed .0 .1 .1 .1 .1 .1 .0 .2
 
 abbrev laterOpening : Opening
@@ -188,9 +188,9 @@ later-opens : opened laterOpening .refusal ≡ 0
 unfolding opened openRefusal
 later-opens = refl
 
-pub later-success : DrawsSuccess (exchange (later laterOpening [] (short ∷ [])) (right new user) (line 55 (found handed))) 0
+pub later-success : DrawsSuccess (exchange stepOn (later stepOn laterOpening [] (short ∷ [])) (right new user) (line 55 (found handed))) 0
 unfolding writeResponseRefusal responseWriteRefusal
 later-success =
     lets-in laterOpening [] user (short ∷ []) (line 55 (found handed)) later-opens refl (short-refused (opened laterOpening .conversation), tt) refl
-    (kept (later laterOpening [] (short ∷ [])) (right new user) (line 55 (found handed))
-    (try-written (later laterOpening [] (short ∷ [])) new (line 55 (found handed)) refl) refl)
+    (kept (later stepOn laterOpening [] (short ∷ [])) (right new user) (line 55 (found handed))
+    (try-written (later stepOn laterOpening [] (short ∷ [])) new (line 55 (found handed)) refl) refl)

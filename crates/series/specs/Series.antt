@@ -16,7 +16,7 @@ use Rattle.authenticator.specs.Account.{found}
 use Rattle.authenticator.specs.Opening.{Opening, retriesOf, opened, openedBuffer}
 use Rattle.authenticator.specs.Response.{valid, version}
 use Rattle.authenticator.specs.Step.{Outcome, numberOf}
-use Rattle.authenticator.specs.Steps.{Lent, stepOn, nextAfter, Refused, replyOf, judged, Rightful}
+use Rattle.authenticator.specs.Steps.{Lent, Box, replyOf, nextAfter, Refused, judged, Rightful}
 use Rattle.authenticator.specs.declared.Account.{Account}
 use Rattle.authenticator.specs.declared.Lookup.{Lookup}
 use Rattle.authenticator.specs.declared.Conversation.{Conversation}
@@ -68,7 +68,7 @@ plan k expired = replicate k Invalid ++ (Right ∷ cond expired (Renewal ∷ [])
 
 -- "the conversation that the opening or the step before gave back", and our peer
 pub record Place : Type 0 where
-  pub box : Conversation
+  pub conversation : Conversation
   pub peer : Peer
 
 -- "Our peer reads the Challenge .. as the box wrote" it, with padding behind it
@@ -76,7 +76,7 @@ abbrev pub challengeRead : Opening → List ℕ → Asked
 challengeRead o behind = readChallenge (take (opened o .written) (openedBuffer o) ++ behind)
 
 abbrev pub start : Opening → List ℕ → Place
-start o behind = record { box = opened o .conversation; peer = asked (challengeRead o behind) }
+start o behind = record { conversation = opened o .conversation; peer = asked (challengeRead o behind) }
 
 -- our peer "writes its next packet from" its turn
 abbrev pub writes : Turn → Packet → List ℕ → Wrote
@@ -96,34 +96,6 @@ pub record Exchange : Type 0 where
   pub peer : Peer
   pub reply : List ℕ
 
-abbrev pub carried : Place → Wrote → Line → Exchange
-carried p w l =
-    record {
-      wrote = w;
-      lent = reaching w l;
-      outcome = stepOn (p .box) (reaching w l);
-      peer = sending (p .peer) (w .answer);
-      reply = replyOf (stepOn (p .box) (reaching w l)) ++ l .behind;
-    }
-
-abbrev pub exchange : Place → Packet → Line → Exchange
-exchange p t l = carried p (writes (p .peer .turn) t (l .out)) l
-
--- ---- the course of a series
-
--- where a step leads
-abbrev pub go : Place → Move → Place
-go p (ours t l) = record { box = exchange p t l .outcome .answer .next; peer = hears (exchange p t l .peer) (exchange p t l .reply) }
-go p (other s) = record { box = nextAfter (p .box) s; peer = p .peer }
-
--- what a step is lent, and whether its packet is judged
-abbrev pub lentAt : Place → Move → Lent
-lentAt p (ours t l) = exchange p t l .lent
-lentAt p (other s) = s
-
-abbrev pub judgedAt : Place → Move → ℕ
-judgedAt p m = judged (p .box) (lentAt p m)
-
 -- ---- the premises
 
 -- "The limits": a refusal number that is "none of 2, 8, 9, 10 and 12"
@@ -138,19 +110,6 @@ pub record Within (n : ℕ) : Type 0 where
 abbrev pub Kept : Exchange → Type 0
 Kept x = Within (x .wrote .answer .refusal) × Within (numberOf (x .outcome .answer .kind))
 
--- An invalid try is lent a record for which it is invalid, or none. "The right password is one whose NT hash is the record's", and that record
--- is lent. The change is "written with the right password as the old one", and lent any record or none.
-abbrev pub Meant : Account → Place → Packet → Line → Type 0
-Meant a p (invalid w n) l =
-    l .account .found ≡ true → valid (p .box) (l .account .account) (responseIn (exchange p (invalid w n) l .lent .packet)) ≡ false
-Meant a p (right w n) l = (ntHashOf w ≡ a .nt .octets) × (l .account ≡ found a)
-Meant a p (renewal o n f) l = ntHashOf o ≡ a .nt .octets
-
--- "Any other step may have any packet, record and buffer with which the box refuses it."
-abbrev pub Allowed : Account → Place → Move → Type 0
-Allowed a p (ours t l) = Kept (exchange p t l) × Meant a p t l
-Allowed a p (other s) = Refused (p .box) s
-
 -- ---- the claim
 
 -- what a packet draws, octet for octet, and what our peer reads of it
@@ -164,39 +123,83 @@ DrawsFailure x id e r = Draws x (failurePacket id (textOf e r version)) (failedW
 abbrev pub DrawsSuccess : Exchange → ℕ → Type 0
 DrawsSuccess x id = Draws x (successPacket id) succeeded
 
--- "after any opening not refused and any refused steps"
-abbrev pub later : Opening → List ℕ → List Lent → Place
-later o behind ss = record { box = end nextAfter (opened o .conversation) ss; peer = start o behind .peer }
+-- ---- a series with a box
 
--- A record "lets a password in at the first Response of a later conversation".
-abbrev pub LetsIn : Account → List ℕ → Type 0
-LetsIn a password =
-    (o : Opening) (behind name : List ℕ) (ss : List Lent) (l : Line) → opened o .refusal ≡ 0 → length (o .challenge) ≡ 8
-    → Along nextAfter Refused (opened o .conversation) ss → l .account ≡ found a → Kept (exchange (later o behind ss) (right password name) l)
-    → DrawsSuccess (exchange (later o behind ss) (right password name) l) (o .id)
+module _ (box : Box) where
+  abbrev pub carried : Place → Wrote → Line → Exchange
+  carried p w l =
+      record {
+        wrote = w;
+        lent = reaching w l;
+        outcome = box (p .conversation) (reaching w l);
+        peer = sending (p .peer) (w .answer);
+        reply = replyOf (box (p .conversation) (reaching w l)) ++ l .behind;
+      }
 
--- An invalid try draws 691 with R=1; the right password Success or, expired, 648; the change Success, and a record is handed out that lets the
--- new password in. (What a reading calls for is part of it: a retry, a version 2 change.)
-abbrev pub Answered : Account → ℕ → Packet → Exchange → Type 0
-Answered a id (invalid w n) x = DrawsFailure x id 691 1
-Answered a id (right w n) x = cond (a .expired) (DrawsFailure x id 648 0) (DrawsSuccess x id)
-Answered a id (renewal o n f) x =
-    DrawsSuccess x id × (x .outcome .answer .handed .found ≡ true) × LetsIn (x .outcome .answer .handed .account) n
+  abbrev pub exchange : Place → Packet → Line → Exchange
+  exchange p t l = carried p (writes (p .peer .turn) t (l .out)) l
 
-abbrev pub Claimed : Account → Place → Move → Type 0
-Claimed a p (ours t l) = Answered a (p .peer .turn .id) t (exchange p t l)
-Claimed a p (other s) = Unit {0}
+  -- where a step leads
+  abbrev pub go : Place → Move → Place
+  go p (ours t l) =
+      record { conversation = exchange p t l .outcome .answer .next; peer = hears (exchange p t l .peer) (exchange p t l .reply) }
+  go p (other s) = record { conversation = nextAfter box (p .conversation) s; peer = p .peer }
 
--- "A single claim about the series from opening to end": the Challenge is read; each packet of our peer draws what it should; "with k invalid
--- tries the box judges exactly k + 1 packets, or k + 2 with the record expired", and the conversation has ended; of any steps at all it judges
--- at most r + 2.
-abbrev pub Demand3 : Type 0
-Demand3 =
-    (o : Opening) → opened o .refusal ≡ 0 → length (o .challenge) ≡ 8
-    → ((behind : List ℕ) → challengeRead o behind ≡ record { refusal = 0; id = o .id; challenge = o .challenge })
-    × ((a : Account) (k : ℕ) (behind : List ℕ) (ms : List Move)
-    → Rightful a → k ≤ retriesOf (o .retries) → collect kindsOf ms ≡ plan k (a .expired) → Along go (Allowed a) (start o behind) ms
-    → Along go (Claimed a) (start o behind) ms
-    × (total go judgedAt (start o behind) ms ≡ k + cond (a .expired) 2 1)
-    × (end go (start o behind) ms .box .phase ≡ Ended))
-    × ((ss : List Lent) → total nextAfter judged (opened o .conversation) ss ≤ retriesOf (o .retries) + 2)
+  -- what a step is lent, and whether its packet is judged
+  abbrev pub lentAt : Place → Move → Lent
+  lentAt p (ours t l) = exchange p t l .lent
+  lentAt p (other s) = s
+
+  abbrev pub judgedAt : Place → Move → ℕ
+  judgedAt p m = judged box (p .conversation) (lentAt p m)
+
+  -- An invalid try is lent a record for which it is invalid, or none. "The right password is one whose NT hash is the record's", and that record
+  -- is lent. The change is "written with the right password as the old one", and lent any record or none.
+  abbrev pub Meant : Account → Place → Packet → Line → Type 0
+  Meant a p (invalid w n) l =
+      l .account .found ≡ true → valid (p .conversation) (l .account .account) (responseIn (exchange p (invalid w n) l .lent .packet)) ≡ false
+  Meant a p (right w n) l = (ntHashOf w ≡ a .nt .octets) × (l .account ≡ found a)
+  Meant a p (renewal o n f) l = ntHashOf o ≡ a .nt .octets
+
+  -- "Any other step may have any packet, record and buffer with which the box refuses it."
+  abbrev pub Allowed : Account → Place → Move → Type 0
+  Allowed a p (ours t l) = Kept (exchange p t l) × Meant a p t l
+  Allowed a p (other s) = Refused box (p .conversation) s
+
+  -- "after any opening not refused and any refused steps"
+  abbrev pub later : Opening → List ℕ → List Lent → Place
+  later o behind ss = record { conversation = end (nextAfter box) (opened o .conversation) ss; peer = start o behind .peer }
+
+  -- A record "lets a password in at the first Response of a later conversation".
+  abbrev pub LetsIn : Account → List ℕ → Type 0
+  LetsIn a password =
+      (o : Opening) (behind name : List ℕ) (ss : List Lent) (l : Line) → opened o .refusal ≡ 0 → length (o .challenge) ≡ 8
+      → Along (nextAfter box) (Refused box) (opened o .conversation) ss → l .account ≡ found a
+      → Kept (exchange (later o behind ss) (right password name) l)
+      → DrawsSuccess (exchange (later o behind ss) (right password name) l) (o .id)
+
+  -- An invalid try draws 691 with R=1; the right password Success or, expired, 648; the change Success, and a record is handed out that lets the
+  -- new password in. (What a reading calls for is part of it: a retry, a version 2 change.)
+  abbrev pub Answered : Account → ℕ → Packet → Exchange → Type 0
+  Answered a id (invalid w n) x = DrawsFailure x id 691 1
+  Answered a id (right w n) x = cond (a .expired) (DrawsFailure x id 648 0) (DrawsSuccess x id)
+  Answered a id (renewal o n f) x =
+      DrawsSuccess x id × (x .outcome .answer .handed .found ≡ true) × LetsIn (x .outcome .answer .handed .account) n
+
+  abbrev pub Claimed : Account → Place → Move → Type 0
+  Claimed a p (ours t l) = Answered a (p .peer .turn .id) t (exchange p t l)
+  Claimed a p (other s) = Unit {0}
+
+  -- "A single claim about the series from opening to end": the Challenge is read; each packet of our peer draws what it should; "with k invalid
+  -- tries the box judges exactly k + 1 packets, or k + 2 with the record expired", and the conversation has ended; of any steps at all it judges
+  -- at most r + 2. It holds of our box (proofs/Demand3), and of no box in specs/Wrong (proofs/Wrong).
+  abbrev pub Demand3 : Type 0
+  Demand3 =
+      (o : Opening) → opened o .refusal ≡ 0 → length (o .challenge) ≡ 8
+      → ((behind : List ℕ) → challengeRead o behind ≡ record { refusal = 0; id = o .id; challenge = o .challenge })
+      × ((a : Account) (k : ℕ) (behind : List ℕ) (ms : List Move)
+      → Rightful a → k ≤ retriesOf (o .retries) → collect kindsOf ms ≡ plan k (a .expired) → Along go (Allowed a) (start o behind) ms
+      → Along go (Claimed a) (start o behind) ms
+      × (total go judgedAt (start o behind) ms ≡ k + cond (a .expired) 2 1)
+      × (end go (start o behind) ms .conversation .phase ≡ Ended))
+      × ((ss : List Lent) → total (nextAfter box) (judged box) (opened o .conversation) ss ≤ retriesOf (o .retries) + 2)
