@@ -1,7 +1,7 @@
 -- Every reply that the authenticator writes: its octets by the reason, the reasons there are, and what our peer's reader finds in it, whatever
 -- padding follows.
 -- Assumes nothing.
-use mathlib.Core.Bool.{Bool, true, false, cond, not, _&&_}
+use mathlib.Core.Bool.{Bool, true, false, cond, not}
 use mathlib.Core.List.{List, _++_}
 use mathlib.Core.Option.{Option, none, some}
 use mathlib.Core.Path.{_≡_, refl, sym, ap, _∙_, subst}
@@ -11,7 +11,6 @@ use lib.Dec.{eqb}
 use Rattle.message.specs.Message.{textOf, failedWith, noC}
 use Rattle.message.specs.declared.Reading.{Reading}
 use Rattle.packets.specs.Response.{responseIn}
-use Rattle.packets.specs.Change.{changeIn}
 use Rattle.packets.specs.Reply.{successPacket, failurePacket, readReply, succeeded}
 use Rattle.packets.specs.declared.Response as fields
 use Rattle.packets.specs.declared.Change as changes

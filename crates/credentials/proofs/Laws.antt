@@ -22,7 +22,7 @@ use Rattle.rc4.proofs.Laws.{crypted-twice, length-crypted}
 use Rattle.credentials.specs.declared.Content.the-variants.{Over, Odd, Password}
 use Rattle.credentials.specs.declared.Opened.{Opened}
 use Rattle.credentials.specs.declared.Sealed.{Sealed}
-use Rattle.credentials.specs.Credentials.{ntHashOf, badNtPassword, lmHashOf, lmKeys, upper, stdText, responseOf, oldUnderNew, plainBlock, sealedBlock, sealRefusal, sealedAs, lengthIn, contentFor, Sound, openedAs, passwordIn}
+use Rattle.credentials.specs.Credentials.{ntHashOf, badNtPassword, lmHashOf, lmKeys, upper, responseOf, oldUnderNew, plainBlock, sealedBlock, sealRefusal, sealedAs, lengthIn, contentFor, Sound, openedAs, passwordIn}
 
 -- ---- lengths
 

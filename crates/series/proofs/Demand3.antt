@@ -32,6 +32,7 @@ use Rattle.peer.specs.declared.Turn.{Turn}
 use Rattle.peer.proofs.Left.{response-limits, name-fits, response-left, change-limits, new-fits, filler-full, change-left}
 use Rattle.series.specs.Course.{end, Along}
 use Rattle.series.specs.Series.{invalid, right, renewal, Line, Move, ours, other, Kind, Invalid, Right, Renewal, kindsOf, plan, Place, start, reaching, Exchange, exchange, go, judgedAt, Kept, Allowed, Draws, DrawsFailure, DrawsSuccess, LetsIn, Answered, Claimed, Demand3}
+use Rattle.series.specs.Boxes.{ourBox}
 use Rattle.series.proofs.RoundTrips.{challenge-read}
 use Rattle.series.proofs.Talk.{Talk, whole, within}
 use Rattle.series.proofs.Exchanged.{Exchanged, exchanged}
@@ -196,7 +197,7 @@ count k x =
     last true = refl
     last false = refl
 
-pub demand3 : Demand3 stepOn
+pub demand3 : Demand3 ourBox
 unfolding talk
 demand3 o ok eight = (
   (λ behind. challenge-read o ok eight behind),

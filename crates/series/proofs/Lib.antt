@@ -5,4 +5,6 @@ pub mod Taken
 pub mod Ready
 pub mod Demand3
 pub mod Twelve
+pub mod Sample
 pub mod Witness
+pub mod Wrong

@@ -14,7 +14,6 @@ use Rattle.octets.proofs.Parts.{agrees-refl}
 use Rattle.credentials.specs.Credentials.{ntHashOf, responseOf, oldUnderNew, openedAs}
 use Rattle.packets.specs.Response.{responseIn}
 use Rattle.packets.specs.Change.{changeIn}
-use Rattle.packets.specs.declared.Response as fields
 use Rattle.authenticator.specs.Account.{found, answers}
 use Rattle.authenticator.specs.Conversation.{awaitedCode, isEnded}
 use Rattle.authenticator.specs.Refusal.{bodyRefusal, refusalOf}

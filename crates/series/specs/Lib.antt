@@ -1,3 +1,4 @@
 pub mod Course
 pub mod Series
+pub mod Boxes
 pub mod Twelve

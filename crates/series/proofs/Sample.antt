@@ -1,0 +1,145 @@
+-- A sample of what demand 3 speaks of: openings, a record, our peer's packets and what is lent with them. They meet the premises with any box that
+-- keeps to the limits.
+-- Assumes nothing.
+use mathlib.Core.Bool.{Bool, true, false, cond, _&&_, false≢true}
+use mathlib.Core.List.{List, [], _∷_}
+use mathlib.Core.Logic.{_≢_}
+use mathlib.Core.Path.{_≡_, refl, sym, _∙_}
+use Prim.Native.Nat.{ℕ, _≤_}
+use native.Mathlib.Omega.{arith}
+use lib.Dec.{eqb}
+use lib.ListN.{length, replicate}
+use Rattle.credentials.specs.Credentials.{ntHashOf}
+use Rattle.packets.specs.Response.{responseIn, responseWriteRefusal}
+use Rattle.packets.specs.Change.{changeWriteRefusal}
+use Rattle.packets.specs.declared.Response as fields
+use Rattle.authenticator.specs.Account.{noHash, blank, nobody, found, answers}
+use Rattle.authenticator.specs.Opening.{Opening}
+use Rattle.authenticator.specs.Response.{valid}
+use Rattle.authenticator.specs.Steps.{Lent, Box, stepOn, refusalAt, Rightful}
+use Rattle.authenticator.specs.declared.Account.{Account}
+use Rattle.authenticator.specs.declared.Lookup.{Lookup}
+use Rattle.authenticator.specs.declared.Conversation.{Conversation}
+use Rattle.authenticator.specs.declared.Retries.{Retries}
+use Rattle.authenticator.specs.declared.LmChoice.the-variants.{Disallowed}
+use Rattle.authenticator.proofs.Steps.{number-step, number-range}
+use Rattle.peer.specs.Write.{writeResponseRefusal, writeChangeRefusal, writeResponse, writeChange}
+use Rattle.series.specs.Series.{Packet, invalid, right, renewal, Line, Move, ours, Place, exchange, Within, Kept, Allowed}
+
+-- ---- openings, passwords, records
+
+-- identifier 255 and a challenge that begins with E9, so that both go over their octet
+abbrev pub opening : Retries → Opening
+opening r = record { id = 255; challenge = 0xE9 ∷ 2 ∷ 3 ∷ 4 ∷ 5 ∷ 6 ∷ 7 ∷ 8 ∷ []; retries = r; lm = Disallowed; buffer = replicate 17 0 }
+
+-- "MyPw", "bad" and "MyNewPw"
+abbrev pub old : List ℕ
+old = 0x4D ∷ 0 ∷ 0x79 ∷ 0 ∷ 0x50 ∷ 0 ∷ 0x77 ∷ 0 ∷ []
+
+abbrev pub bad : List ℕ
+bad = 0x62 ∷ 0 ∷ 0x61 ∷ 0 ∷ 0x64 ∷ 0 ∷ []
+
+abbrev pub new : List ℕ
+new = 0x4D ∷ 0 ∷ 0x79 ∷ 0 ∷ 0x4E ∷ 0 ∷ 0x65 ∷ 0 ∷ 0x77 ∷ 0 ∷ 0x50 ∷ 0 ∷ 0x77 ∷ 0 ∷ []
+
+abbrev pub user : List ℕ
+user = 117 ∷ []
+
+-- a record whose password is "MyPw", expired or not
+abbrev pub account : Bool → Account
+account expired =
+    record {
+      nt = record { present = true; octets = ntHashOf old };
+      lm = noHash;
+      disabled = false;
+      hours = false;
+      nodialin = false;
+      expired = expired;
+    }
+
+pub rightful : (expired : Bool) → Rightful (account expired)
+rightful expired = record { nt = refl; enabled = refl; hours = refl; dialin = refl }
+
+-- ---- our peer's packets
+
+-- an output buffer of n octets, and padding behind the packet and behind the reply
+abbrev pub line : ℕ → Lookup → Line
+line n l = record { out = replicate n 0; after = 9 ∷ []; account = l; buffer = replicate 17 0; behind = 9 ∷ 9 ∷ [] }
+
+abbrev pub badTry : Lookup → Move
+badTry l = ours (invalid bad user) (line 60 l)
+
+abbrev pub rightTry : Bool → Move
+rightTry expired = ours (right old user) (line 55 (found (account expired)))
+
+abbrev pub newPassword : Packet
+newPassword = renewal old new (replicate 512 7)
+
+abbrev pub change : Lookup → Move
+change l = ours newPassword (line 1118 l)
+
+-- ---- the premises
+
+in-range : (n : ℕ) → n ≤ 7 → n ≢ 2 → Within n
+in-range n h two =
+    record { not2 = two; not8 = λ e. omega arith; not9 = λ e. omega arith; not10 = λ e. omega arith; not12 = λ e. omega arith }
+
+-- with a reply buffer of 17 octets the box's numbers keep to the limits
+abbrev pub KeepsTo : Box → Type 0
+KeepsTo box = (c : Conversation) (s : Lent) → length (s .buffer) ≡ 17 → Within (refusalAt box c s)
+
+pub ours-keeps-to : KeepsTo stepOn
+ours-keeps-to c s room =
+    let n = number-step c (s .packet) (s .account) (s .buffer) in
+    let r = number-range c (s .packet) (s .buffer) in
+    in-range (refusalAt stepOn c s) (omega (arith, n, r .0)) (λ e. let z = r .1 (sym n ∙ e) in omega arith)
+
+pub seven-keeps-to : Within 7
+seven-keeps-to = in-range 7 (omega arith) (λ e. omega arith)
+
+-- no Response is valid for a record with no hash
+no-hash : (c : Conversation) (f : fields.Response) → valid c blank f ≡ false
+unfolding valid answers
+no-hash c f = which (eqb (f .flag) 1) (c .terms .lm)
+  where
+    which : (t u : Bool) → cond (t && false) false (u && false) ≡ false
+    which true true = refl
+    which true false = refl
+    which false true = refl
+    which false false = refl
+
+-- at any place
+module _ (box : Box) (h : KeepsTo box) (p : Place) where
+  kept : (t : Packet) (l : Line) → exchange box p t l .wrote .answer .refusal ≡ 0 → length (l .buffer) ≡ 17 → Kept (exchange box p t l)
+  kept t l e room = (in-range (exchange box p t l .wrote .answer .refusal) (omega arith) (λ f. omega arith), h (p .conversation) (exchange box p t l .lent) room)
+
+  pub try-kept : (password : List ℕ) (l : Line) → writeResponseRefusal password user (l .out) ≡ 0 → length (l .buffer) ≡ 17
+      → Kept (exchange box p (right password user) l)
+  unfolding writeResponse
+  try-kept password l e room = kept (right password user) l (rw e) room
+
+  change-kept : (l : Line) → writeChangeRefusal old new (replicate 512 7) (l .out) ≡ 0 → length (l .buffer) ≡ 17 → Kept (exchange box p newPassword l)
+  unfolding writeChange
+  change-kept l e room = kept newPassword l (rw e) room
+
+  -- lent no record, or one with no hash
+  pub bad-allowed : (a : Account) → Allowed box a p (badTry nobody)
+  unfolding writeResponseRefusal responseWriteRefusal
+  bad-allowed a = (try-kept bad (line 60 nobody) refl refl, λ e. absurd (false≢true e))
+
+  pub blank-allowed : (a : Account) → Allowed box a p (badTry (found blank))
+  unfolding writeResponseRefusal responseWriteRefusal
+  blank-allowed a =
+      (try-kept bad (line 60 (found blank)) refl refl, λ e. no-hash (p .conversation) (responseIn (exchange box p (invalid bad user) (line 60 (found blank)) .lent .packet)))
+
+  pub right-allowed : (expired : Bool) → Allowed box (account expired) p (rightTry expired)
+  unfolding writeResponseRefusal responseWriteRefusal
+  right-allowed expired = (try-kept old (line 55 (found (account expired))) refl refl, (refl, refl))
+
+  pub change-allowed : (expired : Bool) (l : Lookup) → Allowed box (account expired) p (change l)
+  unfolding writeChangeRefusal changeWriteRefusal
+  change-allowed expired l = (change-kept (line 1118 l) refl refl, refl)
+
+  pub new-kept : (l : Lookup) → Kept (exchange box p (right new user) (line 55 l))
+  unfolding writeResponseRefusal responseWriteRefusal
+  new-kept l = try-kept new (line 55 l) refl refl

@@ -1,0 +1,53 @@
+-- Our box, and boxes that are ours but for one slip each. Demand 3 holds of ours (proofs/Demand3) and of none of the others (proofs/Wrong).
+-- Assumes nothing: these are definitions.
+use mathlib.Core.Bool.{cond}
+use lib.Dec.{eqb, ltb}
+use Rattle.packets.specs.Reply.{successPacket}
+use Rattle.authenticator.specs.Account.{nobody}
+use Rattle.authenticator.specs.Conversation.{ended}
+use Rattle.authenticator.specs.Response.{Drawn}
+use Rattle.authenticator.specs.Step.{drawn, judgedAs, refusedAs}
+use Rattle.authenticator.specs.Steps.{Lent, Box, stepOn, refusalAt}
+use Rattle.authenticator.specs.declared.Conversation.{Conversation}
+
+-- refuses everything
+abbrev pub refusing : Box
+refusing c s = refusedAs 7 c (s .buffer)
+
+-- what a judged packet draws, and a box that refuses what ours refuses and judges the rest so
+abbrev pub Judge : Type 0
+Judge = Conversation → Lent → Drawn
+
+abbrev pub judging : Judge → Box
+judging d c s = cond (eqb (refusalAt stepOn c s) 0) (judgedAs (d c s) (s .buffer)) (stepOn c s)
+
+-- 691 always: no record is ever found
+abbrev pub findsNobody : Judge
+findsNobody c s = drawn c (s .packet) nobody
+
+-- accepts always
+abbrev pub accepts : Judge
+accepts c s = record { reason = 0; reply = successPacket (c .id); next = ended c; handed = nobody }
+
+-- the change leaves the record: the one that was lent is handed out
+abbrev pub leavesRecord : Judge
+leavesRecord c s =
+    let d = drawn c (s .packet) (s .account) in
+    record { reason = d .reason; reply = d .reply; next = d .next; handed = s .account }
+
+-- judges the first Response and pretends on retries (with document 01's two, unless the opening says otherwise)
+abbrev pub pretends : Judge
+pretends c s = cond (ltb (c .retries) 2) (accepts c s) (drawn c (s .packet) (s .account))
+
+-- retries do not fall
+abbrev pub sameRetries : Conversation → Conversation → Conversation
+sameRetries c d = record { terms = d .terms; id = d .id; challenge = d .challenge; retries = c .retries; phase = d .phase; kept = d .kept }
+
+abbrev pub neverCounts : Judge
+neverCounts c s =
+    let d = drawn c (s .packet) (s .account) in
+    record { reason = d .reason; reply = d .reply; next = sameRetries c (d .next); handed = d .handed }
+
+-- our box: what the promise of the authenticator's `step` says
+abbrev pub ourBox : Box
+ourBox = stepOn
