@@ -3,17 +3,16 @@
 use mathlib.Core.Path.{_≡_, refl, sym, ap, ap₂, _∙_, subst}
 use mathlib.Core.List.{List, [], _∷_, map}
 use Prim.Native.Nat.{ℕ, zero, suc, _+_, _*_, _/_, _%_, _^_, _<_}
-use native.Mathlib.Nat.{mod-eq-of-lt, mul-assoc, mul-suc, add-mul, add-assoc, add-comm, zero-add}
+use native.Mathlib.Nat.{mod-eq-of-lt}
 use native.Mathlib.Omega.{arith}
-use lib.Arith.{digits-lt, digits-mod}
+use lib.Arith.{digits-lt}
 use lib.Dec.{lit<}
-use lib.ListN.{length, getD, length-map, List·getD-map}
-use lib.Pow.{pow-add, high}
+use lib.ListN.{length, length-map, List·getD-map}
 use lib.Bits.{bitAnd, and-block, and-high}
-use Rattle.octets.specs.Numbers.{fromBe, toBe}
-use Rattle.octets.proofs.Numbers.{Octets, fromBe-lt, fromBe-toBe}
+use Rattle.octets.specs.Numbers.{fromDigits, toDigits, fromBe, toBe}
+use Rattle.octets.proofs.Numbers.{Below, Octets, one-more, digits-below, to-from, fromBe-lt, fromBe-toBe}
 use Rattle.des.specs.Tables.{pc1, shifts}
-use Rattle.des.specs.Des.{permute, keysFrom, roundKeys, toSevens, fromSevens, half, double, expandKey, dropParity}
+use Rattle.des.specs.Des.{permute, keysFrom, roundKeys, half, double, expandKey, dropParity}
 use Rattle.des.proofs.Linear.{agree, lin-after, lin-mask, lin-id}
 use Rattle.des.proofs.Permute.{lin-permute}
 use Rattle.des.proofs.Sizes.{length-expand, octets-expand}
@@ -40,10 +39,6 @@ parity-free k h = ap (λ (v : ℕ). keysFrom shifts (v / 2 ^ 28) (v % 2 ^ 28)) (
 abbrev mask : ℕ → ℕ
 mask zero = 0
 mask (suc n) = 0xFE * 2 ^ (8 * n) + mask n
-
--- one more digit of w bits
-one-more : (w n : ℕ) → 2 ^ w * 2 ^ (w * n) ≡ 2 ^ (w * suc n)
-one-more w n = sym (pow-add 2 w (w * n)) ∙ ap (λ (k : ℕ). 2 ^ k) (add-comm w (w * n) ∙ sym (mul-suc w n))
 
 mask-lt : (n : ℕ) → mask n < 2 ^ (8 * n)
 mask-lt zero = lit< tt
@@ -74,33 +69,6 @@ parity-free-octets a b na nb oa ob e =
 
 -- ---- groups of seven bits
 
-abbrev Sevens : List ℕ → Type 0
-Sevens l = (i : ℕ) → getD l i 0 < 128
-
-fromSevens-lt : (l : List ℕ) → Sevens l → fromSevens l < 2 ^ (7 * length l)
-fromSevens-lt [] h = lit< tt
-fromSevens-lt (s ∷ l) h =
-    subst (λ (p : ℕ). fromSevens (s ∷ l) < p) (one-more 7 (length l)) (digits-lt (h 0) (fromSevens-lt l (λ i. h (suc i))))
-
--- a group joined to the number before it
-regroup : (a s n x : ℕ) → a * 2 ^ (7 * suc n) + (s * 2 ^ (7 * n) + x) ≡ (a * 128 + s) * 2 ^ (7 * n) + x
-regroup a s n x =
-    let p = 2 ^ (7 * n) in
-    ap (λ (q : ℕ). a * q + (s * p + x)) (sym (one-more 7 n))
-    ∙ sym (add-assoc (a * (128 * p)) (s * p) x)
-    ∙ ap (λ (v : ℕ). v + x) (ap (λ (v : ℕ). v + s * p) (sym (mul-assoc a 128 p)) ∙ sym (add-mul (a * 128) s p))
-
--- groups that were joined, with any number before them, are found again
-found-again : (l : List ℕ) → Sevens l → (a : ℕ) → toSevens (length l) (a * 2 ^ (7 * length l) + fromSevens l) ≡ l
-found-again [] h a = refl
-found-again (s ∷ l) h a =
-    let n = length l in
-    let small = fromSevens-lt l (λ i. h (suc i)) in
-    ap (toSevens (suc n)) (regroup a s n (fromSevens l))
-    ∙ ap₂ (λ (v : ℕ) (m : List ℕ). v ∷ m)
-    (ap (λ (v : ℕ). v % 128) (high (a * 128 + s) (7 * n) small) ∙ digits-mod a (h 0))
-    (found-again l (λ i. h (suc i)) (a * 128 + s))
-
 halves-of-doubles : (l : List ℕ) → map half (map double l) ≡ l
 halves-of-doubles [] = refl
 halves-of-doubles (s ∷ l) = ap₂ (λ (v : ℕ) (m : List ℕ). v ∷ m) (omega arith) (halves-of-doubles l)
@@ -110,13 +78,13 @@ pub halves-kept : (k : List ℕ) → length k ≡ 8 → Octets k → map half (e
 unfolding expandKey dropParity
 halves-kept k n o =
     let hs = map half k in
-    let x = fromSevens hs in
+    let x = fromDigits 7 hs in
     let eight-of : length hs ≡ 8 = length-map k half ∙ n in
-    let small : Sevens hs = λ i. subst (λ (v : ℕ). v < 128) (sym (List·getD-map half k i 0)) (omega (arith, o i)) in
-    let below : x < 2 ^ 56 = subst (λ (m : ℕ). x < 2 ^ (7 * m)) eight-of (fromSevens-lt hs small) in
-    halves-of-doubles (toSevens 8 (fromBe (toBe 7 x)))
-    ∙ ap (toSevens 8) (fromBe-toBe 7 x ∙ mod-eq-of-lt below ∙ sym (zero-add x))
-    ∙ subst (λ (m : ℕ). toSevens m (0 * 2 ^ (7 * m) + x) ≡ hs) eight-of (found-again hs small 0)
+    let small : Below 128 hs = λ i. subst (λ (v : ℕ). v < 128) (sym (List·getD-map half k i 0)) (omega (arith, o i)) in
+    let below : x < 2 ^ 56 = subst (λ (m : ℕ). x < 2 ^ (7 * m)) eight-of (digits-below 7 hs small) in
+    halves-of-doubles (toDigits 7 8 (fromBe (toBe 7 x)))
+    ∙ ap (toDigits 7 8) (fromBe-toBe 7 x ∙ mod-eq-of-lt below)
+    ∙ subst (λ (m : ℕ). toDigits 7 m x ≡ hs) eight-of (to-from 7 hs small)
 
 -- and so its round keys
 pub restored : (k : List ℕ) → length k ≡ 8 → Octets k → roundKeys (fromBe (expandKey (dropParity k))) ≡ roundKeys (fromBe k)

@@ -7,10 +7,10 @@ use native.Mathlib.Nat.{mod-lt, zero-lt-suc}
 use native.Mathlib.Omega.{arith}
 use lib.Dec.{lit<}
 use lib.ListN.{length}
-use Rattle.octets.specs.Numbers.{fromBe, toBe}
+use Rattle.octets.specs.Numbers.{toDigits, fromBe}
 use Rattle.octets.specs.Parts.{part}
-use Rattle.octets.proofs.Numbers.{Octets}
-use Rattle.des.specs.Des.{toSevens, double, expandKey, dropParity, desEncrypt, desDecrypt, desThree}
+use Rattle.octets.proofs.Numbers.{Octets, to-below}
+use Rattle.des.specs.Des.{double, expandKey, dropParity, desEncrypt, desDecrypt, desThree}
 
 -- ---- lengths
 
@@ -36,12 +36,7 @@ length-drop-parity key = refl
 
 -- ---- octets
 
-octets-toBe : (n x : ℕ) → Octets (toBe n x)
-octets-toBe zero x i = lit< tt
-octets-toBe (suc n) x zero = mod-lt (x / 2 ^ (8 * n)) (zero-lt-suc 255)
-octets-toBe (suc n) x (suc i) = octets-toBe n x i
-
-octets-double : (n x : ℕ) → Octets (map double (toSevens n x))
+octets-double : (n x : ℕ) → Octets (map double (toDigits 7 n x))
 octets-double zero x i = lit< tt
 octets-double (suc n) x zero = omega (arith, mod-lt (x / 2 ^ (7 * n)) (zero-lt-suc 127))
 octets-double (suc n) x (suc i) = octets-double n x i
@@ -53,11 +48,11 @@ octets-append (x ∷ a) b ha hb (suc i) = octets-append a b (λ j. ha (suc j)) h
 
 pub octets-encrypt : (key block : List ℕ) → Octets (desEncrypt key block)
 unfolding desEncrypt
-octets-encrypt key block = octets-toBe 8 _
+octets-encrypt key block = to-below 8 8 _
 
 pub octets-decrypt : (key block : List ℕ) → Octets (desDecrypt key block)
 unfolding desDecrypt
-octets-decrypt key block = octets-toBe 8 _
+octets-decrypt key block = to-below 8 8 _
 
 pub octets-three : (keys block : List ℕ) → Octets (desThree keys block)
 unfolding desThree
@@ -73,4 +68,4 @@ octets-expand key = octets-double 8 (fromBe key)
 
 pub octets-drop-parity : (key : List ℕ) → Octets (dropParity key)
 unfolding dropParity
-octets-drop-parity key = octets-toBe 7 _
+octets-drop-parity key = to-below 8 7 _

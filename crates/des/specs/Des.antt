@@ -1,10 +1,10 @@
 -- DES as FIPS 46-2 defines it. A block of w bits is a number below 2 ^ w whose first bit, bit 1, is the most significant.
 -- Assumes nothing: these are definitions.
 use mathlib.Core.List.{List, [], _∷_, _++_, map, reverse}
-use Prim.Native.Nat.{ℕ, zero, suc, _+_, _-_, _*_, _/_, _%_, _^_}
+use Prim.Native.Nat.{ℕ, _+_, _-_, _*_, _/_, _%_, _^_}
 use lib.ListN.{length, getD}
 use lib.Bits.{bitXor}
-use Rattle.octets.specs.Numbers.{fromBe, toBe}
+use Rattle.octets.specs.Numbers.{fromDigits, toDigits, fromBe, toBe}
 use Rattle.octets.specs.Parts.{part}
 use Rattle.des.specs.Tables.{ip, fp, expansion, permutation, boxes, pc1, pc2, shifts}
 
@@ -66,16 +66,6 @@ roundKeys key = keysFrom shifts (permute 64 pc1 key / 2 ^ 28) (permute 64 pc1 ke
 
 -- ---- keys of seven octets: the 56 bits of a key that are not parity ("Enciphering": bits 8, 16, .., 64 are for parity)
 
--- the n last groups of seven bits of x
-abbrev pub toSevens : ℕ → ℕ → List ℕ
-toSevens zero x = []
-toSevens (suc n) x = x / 2 ^ (7 * n) % 128 ∷ toSevens n x
-
--- groups of seven bits joined
-abbrev pub fromSevens : List ℕ → ℕ
-fromSevens [] = 0
-fromSevens (s ∷ ss) = s * 2 ^ (7 * length ss) + fromSevens ss
-
 -- an octet without its last bit
 abbrev pub half : ℕ → ℕ
 half o = o / 2
@@ -86,11 +76,11 @@ double s = s * 2
 
 -- the 56 bits of seven octets in the top seven bits of eight, the parity bits clear
 unfoldable pub expandKey : List ℕ → List ℕ
-expandKey key = map double (toSevens 8 (fromBe key))
+expandKey key = map double (toDigits 7 8 (fromBe key))
 
 -- the top seven bits of eight octets as seven octets
 unfoldable pub dropParity : List ℕ → List ℕ
-dropParity key = toBe 7 (fromSevens (map half key))
+dropParity key = toBe 7 (fromDigits 7 (map half key))
 
 -- ---- DES on octets
 

@@ -11,6 +11,7 @@ use lib.Dec.{T, eqb, eqb→eq, lit<}
 use lib.ListN.{length, getD, length-map, List·getD-map}
 use lib.Pow.{pow-mono}
 use lib.Bits.{bitAnd, bitOr, bitXor, and-block, or-block, xor-block, and-lt, or-lt, xor-lt}
+use Rattle.octets.proofs.Numbers.{Below}
 
 -- `at i` is the number at the place i of a list
 pub data Term : Type 0 where
@@ -37,9 +38,6 @@ both-left false b t = absurd t
 pub both-right : (a b : Bool) → T (a && b) → T b
 both-right true b t = t
 both-right false b t = absurd t
-
-abbrev Below : ℕ → List ℕ → Type 0
-Below m l = (i : ℕ) → getD l i 0 < m
 
 -- what the test over the digits says of one list of them
 on-digits : (n : ℕ) (p : List ℕ → Bool) → T (onDigits n p) → (l : List ℕ) → length l ≡ n → Below 2 l → T (p l)

@@ -1,68 +1,88 @@
--- Laws of numbers as octets, over the width: each reading undoes the writing and each writing the reading.
+-- Laws of numbers as digits and as octets, over the width: each reading undoes the writing and each writing the reading.
 -- Assumes nothing.
 use mathlib.Core.Path.{_≡_, refl, sym, ap, ap₂, _∙_, subst}
 use mathlib.Core.List.{List, [], _∷_}
 use Prim.Native.Nat.{ℕ, zero, suc, _+_, _*_, _/_, _%_, _^_, _<_}
-use native.Mathlib.Nat.{mod-eq-of-lt, mod-one}
+use native.Mathlib.Nat.{mod-one, mod-lt, add-comm, add-assoc, add-mul, mul-assoc, mul-suc, mul-zero, zero-mul, zero-add}
 use native.Mathlib.Omega.{arith}
-use lib.Arith.{digits-lt}
-use lib.Dec.{lit<}
+use lib.Arith.{digits-lt, digits-mod}
 use lib.ListN.{length, getD}
-use lib.Pow.{pow-add, high, low, field, mod-mod-pow, mod-pow-add}
-use Rattle.octets.specs.Numbers.{fromBe, toBe, fromLe, toLe}
+use lib.Pow.{pow-add, pow-pos, high, mod-pow-add}
+use Rattle.octets.specs.Numbers.{fromDigits, toDigits, fromBe, toBe, fromLe, toLe}
 
--- each element is below 256
+-- each element is below m
+abbrev pub Below : ℕ → List ℕ → Type 0
+Below m l = (i : ℕ) → getD l i 0 < m
+
 abbrev pub Octets : List ℕ → Type 0
-Octets l = (i : ℕ) → getD l i 0 < 256
+Octets l = Below 256 l
 
-next : (n : ℕ) → 8 * suc n ≡ 8 + 8 * n
-next n = omega arith
+-- ---- the most significant digit first
 
--- ---- the most significant octet first
+next : (w n : ℕ) → w + w * n ≡ w * suc n
+next w n = add-comm w (w * n) ∙ sym (mul-suc w n)
+
+-- one more digit of w bits
+pub one-more : (w n : ℕ) → 2 ^ w * 2 ^ (w * n) ≡ 2 ^ (w * suc n)
+one-more w n = sym (pow-add 2 w (w * n)) ∙ ap (λ (k : ℕ). 2 ^ k) (next w n)
+
+module _ (w : ℕ) where
+  pub length-digits : (n x : ℕ) → length (toDigits w n x) ≡ n
+  length-digits zero x = refl
+  length-digits (suc n) x = ap suc (length-digits n x)
+
+  pub to-below : (n x : ℕ) → Below (2 ^ w) (toDigits w n x)
+  to-below zero x i = pow-pos w
+  to-below (suc n) x zero = mod-lt (x / 2 ^ (w * n)) (pow-pos w)
+  to-below (suc n) x (suc i) = to-below n x i
+
+  pub digits-below : (l : List ℕ) → Below (2 ^ w) l → fromDigits w l < 2 ^ (w * length l)
+  digits-below [] h = pow-pos (w * 0)
+  digits-below (d ∷ ds) h =
+      subst (λ (p : ℕ). fromDigits w (d ∷ ds) < p) (one-more w (length ds)) (digits-lt (h 0) (digits-below ds (λ i. h (suc i))))
+
+  pub from-to : (n x : ℕ) → fromDigits w (toDigits w n x) ≡ x % 2 ^ (w * n)
+  from-to zero x = sym (ap (λ (k : ℕ). x % 2 ^ k) (mul-zero w) ∙ mod-one x)
+  from-to (suc n) x =
+      ap₂ (λ (k r : ℕ). x / 2 ^ (w * n) % 2 ^ w * 2 ^ (w * k) + r) (length-digits n x) (from-to n x)
+      ∙ sym (mod-pow-add x w (w * n)) ∙ ap (λ (k : ℕ). x % 2 ^ k) (next w n)
+
+  -- a digit joined to the number before it
+  regroup : (a d n x : ℕ) → a * 2 ^ (w * suc n) + (d * 2 ^ (w * n) + x) ≡ (a * 2 ^ w + d) * 2 ^ (w * n) + x
+  regroup a d n x =
+      let p = 2 ^ (w * n) in
+      ap (λ (q : ℕ). a * q + (d * p + x)) (sym (one-more w n))
+      ∙ sym (add-assoc (a * (2 ^ w * p)) (d * p) x)
+      ∙ ap (λ (v : ℕ). v + x) (ap (λ (v : ℕ). v + d * p) (sym (mul-assoc a (2 ^ w) p)) ∙ sym (add-mul (a * 2 ^ w) d p))
+
+  -- digits that were joined, with any number before them, are found again
+  found-after : (l : List ℕ) → Below (2 ^ w) l → (a : ℕ) → toDigits w (length l) (a * 2 ^ (w * length l) + fromDigits w l) ≡ l
+  found-after [] h a = refl
+  found-after (d ∷ ds) h a =
+      let n = length ds in
+      ap (toDigits w (suc n)) (regroup a d n (fromDigits w ds))
+      ∙ ap₂ (λ (v : ℕ) (m : List ℕ). v ∷ m)
+      (ap (λ (v : ℕ). v % 2 ^ w) (high (a * 2 ^ w + d) (w * n) (digits-below ds (λ i. h (suc i)))) ∙ digits-mod a (h 0))
+      (found-after ds (λ i. h (suc i)) (a * 2 ^ w + d))
+
+  pub to-from : (l : List ℕ) → Below (2 ^ w) l → toDigits w (length l) (fromDigits w l) ≡ l
+  to-from l h =
+      let x = fromDigits w l in
+      ap (toDigits w (length l)) (sym (ap (λ (v : ℕ). v + x) (zero-mul (2 ^ (w * length l))) ∙ zero-add x)) ∙ found-after l h 0
+
+-- as octets
 
 pub length-toBe : (n x : ℕ) → length (toBe n x) ≡ n
-length-toBe zero x = refl
-length-toBe (suc n) x = ap suc (length-toBe n x)
+length-toBe n x = length-digits 8 n x
 
 pub fromBe-lt : (l : List ℕ) → Octets l → fromBe l < 2 ^ (8 * length l)
-fromBe-lt [] h = lit< tt
-fromBe-lt (b ∷ bs) h =
-    subst (λ (p : ℕ). fromBe (b ∷ bs) < p) (sym (ap (λ (k : ℕ). 2 ^ k) (next (length bs)) ∙ pow-add 2 8 (8 * length bs)))
-    (digits-lt (h 0) (fromBe-lt bs (λ i. h (suc i))))
+fromBe-lt l h = digits-below 8 l h
 
 pub fromBe-toBe : (n x : ℕ) → fromBe (toBe n x) ≡ x % 2 ^ (8 * n)
-fromBe-toBe zero x = sym (mod-one x)
-fromBe-toBe (suc n) x =
-    ap₂ (λ (k r : ℕ). x / 2 ^ (8 * n) % 256 * 2 ^ (8 * k) + r) (length-toBe n x) (fromBe-toBe n x)
-    ∙ sym (mod-pow-add x 8 (8 * n)) ∙ ap (λ (k : ℕ). x % 2 ^ k) (sym (next n))
-
--- n octets of a number are those of its low bits, of which there may be more
-toBe-mod : (n d x : ℕ) → toBe n (x % 2 ^ (8 * (n + d))) ≡ toBe n x
-toBe-mod zero d x = refl
-toBe-mod (suc n) d x =
-    ap₂ (λ (b : ℕ) (l : List ℕ). b ∷ l)
-    (ap (λ (k : ℕ). x % 2 ^ k / 2 ^ (8 * n) % 256) shape
-    ∙ ap (λ (v : ℕ). v % 256) (field x (8 * d + 8) (8 * n))
-    ∙ mod-mod-pow (x / 2 ^ (8 * n)) (8 * d) 8)
-    (ap (λ (k : ℕ). toBe n (x % 2 ^ k)) moved ∙ toBe-mod n (suc d) x)
-  where
-    shape : 8 * (suc n + d) ≡ 8 * d + 8 + 8 * n
-    shape = omega arith
-
-    moved : 8 * (suc n + d) ≡ 8 * (n + suc d)
-    moved = omega arith
+fromBe-toBe n x = from-to 8 n x
 
 pub toBe-fromBe : (l : List ℕ) → Octets l → toBe (length l) (fromBe l) ≡ l
-toBe-fromBe [] h = refl
-toBe-fromBe (b ∷ bs) h =
-    let n = length bs in
-    let small = fromBe-lt bs (λ i. h (suc i)) in
-    ap₂ (λ (x : ℕ) (l : List ℕ). x ∷ l)
-    (ap (λ (v : ℕ). v % 256) (high b (8 * n) small) ∙ mod-eq-of-lt (h 0))
-    (sym (toBe-mod n 0 (fromBe (b ∷ bs)))
-    ∙ ap (λ (k : ℕ). toBe n (fromBe (b ∷ bs) % 2 ^ (8 * k))) (omega arith)
-    ∙ ap (toBe n) (low b (8 * n) small)
-    ∙ toBe-fromBe bs (λ i. h (suc i)))
+toBe-fromBe l h = to-from 8 l h
 
 -- ---- the least significant octet first
 
