@@ -22,7 +22,7 @@ use Rattle.packets.specs.Change.{changeIn}
 use Rattle.packets.specs.Reply.{successPacket, failurePacket}
 use Rattle.packets.specs.declared.Response as fields
 use Rattle.packets.specs.declared.Change as changes
-use Rattle.authenticator.specs.Account.{nobody, found, renewed}
+use Rattle.authenticator.specs.Account.{noRecord, found, renewed}
 use Rattle.authenticator.specs.Conversation.{ended, retried, keeping}
 use Rattle.authenticator.specs.Refusal.{refusalOf}
 use Rattle.authenticator.specs.Response.{version, Drawn, valid, firstReason, reasonOf, afterReason, replyFor, responseDrawn}
@@ -40,20 +40,20 @@ use Rattle.authenticator.proofs.Steps.{judged-step, refused-step}
 
 -- 691 with a retry; 648; Success; Success and a new record
 abbrev pub again : Conversation → Drawn
-again c = record { reason = 691; reply = failurePacket (c .id) (textOf 691 1 version); next = retried c; handed = nobody }
+again c = record { reason = 691; reply = failurePacket (c .id) (textOf 691 1 version); next = retried c; handed = noRecord }
 
 abbrev pub expiry : Conversation → Account → Drawn
-expiry c a = record { reason = 648; reply = failurePacket (c .id) (textOf 648 0 version); next = keeping c a; handed = nobody }
+expiry c a = record { reason = 648; reply = failurePacket (c .id) (textOf 648 0 version); next = keeping c a; handed = noRecord }
 
 abbrev pub accepted : Conversation → Drawn
-accepted c = record { reason = 0; reply = successPacket (c .id); next = ended c; handed = nobody }
+accepted c = record { reason = 0; reply = successPacket (c .id); next = ended c; handed = noRecord }
 
 abbrev pub changed : Conversation → List ℕ → Drawn
 changed c h = record { reason = 0; reply = successPacket (c .id); next = ended c; handed = found (renewed (c .kept) h) }
 
 -- what the reason draws
 abbrev drawnFor : Conversation → Account → ℕ → Drawn
-drawnFor c a e = record { reason = e; reply = replyFor c e; next = afterReason c a e; handed = nobody }
+drawnFor c a e = record { reason = e; reply = replyFor c e; next = afterReason c a e; handed = noRecord }
 
 module _ (c : Conversation) (p b : List ℕ) (ok : refusalOf c p b ≡ 0) where
   response-step : (l : Lookup) → c .phase ≡ Response → step c p l b ≡ judgedAs (drawnFor c (l .account) (reasonOf c l (responseIn p))) b
@@ -171,5 +171,5 @@ module _ (c : Conversation) (p b : List ℕ) where
       which Change ok e = same-record l m (λ f. let z : _≡_ {A = ℕ} 0 1 = cc in absurd (omega arith))
       which Ended ok e = same-record l m (λ f. let z : _≡_ {A = ℕ} 0 1 = cc in absurd (omega arith))
 
-  pub same-answer : (a : Account) → valid c a (responseIn p) ≡ false → step c p nobody b ≡ step c p (found a) b
-  same-answer a v = same-invalid nobody (found a) refl v
+  pub same-answer : (a : Account) → valid c a (responseIn p) ≡ false → step c p noRecord b ≡ step c p (found a) b
+  same-answer a v = same-invalid noRecord (found a) refl v

@@ -6,7 +6,7 @@ use mathlib.Core.List.{List}
 use mathlib.Core.Option.{Option, none, some}
 use Prim.Native.Nat.{ℕ}
 use Rattle.packets.specs.declared.Change.{Change}
-use Rattle.authenticator.specs.Account.{noHash, nobody, found, renewed}
+use Rattle.authenticator.specs.Account.{noHash, noRecord, found, renewed}
 use Rattle.authenticator.specs.Change.{proves, proven, drawnBy}
 use Rattle.authenticator.specs.Conversation.{ended}
 use Rattle.authenticator.specs.Code.{hashFound, judgementOf}
@@ -38,6 +38,6 @@ module _ (c : Conversation) where
       ap₂ (λ (n : Conversation) (l : Lookup). record { reason = 0; next = n; handed = l }) q (r ∙ ap (λ (k : Hash). found (renewed (c .kept) (k .octets))) e)
 
   pub rejected : (o : Option (List ℕ)) {h : Hash} {next : Conversation} {handed : Lookup} → h ≡ hashFound o → h .present ≡ false
-      → next ≡ ended c → handed ≡ nobody → record { reason = 709; next = next; handed = handed } ≡ judgementOf (drawnBy c o)
+      → next ≡ ended c → handed ≡ noRecord → record { reason = 709; next = next; handed = handed } ≡ judgementOf (drawnBy c o)
   rejected none e p q r = ap₂ (λ (n : Conversation) (l : Lookup). record { reason = 709; next = n; handed = l }) q r
   rejected (some x) e p q r = absurd (true≢false (sym (ap (λ (k : Hash). k .present) e) ∙ p))

@@ -17,8 +17,8 @@ noHash = record { present = false; octets = replicate 16 0 }
 abbrev pub blank : Account
 blank = record { nt = noHash; lm = noHash; disabled = false; hours = false; nodialin = false; expired = false }
 
-abbrev pub nobody : Lookup
-nobody = record { found = false; account = blank }
+abbrev pub noRecord : Lookup
+noRecord = record { found = false; account = blank }
 
 abbrev pub found : Account → Lookup
 found a = record { found = true; account = a }

@@ -13,7 +13,7 @@ use Rattle.credentials.specs.declared.Content.the-variants.{Over, Odd, Password
 use Rattle.message.specs.Message.{textOf}
 use Rattle.packets.specs.Reply.{successPacket, failurePacket}
 use Rattle.packets.specs.declared.Change.{Change}
-use Rattle.authenticator.specs.Account.{nobody, found, renewed}
+use Rattle.authenticator.specs.Account.{noRecord, found, renewed}
 use Rattle.authenticator.specs.Conversation.{ended}
 use Rattle.authenticator.specs.Response.{version, Drawn}
 use Rattle.authenticator.specs.declared.Conversation.{Conversation}
@@ -41,7 +41,7 @@ newHash c f = cond (c .kept .nt .present && eqb (f .flags % 2) 1) (proven c f (h
 
 -- Success and the new record, or 709; either ends the conversation
 abbrev pub drawnBy : Conversation → Option (List ℕ) → Drawn
-drawnBy c none = record { reason = 709; reply = failurePacket (c .id) (textOf 709 0 version); next = ended c; handed = nobody }
+drawnBy c none = record { reason = 709; reply = failurePacket (c .id) (textOf 709 0 version); next = ended c; handed = noRecord }
 drawnBy c (some h) = record { reason = 0; reply = successPacket (c .id); next = ended c; handed = found (renewed (c .kept) h) }
 
 unfoldable pub changeDrawn : Conversation → Change → Drawn

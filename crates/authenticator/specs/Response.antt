@@ -7,7 +7,7 @@ use lib.Dec.{eqb, ltb}
 use Rattle.message.specs.Message.{textOf}
 use Rattle.packets.specs.Reply.{successPacket, failurePacket}
 use Rattle.packets.specs.declared.Response.{Response}
-use Rattle.authenticator.specs.Account.{nobody, answers}
+use Rattle.authenticator.specs.Account.{noRecord, answers}
 use Rattle.authenticator.specs.Conversation.{ended, retried, keeping}
 use Rattle.authenticator.specs.declared.Account.{Account}
 use Rattle.authenticator.specs.declared.Lookup.{Lookup}
@@ -57,4 +57,4 @@ replyFor c e = cond (eqb e 0) (successPacket (c .id)) (failurePacket (c .id) (te
 
 unfoldable pub responseDrawn : Conversation → Lookup → Response → Drawn
 responseDrawn c l f =
-    record { reason = reasonOf c l f; reply = replyFor c (reasonOf c l f); next = afterReason c (l .account) (reasonOf c l f); handed = nobody }
+    record { reason = reasonOf c l f; reply = replyFor c (reasonOf c l f); next = afterReason c (l .account) (reasonOf c l f); handed = noRecord }

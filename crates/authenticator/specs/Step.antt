@@ -8,7 +8,7 @@ use lib.ListN.{length}
 use Rattle.packets.specs.Frame.{headed}
 use Rattle.packets.specs.Response.{responseIn}
 use Rattle.packets.specs.Change.{changeIn}
-use Rattle.authenticator.specs.Account.{nobody}
+use Rattle.authenticator.specs.Account.{noRecord}
 use Rattle.authenticator.specs.Refusal.{refusalOf}
 use Rattle.authenticator.specs.Response.{Drawn, responseDrawn}
 use Rattle.authenticator.specs.Change.{changeDrawn}
@@ -33,7 +33,7 @@ reasonIn (Judged e) = e
 abbrev pub drawnIn : Phase → Conversation → List ℕ → Lookup → Drawn
 drawnIn Response c p l = responseDrawn c l (responseIn p)
 drawnIn Change c p l = changeDrawn c (changeIn p)
-drawnIn Ended c p l = record { reason = 0; reply = []; next = c; handed = nobody }
+drawnIn Ended c p l = record { reason = 0; reply = []; next = c; handed = noRecord }
 
 unfoldable pub drawn : Conversation → List ℕ → Lookup → Drawn
 drawn c p l = drawnIn (c .phase) c p l
@@ -51,7 +51,7 @@ judgedAs d b =
     }
 
 abbrev pub refusedAs : ℕ → Conversation → List ℕ → Outcome
-refusedAs n c b = record { answer = record { kind = Refused n; next = c; written = 0; handed = nobody }; buffer = b }
+refusedAs n c b = record { answer = record { kind = Refused n; next = c; written = 0; handed = noRecord }; buffer = b }
 
 unfoldable pub step : Conversation → List ℕ → Lookup → List ℕ → Outcome
 step c p l b = cond (eqb (refusalOf c p b) 0) (judgedAs (drawn c p l) b) (refusedAs (refusalOf c p b) c b)

@@ -1,7 +1,7 @@
 // Account records: the blank one, the one after a change, and whether a hash gives a response.
 ghost use mathlib.Core.Path.{_≡_};
 ghost use Rattle.octets.specs.Parts.{agrees};
-ghost use Rattle.authenticator.specs.Account.{noHash, blank, nobody, found, answers, renewed};
+ghost use Rattle.authenticator.specs.Account.{noHash, blank, noRecord, found, answers, renewed};
 use crate::Account;
 use crate::Hash;
 use crate::Lookup;
@@ -32,7 +32,7 @@ pub fn blank_account() -> Account
 
 // No record.
 pub fn no_record() -> Lookup
-    ensures { λ r. ⌜ r ≡ nobody ⌝ }
+    ensures { λ r. ⌜ r ≡ noRecord ⌝ }
 {
     let account = blank_account();
     Lookup {

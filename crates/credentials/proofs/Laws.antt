@@ -1,7 +1,7 @@
 -- The laws of hashes, responses and sealed passwords for other crates to cite: lengths, and that opening what was sealed gives the password back.
 -- Assumes nothing.
 use mathlib.Core.Path.{_≡_, refl, sym, ap, ap₂, _∙_}
-use mathlib.Core.Bool.{Bool, true, false, cond, _||_, true≢false}
+use mathlib.Core.Bool.{Bool, true, false, cond, not, _||_, true≢false}
 use mathlib.Core.List.{List, _++_, map, append-assoc}
 use Prim.Native.Nat.{ℕ, _+_, _-_, _%_, _≤_}
 use native.Mathlib.Nat.{mod-eq-of-lt}
@@ -22,7 +22,7 @@ use Rattle.rc4.proofs.Laws.{crypted-twice, length-crypted}
 use Rattle.credentials.specs.declared.Content.the-variants.{Over, Odd, Password}
 use Rattle.credentials.specs.declared.Opened.{Opened}
 use Rattle.credentials.specs.declared.Sealed.{Sealed}
-use Rattle.credentials.specs.Credentials.{ntHashOf, badNtPassword, lmHashOf, lmKeys, upper, responseOf, oldUnderNew, plainBlock, sealedBlock, sealRefusal, sealedAs, lengthIn, contentFor, Sound, openedAs, passwordIn}
+use Rattle.credentials.specs.Credentials.{ntHashOf, badNtPassword, lmHashOf, lmKeys, upper, responseOf, oldUnderNew, plainBlock, sealedBlock, badFiller, sealRefusal, sealedAs, lengthIn, contentFor, Sound, openedAs, passwordIn}
 
 -- ---- lengths
 
@@ -149,12 +149,12 @@ module _ (old password filler : List ℕ) where
 
   pub sealed-bad : badNtPassword password ≡ true → sealedAs old password filler ≡ record { refusal = 8; block = replicate 516 0 }
   unfolding sealedAs sealRefusal
-  sealed-bad e = ap (λ (b : Bool). answer (cond b 8 (cond (eqb (length filler) 512) 0 12))) e
+  sealed-bad e = ap (λ (b : Bool). answer (cond b 8 (cond (badFiller filler) 12 0))) e
 
   pub sealed-filler : badNtPassword password ≡ false → eqb (length filler) 512 ≡ false → sealedAs old password filler ≡ record { refusal = 12; block = replicate 516 0 }
   unfolding sealedAs sealRefusal
-  sealed-filler e f = ap₂ (λ (a b : Bool). answer (cond a 8 (cond b 0 12))) e f
+  sealed-filler e f = ap₂ (λ (a b : Bool). answer (cond a 8 (cond (not b) 12 0))) e f
 
   pub sealed-good : badNtPassword password ≡ false → eqb (length filler) 512 ≡ true → sealedAs old password filler ≡ record { refusal = 0; block = sealedBlock old filler password }
   unfolding sealedAs sealRefusal
-  sealed-good e f = ap₂ (λ (a b : Bool). answer (cond a 8 (cond b 0 12))) e f
+  sealed-good e f = ap₂ (λ (a b : Bool). answer (cond a 8 (cond (not b) 12 0))) e f

@@ -1,6 +1,6 @@
 -- Hashes, responses and the sealed password (RFC 2433, appendix A), over lists of octets.
 -- Assumes nothing: these are definitions.
-use mathlib.Core.Bool.{Bool, cond, _||_}
+use mathlib.Core.Bool.{Bool, cond, not, _||_}
 use mathlib.Core.List.{List, [], _∷_, _++_, map}
 use mathlib.Core.Path.{_≡_}
 use Prim.Native.Nat.{ℕ, _-_, _%_, _≤_}
@@ -71,9 +71,13 @@ plainBlock filler password = take (512 - length password) filler ++ (password ++
 unfoldable pub sealedBlock : List ℕ → List ℕ → List ℕ → List ℕ
 sealedBlock old filler password = crypted old (plainBlock filler password)
 
+-- refusal 12: a filler has 512 octets
+abbrev pub badFiller : List ℕ → Bool
+badFiller filler = not (eqb (length filler) 512)
+
 -- refusals 8, then 12
 unfoldable pub sealRefusal : List ℕ → List ℕ → ℕ
-sealRefusal password filler = cond (badNtPassword password) 8 (cond (eqb (length filler) 512) 0 12)
+sealRefusal password filler = cond (badNtPassword password) 8 (cond (badFiller filler) 12 0)
 
 unfoldable pub sealedAs : List ℕ → List ℕ → List ℕ → Sealed
 sealedAs old password filler =

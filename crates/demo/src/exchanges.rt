@@ -107,11 +107,11 @@ pub(crate) fn change(talk: Talk) -> Talk {
     let mut out = [0u8; 1118];
     let turn = talk.turn;
     let written = peer::write_change(turn, &old, &new, &filler, &mut out);
-    answered(talk, octets::part_of(&out, 0, written.length), nobody())
+    answered(talk, octets::part_of(&out, 0, written.length), no_record())
 }
 
 // No record.
-pub(crate) fn nobody() -> Lookup {
+pub(crate) fn no_record() -> Lookup {
     let mut none = account(false);
     none.found = false;
     none

@@ -1,6 +1,6 @@
 // What students get wrong, and what the box does.
 use crate::exchanges::account;
-use crate::exchanges::nobody;
+use crate::exchanges::no_record;
 use crate::exchanges::opening;
 use crate::exchanges::response;
 use crate::exchanges::right;
@@ -43,7 +43,7 @@ fn guess_for(lookup: Lookup) {
 
 fn unknown() {
     say(b"Slip: an unknown account told apart from a wrong password. Both draw the same octets.");
-    guess_for(nobody());
+    guess_for(no_record());
     guess_for(account(false));
 }
 

@@ -3,10 +3,10 @@
 use mathlib.Core.List.{List}
 use mathlib.Core.Path.{_≡_, refl}
 use Prim.Native.Nat.{ℕ}
-use Rattle.peer.specs.Talk.{Peer, reads, hears}
+use Rattle.peer.specs.Talk.{Peer, reads, receiving}
 
-pub same-reading : (q : Peer) (earlier reply : List ℕ) → reads (hears q earlier) reply ≡ reads q reply
+pub same-reading : (q : Peer) (earlier reply : List ℕ) → reads (receiving q earlier) reply ≡ reads q reply
 same-reading q earlier reply = refl
 
-pub same-turn : (q : Peer) (reply : List ℕ) → hears (hears q reply) reply ≡ hears q reply
+pub same-turn : (q : Peer) (reply : List ℕ) → receiving (receiving q reply) reply ≡ receiving q reply
 same-turn q reply = refl

@@ -1,7 +1,7 @@
 -- What our peer's writers leave in their output buffers: where a writer refuses nothing, the packet stands at the front, and what was lent met the
 -- rules of its refusals.
 -- Assumes nothing.
-use mathlib.Core.Bool.{Bool, true, false, cond, not, _||_, true≢false}
+use mathlib.Core.Bool.{Bool, true, false, cond, _||_, true≢false}
 use mathlib.Core.List.{List}
 use mathlib.Core.Logic.{_≢_}
 use mathlib.Core.Path.{_≡_, refl, sym, ap, _∙_}
@@ -10,7 +10,7 @@ use native.Mathlib.Omega.{arith}
 use borrow.Author.Tests.{ltb-false, eqb-true, not-false}
 use lib.Dec.{eqb, ltb}
 use lib.ListN.{length, take}
-use Rattle.credentials.specs.Credentials.{badNtPassword}
+use Rattle.credentials.specs.Credentials.{badNtPassword, badFiller}
 use Rattle.credentials.proofs.Laws.{good-password}
 use Rattle.packets.specs.Response.{badName, responseWriteRefusal}
 use Rattle.packets.specs.Change.{changeWriteRefusal}
@@ -103,14 +103,14 @@ module _ (t : Turn) (old new filler out : List ℕ) where
   unfolding writeChangeRefusal changeWriteRefusal
   change-limits x y z =
       let n = change-number in
-      n ∙ none-of (badNtPassword old || badNtPassword new) (not (eqb (length filler) 512)) (ltb (length out) 1118) 8 12 9
+      n ∙ none-of (badNtPassword old || badNtPassword new) (badFiller filler) (ltb (length out) 1118) 8 12 9
       (λ e. x (n ∙ e)) (λ e. y (n ∙ e)) (λ e. z (n ∙ e))
 
   module _ (ok : changeWrote .answer .refusal ≡ 0) where
-    checks : ((badNtPassword old || badNtPassword new) ≡ false) × (not (eqb (length filler) 512) ≡ false) × (ltb (length out) 1118 ≡ false)
+    checks : ((badNtPassword old || badNtPassword new) ≡ false) × (badFiller filler ≡ false) × (ltb (length out) 1118 ≡ false)
     unfolding writeChangeRefusal changeWriteRefusal
     checks =
-        all-false (badNtPassword old || badNtPassword new) (not (eqb (length filler) 512)) (ltb (length out) 1118) 8 12 9
+        all-false (badNtPassword old || badNtPassword new) (badFiller filler) (ltb (length out) 1118) 8 12 9
         (positive 8 (omega arith)) (positive 12 (omega arith)) (positive 9 (omega arith)) (sym change-number ∙ ok)
 
     pub new-fits : (length new ≤ 512) × (length new % 2 ≡ 0)

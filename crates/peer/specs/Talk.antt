@@ -31,5 +31,5 @@ abbrev pub reads : Peer → List ℕ → Reading
 reads q reply = readReply (q .sent .id) reply
 
 -- a reply was read: what was sent stays, so that the same reply, read again, gives the same turn
-abbrev pub hears : Peer → List ℕ → Peer
-hears q reply = record { sent = q .sent; turn = nextTurn (q .sent) (reads q reply) }
+abbrev pub receiving : Peer → List ℕ → Peer
+receiving q reply = record { sent = q .sent; turn = nextTurn (q .sent) (reads q reply) }

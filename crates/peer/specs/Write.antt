@@ -1,11 +1,10 @@
 -- The peer's two packets, each from a turn and passwords, and when they are refused (document 01: 8, 10, 12, 9 in that order).
 -- Assumes nothing: these are definitions.
-use mathlib.Core.Bool.{cond, not, _||_}
+use mathlib.Core.Bool.{cond, _||_}
 use mathlib.Core.List.{List}
 use Prim.Native.Nat.{ℕ}
-use lib.Dec.{eqb}
 use lib.ListN.{length, replicate}
-use Rattle.credentials.specs.Credentials.{ntHashOf, badNtPassword, responseOf, oldUnderNew, sealedBlock}
+use Rattle.credentials.specs.Credentials.{ntHashOf, badNtPassword, badFiller, responseOf, oldUnderNew, sealedBlock}
 use Rattle.packets.specs.Frame.{answerBy, outBy}
 use Rattle.packets.specs.Response.{responsePacket, responseWriteRefusal}
 use Rattle.packets.specs.Change.{changePacket, changeWriteRefusal}
@@ -53,7 +52,7 @@ writeResponseRefusal password name out = cond (badNtPassword password) 8 (respon
 -- 8, 12, 9; 8 for either password
 unfoldable pub writeChangeRefusal : List ℕ → List ℕ → List ℕ → List ℕ → ℕ
 writeChangeRefusal old new filler out =
-    cond (badNtPassword old || badNtPassword new) 8 (cond (not (eqb (length filler) 512)) 12 (changeWriteRefusal out))
+    cond (badNtPassword old || badNtPassword new) 8 (cond (badFiller filler) 12 (changeWriteRefusal out))
 
 abbrev pub refusedBy : ℕ → Written
 refusedBy n = record { refusal = n; length = 0 }

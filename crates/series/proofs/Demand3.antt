@@ -31,7 +31,7 @@ use Rattle.peer.specs.Write.{Wrote, responseFor, writeResponse, writeChange}
 use Rattle.peer.specs.declared.Turn.{Turn}
 use Rattle.peer.proofs.Left.{response-limits, name-fits, response-left, change-limits, new-fits, filler-full, change-left}
 use Rattle.series.specs.Course.{end, Along}
-use Rattle.series.specs.Series.{invalid, right, renewal, Line, Move, ours, other, Kind, Invalid, Right, Renewal, kindsOf, plan, Place, start, reaching, Exchange, exchange, go, judgedAt, Kept, Allowed, Draws, DrawsFailure, DrawsSuccess, LetsIn, Answered, Claimed, Demand3}
+use Rattle.series.specs.Series.{invalid, right, renewal, Line, Step, ours, other, Kind, Invalid, Right, Renewal, kindsOf, plan, Place, start, reaching, Exchange, exchange, go, judgedAt, Kept, Allowed, Draws, DrawsFailure, DrawsSuccess, LetsIn, Answered, Claimed, Demand3}
 use Rattle.series.specs.Boxes.{ourBox}
 use Rattle.series.proofs.RoundTrips.{challenge-read}
 use Rattle.series.proofs.Talk.{Talk, whole, within}
@@ -140,7 +140,7 @@ lets-in a password g fresh hash o behind name ss l ok eight quiet lent kept =
     let id : p .conversation .id ≡ o .id = ap (λ (c : Conversation). c .id) (back ∙ opened-first o ok) in
     (d .0 ∙ ap (λ (x : Bool). drawnRight x (p .conversation) a .reply) fresh ∙ ap successPacket id, d .1 ∙ ap readRight fresh)
 
--- ---- each move
+-- ---- each step
 
 abbrev Ready : Account → List Kind → Place → Type 0
 Ready a due p = FitIn a due (p .conversation) × InStep (p .conversation) (p .peer .turn)
@@ -151,7 +151,7 @@ right-answered true e c a h = h
 right-answered false e c a h = h
 
 module _ (a : Account) (g : Rightful a) where
-  law : (due : List Kind) (p : Place) (m : Move) → Ready a (kindsOf m ++ due) p → Allowed stepOn a p m
+  law : (due : List Kind) (p : Place) (m : Step) → Ready a (kindsOf m ++ due) p → Allowed stepOn a p m
       → Claimed stepOn a p m × (judgedAt stepOn p m ≡ length (kindsOf m)) × Ready a due (go stepOn p m)
   law due p (other s) (f, i) h =
       (tt, judged-none (p .conversation) s h, subst (λ (c : Conversation). FitIn a due c × InStep c (p .peer .turn)) (sym (refused-same (p .conversation) s h)) (f, i))

@@ -18,7 +18,7 @@ use Rattle.authenticator.proofs.Steps.{reply-of}
 use Rattle.authenticator.proofs.Written.{Fits}
 use Rattle.peer.specs.Turn.{sentFor, nextTurn}
 use Rattle.peer.specs.Write.{Wrote}
-use Rattle.peer.specs.Talk.{sending, hears}
+use Rattle.peer.specs.Talk.{sending, receiving}
 use Rattle.peer.specs.declared.Sent.{Sent}
 use Rattle.series.specs.Series.{Line, Place, reaching, carried, Draws}
 
@@ -31,7 +31,7 @@ pub record Exchanged (p : Place) (w : Wrote) (l : Line) (d : Drawn) (reading : R
   pub draws : Draws (carried stepOn p w l) (d .reply) reading
   pub judges : judged stepOn (p .conversation) (reaching w l) ≡ 1
   pub leads : _≡_ {A = Place}
-      (record { conversation = carried stepOn p w l .outcome .answer .next; peer = hears (carried stepOn p w l .peer) (carried stepOn p w l .reply) })
+      (record { conversation = carried stepOn p w l .outcome .answer .next; peer = receiving (carried stepOn p w l .peer) (carried stepOn p w l .reply) })
       (record { conversation = d .next; peer = record { sent = sentFor (p .peer .turn); turn = nextTurn (sentFor (p .peer .turn)) reading } })
 
 module _ (p : Place) (w : Wrote) (l : Line) (d : Drawn) (reading : Reading) (zero : w .answer .refusal ≡ 0) (room : 17 ≤ length (l .buffer))

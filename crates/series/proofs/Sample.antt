@@ -13,7 +13,7 @@ use Rattle.credentials.specs.Credentials.{ntHashOf}
 use Rattle.packets.specs.Response.{responseIn, responseWriteRefusal}
 use Rattle.packets.specs.Change.{changeWriteRefusal}
 use Rattle.packets.specs.declared.Response as fields
-use Rattle.authenticator.specs.Account.{noHash, blank, nobody, found, answers}
+use Rattle.authenticator.specs.Account.{noHash, blank, noRecord, found, answers}
 use Rattle.authenticator.specs.Opening.{Opening}
 use Rattle.authenticator.specs.Response.{valid}
 use Rattle.authenticator.specs.Steps.{Lent, Box, stepOn, refusalAt, Rightful}
@@ -24,7 +24,7 @@ use Rattle.authenticator.specs.declared.Retries.{Retries}
 use Rattle.authenticator.specs.declared.LmChoice.the-variants.{Disallowed}
 use Rattle.authenticator.proofs.Steps.{number-step, number-range}
 use Rattle.peer.specs.Write.{writeResponseRefusal, writeChangeRefusal, writeResponse, writeChange}
-use Rattle.series.specs.Series.{Packet, invalid, right, renewal, Line, Move, ours, Place, exchange, Within, Kept, Allowed}
+use Rattle.series.specs.Series.{Packet, invalid, right, renewal, Line, Step, ours, Place, exchange, Within, Kept, Allowed}
 
 -- ---- openings, passwords, records
 
@@ -66,16 +66,16 @@ rightful expired = record { nt = refl; enabled = refl; hours = refl; dialin = re
 abbrev pub line : ℕ → Lookup → Line
 line n l = record { out = replicate n 0; after = 9 ∷ []; account = l; buffer = replicate 17 0; behind = 9 ∷ 9 ∷ [] }
 
-abbrev pub badTry : Lookup → Move
+abbrev pub badTry : Lookup → Step
 badTry l = ours (invalid bad user) (line 60 l)
 
-abbrev pub rightTry : Bool → Move
+abbrev pub rightTry : Bool → Step
 rightTry expired = ours (right old user) (line 55 (found (account expired)))
 
 abbrev pub newPassword : Packet
 newPassword = renewal old new (replicate 512 7)
 
-abbrev pub change : Lookup → Move
+abbrev pub change : Lookup → Step
 change l = ours newPassword (line 1118 l)
 
 -- ---- the premises
@@ -123,9 +123,9 @@ module _ (box : Box) (h : KeepsTo box) (p : Place) where
   change-kept l e room = kept newPassword l (rw e) room
 
   -- lent no record, or one with no hash
-  pub bad-allowed : (a : Account) → Allowed box a p (badTry nobody)
+  pub bad-allowed : (a : Account) → Allowed box a p (badTry noRecord)
   unfolding writeResponseRefusal responseWriteRefusal
-  bad-allowed a = (try-kept bad (line 60 nobody) refl refl, λ e. absurd (false≢true e))
+  bad-allowed a = (try-kept bad (line 60 noRecord) refl refl, λ e. absurd (false≢true e))
 
   pub blank-allowed : (a : Account) → Allowed box a p (badTry (found blank))
   unfolding writeResponseRefusal responseWriteRefusal

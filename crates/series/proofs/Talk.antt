@@ -1,4 +1,4 @@
--- Courses: one law of a move carries a claim along a whole course, and one law of a move bounds a sum over it.
+-- Courses: one law of a step carries a claim along a whole course, and one law of a step bounds a sum over it.
 -- Assumes nothing.
 use mathlib.Core.List.{List, [], _∷_, _++_}
 use mathlib.Core.Path.{_≡_, refl}
@@ -7,7 +7,7 @@ use native.Mathlib.Omega.{arith}
 use lib.ListN.{length, length-append}
 use Rattle.series.specs.Course.{collect, end, Along, total}
 
--- A talk of box and peer: at a place that is ready for the packets that are due, an allowed move does what is claimed of it, as many packets are
+-- A talk of box and peer: at a place that is ready for the packets that are due, an allowed step does what is claimed of it, as many packets are
 -- judged as it takes of those, and the place after it is ready for the rest.
 pub record Talk {S M K : Type 0} (go : S → M → S) (kinds : M → List K) (judged : S → M → ℕ) (Allowed Claimed : S → M → Type 0) : Type 1 where
   pub Ready : List K → S → Type 0
@@ -24,7 +24,7 @@ module _ {S M K : Type 0} {go : S → M → S} {kinds : M → List K} {judged : 
       let y = whole (go s m) ms (x .2) (h .1) in
       ((x .0, y .0), omega (arith, x .1, y .1, length-append (kinds m) (collect kinds ms)), y .2)
 
--- what each move uses up of the rest
+-- what each step uses up of the rest
 pub within : {S M : Type 0} (go : S → M → S) (f : S → M → ℕ) (rest : S → ℕ) → ((s : S) (m : M) → f s m + rest (go s m) ≤ rest s)
     → (s : S) (ms : List M) → total go f s ms ≤ rest s
 within go f rest h s [] = omega arith

@@ -7,7 +7,7 @@ use mathlib.Core.Path.{_≡_, refl, sym, _∙_}
 use Prim.Native.Nat.{ℕ, _<_}
 use native.Mathlib.Omega.{arith}
 use lib.ListN.{take, replicate}
-use Rattle.authenticator.specs.Account.{blank, nobody, found}
+use Rattle.authenticator.specs.Account.{blank, noRecord, found}
 use Rattle.authenticator.specs.Conversation.{isEnded}
 use Rattle.authenticator.specs.Opening.{Opening, openRefusal, opened}
 use Rattle.authenticator.specs.Refusal.{refusalOf}
@@ -19,7 +19,7 @@ use Rattle.authenticator.specs.declared.Retries.the-variants.{Default, Count}
 use Rattle.authenticator.specs.declared.LmChoice.the-variants.{Silent}
 use Rattle.authenticator.proofs.Steps.{number-step}
 use Rattle.series.specs.Course.{end, Along, total}
-use Rattle.series.specs.Series.{right, Move, other, Place, start, exchange, go, judgedAt, Allowed, DrawsSuccess, later, LetsIn, Claimed}
+use Rattle.series.specs.Series.{right, Step, other, Place, start, exchange, go, judgedAt, Allowed, DrawsSuccess, later, LetsIn, Claimed}
 use Rattle.series.specs.Boxes.{ourBox}
 use Rattle.series.proofs.Sample.{opening, new, user, account, rightful, line, badTry, rightTry, newPassword, change, ours-keeps-to, blank-allowed, right-allowed, change-allowed, new-kept}
 use Rattle.series.proofs.Demand3.{demand3}
@@ -28,13 +28,13 @@ use Rattle.series.proofs.Demand3.{demand3}
 
 -- a packet that is too short, and a buffer that is
 abbrev short : Lent
-short = record { packet = 1 ∷ 2 ∷ 3 ∷ []; account = nobody; buffer = replicate 20 0 }
+short = record { packet = 1 ∷ 2 ∷ 3 ∷ []; account = noRecord; buffer = replicate 20 0 }
 
 abbrev narrow : Lent
 narrow = record { packet = replicate 60 2; account = found (account true); buffer = replicate 16 0 }
 
-abbrev pub moves : List Move
-moves = other short ∷ badTry (found blank) ∷ other narrow ∷ rightTry true ∷ other short ∷ change nobody ∷ other narrow ∷ []
+abbrev pub steps : List Step
+steps = other short ∷ badTry (found blank) ∷ other narrow ∷ rightTry true ∷ other short ∷ change noRecord ∷ other narrow ∷ []
 
 -- ---- the premises
 
@@ -55,15 +55,15 @@ unfolding refusalOf
 narrow-refused c = refused c narrow 2 (omega arith) refl
 
 -- what is allowed at any place is allowed along any course
-abbrev Anywhere : List Move → Type 0
+abbrev Anywhere : List Step → Type 0
 Anywhere [] = Unit {0}
 Anywhere (m ∷ ms) = ((p : Place) → Allowed ourBox (account true) p m) × Anywhere ms
 
-along : (p : Place) (ms : List Move) → Anywhere ms → Along (go ourBox) (Allowed ourBox (account true)) p ms
+along : (p : Place) (ms : List Step) → Anywhere ms → Along (go ourBox) (Allowed ourBox (account true)) p ms
 along p [] h = tt
 along p (m ∷ ms) h = (h .0 p, along (go ourBox p m) ms (h .1))
 
-allowed : Anywhere moves
+allowed : Anywhere steps
 allowed =
     let noise : (p : Place) → Allowed ourBox (account true) p (other short) = λ p. short-refused (p .conversation) in
     let tight : (p : Place) → Allowed ourBox (account true) p (other narrow) = λ p. narrow-refused (p .conversation) in (
@@ -74,14 +74,14 @@ allowed =
           tight,
           (
             (λ p. right-allowed ourBox ours-keeps-to p true),
-            (noise, ((λ p. change-allowed ourBox ours-keeps-to p true nobody), (tight, tt))),
+            (noise, ((λ p. change-allowed ourBox ours-keeps-to p true noRecord), (tight, tt))),
           ),
         ),
       ),
     )
 
-pub met : Along (go ourBox) (Allowed ourBox (account true)) (start (opening (Count 1)) []) moves
-met = along (start (opening (Count 1)) []) moves allowed
+pub met : Along (go ourBox) (Allowed ourBox (account true)) (start (opening (Count 1)) []) steps
+met = along (start (opening (Count 1)) []) steps allowed
 
 -- ---- the claim of this series
 
@@ -90,19 +90,19 @@ unfolding opened openRefusal
 opens = refl
 
 -- each packet draws what it should, three are judged, and the conversation has ended
-pub claimed : Along (go ourBox) (Claimed ourBox (account true)) (start (opening (Count 1)) []) moves
-    × (total (go ourBox) (judgedAt ourBox) (start (opening (Count 1)) []) moves ≡ 3)
-    × (end (go ourBox) (start (opening (Count 1)) []) moves .conversation .phase ≡ Ended)
-claimed = demand3 (opening (Count 1)) opens refl .1 (account true) 1 [] moves (rightful true) (omega arith) refl met
+pub claimed : Along (go ourBox) (Claimed ourBox (account true)) (start (opening (Count 1)) []) steps
+    × (total (go ourBox) (judgedAt ourBox) (start (opening (Count 1)) []) steps ≡ 3)
+    × (end (go ourBox) (start (opening (Count 1)) []) steps .conversation .phase ≡ Ended)
+claimed = demand3 (opening (Count 1)) opens refl .1 (account true) 1 [] steps (rightful true) (omega arith) refl met
 
 -- ---- a later conversation, with the record that the change handed out
 
 -- the place of the change
 abbrev place : Place
-place = end (go ourBox) (start (opening (Count 1)) []) (take 5 moves)
+place = end (go ourBox) (start (opening (Count 1)) []) (take 5 steps)
 
 abbrev handed : Account
-handed = exchange ourBox place newPassword (line 1118 nobody) .outcome .answer .handed .account
+handed = exchange ourBox place newPassword (line 1118 noRecord) .outcome .answer .handed .account
 
 lets-in : LetsIn ourBox handed new
 lets-in = claimed .0 .1 .1 .1 .1 .1 .0 .2

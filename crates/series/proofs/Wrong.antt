@@ -13,7 +13,7 @@ use Rattle.message.specs.Message.{textOf}
 use Rattle.packets.specs.Frame.{octet}
 use Rattle.packets.specs.Response.{responseIn, responseRefusal}
 use Rattle.packets.specs.Reply.{successPacket, failurePacket}
-use Rattle.authenticator.specs.Account.{nobody, found}
+use Rattle.authenticator.specs.Account.{noRecord, found}
 use Rattle.authenticator.specs.Opening.{openRefusal, opened}
 use Rattle.authenticator.specs.Refusal.{refusalOf}
 use Rattle.authenticator.specs.Response.{version, valid, firstReason, reasonOf, replyFor, responseDrawn}
@@ -26,7 +26,7 @@ use Rattle.authenticator.proofs.Steps.{refused-whole, reply-of}
 use Rattle.authenticator.proofs.Written.{Fits, success-fits, failure-fits}
 use Rattle.series.specs.Course.{total}
 use Rattle.series.specs.Series.{invalid, right, start, exchange, go, Within, later, LetsIn, Demand3}
-use Rattle.series.specs.Boxes.{refusing, Judge, judging, findsNobody, accepts, leavesRecord, pretends, neverCounts}
+use Rattle.series.specs.Boxes.{refusing, Judge, judging, findsNone, accepts, leavesRecord, pretends, neverCounts}
 use Rattle.series.proofs.Sample.{opening, old, bad, new, user, account, rightful, line, badTry, rightTry, newPassword, change, KeepsTo, ours-keeps-to, seven-keeps-to, bad-allowed, right-allowed, change-allowed, new-kept}
 
 opens : opened (opening Default) .refusal ≡ 0
@@ -86,18 +86,18 @@ module _ (d : Judge) where
 -- ---- 691 always
 
 -- for a Response that a first conversation judges with no record
-nobody-drawn : (p : List ℕ) → drawn (opened (opening Default) .conversation) p nobody .reply ≡ failurePacket 255 (textOf 691 1 version)
+none-drawn : (p : List ℕ) → drawn (opened (opening Default) .conversation) p noRecord .reply ≡ failurePacket 255 (textOf 691 1 version)
 unfolding opened openRefusal drawn responseDrawn reasonOf firstReason
-nobody-drawn p = refl
+none-drawn p = refl
 
-pub not-finding-nobody : Demand3 (judging findsNobody) → ⊥
-not-finding-nobody h =
+pub not-finding : Demand3 (judging findsNone) → ⊥
+not-finding h =
     let p = start (opening Default) [] in
     let all = h (opening Default) opens refl .1 (account false) 0 [] (rightTry false ∷ []) (rightful false) (omega arith) refl
-    (right-allowed (judging findsNobody) (keeps-to findsNobody) p false, tt) in
-    let s = exchange (judging findsNobody) p (right old user) (line 55 (found (account false))) .lent in
-    let drawn = nobody-drawn (s .packet) in
-    let code = code-drawn findsNobody (p .conversation) s (subst Fits (sym drawn) (failure-fits 255 691 1 version)) (omega arith)
+    (right-allowed (judging findsNone) (keeps-to findsNone) p false, tt) in
+    let s = exchange (judging findsNone) p (right old user) (line 55 (found (account false))) .lent in
+    let drawn = none-drawn (s .packet) in
+    let code = code-drawn findsNone (p .conversation) s (subst Fits (sym drawn) (failure-fits 255 691 1 version)) (omega arith)
     (ap (octet 0) (all .0 .0 .0) ∙ success-code _) (omega arith) in
     omega (arith, code, ap (octet 0) drawn ∙ failure-code 255 (textOf 691 1 version))
 
@@ -107,9 +107,9 @@ pub not-accepting : Demand3 (judging accepts) → ⊥
 not-accepting h =
     let box = judging accepts in
     let p = start (opening Default) [] in
-    let all = h (opening Default) opens refl .1 (account false) 1 [] (badTry nobody ∷ rightTry false ∷ []) (rightful false) (omega arith) refl
-    (bad-allowed box (keeps-to accepts) p (account false), (right-allowed box (keeps-to accepts) (go box p (badTry nobody)) false, tt)) in
-    let code = code-drawn accepts (p .conversation) (exchange box p (invalid bad user) (line 60 nobody) .lent) (success-fits _) (omega arith)
+    let all = h (opening Default) opens refl .1 (account false) 1 [] (badTry noRecord ∷ rightTry false ∷ []) (rightful false) (omega arith) refl
+    (bad-allowed box (keeps-to accepts) p (account false), (right-allowed box (keeps-to accepts) (go box p (badTry noRecord)) false, tt)) in
+    let code = code-drawn accepts (p .conversation) (exchange box p (invalid bad user) (line 60 noRecord) .lent) (success-fits _) (omega arith)
     (ap (octet 0) (all .0 .0 .0) ∙ failure-code _ (textOf 691 1 version)) (omega arith) in
     omega (arith, code, success-code (p .conversation .id))
 
@@ -117,7 +117,7 @@ not-accepting h =
 
 -- the first invalid try leaves one retry
 one-left : (p b : List ℕ)
-    → pretends (opened (opening Default) .conversation) (record { packet = p; account = nobody; buffer = b }) .next .retries ≡ 1
+    → pretends (opened (opening Default) .conversation) (record { packet = p; account = noRecord; buffer = b }) .next .retries ≡ 1
 unfolding opened openRefusal drawn responseDrawn reasonOf firstReason
 one-left p b = refl
 
@@ -126,16 +126,16 @@ pub not-pretending : Demand3 (judging pretends) → ⊥
 not-pretending h =
     let box = judging pretends in
     let p = start (opening Default) [] in
-    let q = go box p (badTry nobody) in
-    let all = h (opening Default) opens refl .1 (account false) 2 [] (badTry nobody ∷ badTry nobody ∷ rightTry false ∷ []) (rightful false) (omega arith) refl (
+    let q = go box p (badTry noRecord) in
+    let all = h (opening Default) opens refl .1 (account false) 2 [] (badTry noRecord ∷ badTry noRecord ∷ rightTry false ∷ []) (rightful false) (omega arith) refl (
       bad-allowed box (keeps-to pretends) p (account false),
-      (bad-allowed box (keeps-to pretends) q (account false), (right-allowed box (keeps-to pretends) (go box q (badTry nobody)) false, tt)),
+      (bad-allowed box (keeps-to pretends) q (account false), (right-allowed box (keeps-to pretends) (go box q (badTry noRecord)) false, tt)),
     ) in
-    let s = exchange box p (invalid bad user) (line 60 nobody) .lent in
-    let t = exchange box q (invalid bad user) (line 60 nobody) .lent in
+    let s = exchange box p (invalid bad user) (line 60 noRecord) .lent in
+    let t = exchange box q (invalid bad user) (line 60 noRecord) .lent in
     let first = drew pretends (p .conversation) s (ap (octet 0) (all .0 .0 .0) ∙ failure-code _ (textOf 691 1 version)) (omega arith) in
     let left = ap (λ (o : Outcome). o .answer .next .retries) first ∙ one-left (s .packet) (s .buffer) in
-    let pretended = ap (λ (n : ℕ). cond (ltb n 2) (accepts (q .conversation) t) (drawn (q .conversation) (t .packet) nobody) .reply) left in
+    let pretended = ap (λ (n : ℕ). cond (ltb n 2) (accepts (q .conversation) t) (drawn (q .conversation) (t .packet) noRecord) .reply) left in
     let code = code-drawn pretends (q .conversation) t (subst Fits (sym pretended) (success-fits (q .conversation .id))) (omega arith)
     (ap (octet 0) (all .0 .1 .0 .0) ∙ failure-code _ (textOf 691 1 version)) (omega arith) in
     omega (arith, code, ap (octet 0) pretended ∙ success-code (q .conversation .id))
@@ -175,9 +175,9 @@ not-leaving-record h =
 
 -- ---- retries do not fall
 
--- a Response for nobody's record, with an identifier
+-- a Response that is lent no record, with an identifier
 abbrev try : ℕ → Lent
-try id = record { packet = 2 ∷ id ∷ 0 ∷ 55 ∷ 49 ∷ (replicate 48 0 ++ (1 ∷ 117 ∷ [])); account = nobody; buffer = replicate 17 0 }
+try id = record { packet = 2 ∷ id ∷ 0 ∷ 55 ∷ 49 ∷ (replicate 48 0 ++ (1 ∷ 117 ∷ [])); account = noRecord; buffer = replicate 17 0 }
 
 abbrev tries : List Lent
 tries = try 255 ∷ try 0 ∷ try 1 ∷ try 2 ∷ []

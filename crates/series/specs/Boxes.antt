@@ -3,7 +3,7 @@
 use mathlib.Core.Bool.{cond}
 use lib.Dec.{eqb, ltb}
 use Rattle.packets.specs.Reply.{successPacket}
-use Rattle.authenticator.specs.Account.{nobody}
+use Rattle.authenticator.specs.Account.{noRecord}
 use Rattle.authenticator.specs.Conversation.{ended}
 use Rattle.authenticator.specs.Response.{Drawn}
 use Rattle.authenticator.specs.Step.{drawn, judgedAs, refusedAs}
@@ -22,12 +22,12 @@ abbrev pub judging : Judge → Box
 judging d c s = cond (eqb (refusalAt stepOn c s) 0) (judgedAs (d c s) (s .buffer)) (stepOn c s)
 
 -- 691 always: no record is ever found
-abbrev pub findsNobody : Judge
-findsNobody c s = drawn c (s .packet) nobody
+abbrev pub findsNone : Judge
+findsNone c s = drawn c (s .packet) noRecord
 
 -- accepts always
 abbrev pub accepts : Judge
-accepts c s = record { reason = 0; reply = successPacket (c .id); next = ended c; handed = nobody }
+accepts c s = record { reason = 0; reply = successPacket (c .id); next = ended c; handed = noRecord }
 
 -- the change leaves the record: the one that was lent is handed out
 abbrev pub leavesRecord : Judge

@@ -22,7 +22,7 @@ use Rattle.authenticator.specs.declared.Lookup.{Lookup}
 use Rattle.authenticator.specs.declared.Conversation.{Conversation}
 use Rattle.authenticator.specs.declared.Phase.the-variants.{Ended}
 use Rattle.peer.specs.Write.{Wrote, writeResponse, writeChange}
-use Rattle.peer.specs.Talk.{Peer, asked, sending, reads, hears}
+use Rattle.peer.specs.Talk.{Peer, asked, sending, reads, receiving}
 use Rattle.peer.specs.declared.Turn.{Turn}
 use Rattle.series.specs.Course.{collect, end, Along, total}
 
@@ -44,9 +44,9 @@ pub record Line : Type 0 where
   pub behind : List ℕ
 
 -- A step of the "series": it takes our peer's next packet, or it is "any other step".
-pub data Move : Type 0 where
-  ours : Packet → Line → Move
-  other : Lent → Move
+pub data Step : Type 0 where
+  ours : Packet → Line → Step
+  other : Lent → Step
 
 pub data Kind : Type 0 where
   Invalid Right Renewal : Kind
@@ -56,7 +56,7 @@ kindOf (invalid w n) = Invalid
 kindOf (right w n) = Right
 kindOf (renewal o n f) = Renewal
 
-abbrev pub kindsOf : Move → List Kind
+abbrev pub kindsOf : Step → List Kind
 kindsOf (ours t l) = kindOf t ∷ []
 kindsOf (other s) = []
 
@@ -140,17 +140,17 @@ module _ (box : Box) where
   exchange p t l = carried p (writes (p .peer .turn) t (l .out)) l
 
   -- where a step leads
-  abbrev pub go : Place → Move → Place
+  abbrev pub go : Place → Step → Place
   go p (ours t l) =
-      record { conversation = exchange p t l .outcome .answer .next; peer = hears (exchange p t l .peer) (exchange p t l .reply) }
+      record { conversation = exchange p t l .outcome .answer .next; peer = receiving (exchange p t l .peer) (exchange p t l .reply) }
   go p (other s) = record { conversation = nextAfter box (p .conversation) s; peer = p .peer }
 
   -- what a step is lent, and whether its packet is judged
-  abbrev pub lentAt : Place → Move → Lent
+  abbrev pub lentAt : Place → Step → Lent
   lentAt p (ours t l) = exchange p t l .lent
   lentAt p (other s) = s
 
-  abbrev pub judgedAt : Place → Move → ℕ
+  abbrev pub judgedAt : Place → Step → ℕ
   judgedAt p m = judged box (p .conversation) (lentAt p m)
 
   -- An invalid try is lent a record for which it is invalid, or none. "The right password is one whose NT hash is the record's", and that record
@@ -162,7 +162,7 @@ module _ (box : Box) where
   Meant a p (renewal o n f) l = ntHashOf o ≡ a .nt .octets
 
   -- "Any other step may have any packet, record and buffer with which the box refuses it."
-  abbrev pub Allowed : Account → Place → Move → Type 0
+  abbrev pub Allowed : Account → Place → Step → Type 0
   Allowed a p (ours t l) = Kept (exchange p t l) × Meant a p t l
   Allowed a p (other s) = Refused box (p .conversation) s
 
@@ -186,7 +186,7 @@ module _ (box : Box) where
   Answered a id (renewal o n f) x =
       DrawsSuccess x id × (x .outcome .answer .handed .found ≡ true) × LetsIn (x .outcome .answer .handed .account) n
 
-  abbrev pub Claimed : Account → Place → Move → Type 0
+  abbrev pub Claimed : Account → Place → Step → Type 0
   Claimed a p (ours t l) = Answered a (p .peer .turn .id) t (exchange p t l)
   Claimed a p (other s) = Unit {0}
 
@@ -197,7 +197,7 @@ module _ (box : Box) where
   Demand3 =
       (o : Opening) → opened o .refusal ≡ 0 → length (o .challenge) ≡ 8
       → ((behind : List ℕ) → challengeRead o behind ≡ record { refusal = 0; id = o .id; challenge = o .challenge })
-      × ((a : Account) (k : ℕ) (behind : List ℕ) (ms : List Move)
+      × ((a : Account) (k : ℕ) (behind : List ℕ) (ms : List Step)
       → Rightful a → k ≤ retriesOf (o .retries) → collect kindsOf ms ≡ plan k (a .expired) → Along go (Allowed a) (start o behind) ms
       → Along go (Claimed a) (start o behind) ms
       × (total go judgedAt (start o behind) ms ≡ k + cond (a .expired) 2 1)
