@@ -26,7 +26,7 @@ showfail:
 	rt check showfail
 	sh tests/showfail.sh target/bin/showfail
 
-# The archive for C: the example, and through the Rust wrapper the comparison with the independent program.
+# The archive for C: the example, bad lengths, and through the Rust wrapper the comparison with the independent program.
 host:
 	rt staticlib mschap
 	sh tests/host.sh

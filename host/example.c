@@ -54,8 +54,7 @@ int main(void)
     uint8_t sent[MSCHAP_TURN_SIZE];
     uint8_t turn[MSCHAP_TURN_SIZE];
     uint8_t fields[MSCHAP_FIELDS_SIZE];
-    uint8_t account[256];
-    size_t size;
+    size_t at, size;
 
     record[0] = 1; /* found */
     record[1] = 1; /* an NT hash */
@@ -83,8 +82,9 @@ int main(void)
     memcpy(packet + 54, name, sizeof name);
     memcpy(sent, turn, sizeof sent);
     show("Response, by hand", packet, length(packet));
-    size = mschap_account(packet, length(packet), account, sizeof account);
-    printf("%-28s%.*s\n", "account", (int)size, (const char *)account);
+    at = mschap_account_offset(packet, length(packet));
+    size = mschap_account_length(packet, length(packet));
+    printf("%-28s%.*s\n", "account", (int)size, (const char *)packet + at);
     if (failed("step", mschap_step(conversation, sizeof conversation, packet, length(packet), record, sizeof record, reply, sizeof reply, handed, sizeof handed)))
         return 1;
     printf("%-28s%.*s\n", "Failure", (int)(length(reply) - 4), (const char *)reply + 4);

@@ -1,20 +1,33 @@
 #!/bin/sh
-# The archive of `mschap` as others link it: it has no writable data, and the example in C prints what it should, under valgrind where that is
-# installed. Run in the repository, once `rt staticlib mschap` has written the archive.
+# The archive of `mschap` as others link it: it has no writable data, the example in C prints what it should, and every function of the header
+# answers bad lengths and null pointers as it should, under valgrind where that is installed. Run in the repository, once `rt staticlib mschap` has
+# written the archive.
 set -eu
 archive=target/staticlib/libmschap.a
+header=host/include/mschap.h
 example=target/host-example
+lengths=target/host-bad-lengths
 
 if nm "$archive" | grep -E ' [BbCDdGgSs] '; then
     echo 'host: the archive has writable data'
     exit 1
 fi
 
-${CC:-cc} -Wall -Wextra -Werror -std=c99 -pedantic -I host/include host/example.c "$archive" -o "$example"
-run=$example
+compile() {
+    ${CC:-cc} -Wall -Wextra -Werror -std=c99 -pedantic -I host/include "$1" "$archive" -o "$2"
+}
+run=
 if command -v valgrind > /dev/null; then
-    run="valgrind --quiet --error-exitcode=1 $example"
+    run='valgrind --quiet --error-exitcode=1'
 fi
-$run > "$example.txt"
+
+compile host/example.c "$example"
+$run "$example" > "$example.txt"
 diff host/example.txt "$example.txt"
-echo "host: no writable data; the example in C prints what it should ($run)"
+echo "host: no writable data; the example in C prints what it should (${run:-without valgrind})"
+
+for name in $(sed -nE 's/^(uint32_t|size_t) (mschap_[a-z0-9_]+)\(.*/\2/p' "$header"); do
+    grep -q "$name(" host/bad_lengths.c || { echo "host: bad_lengths.c does not call $name"; exit 1; }
+done
+compile host/bad_lengths.c "$lengths"
+$run "$lengths"

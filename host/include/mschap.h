@@ -14,7 +14,7 @@
  *   1 to 13       refused, by the numbers below
  *   100           MSCHAP_MISFIT: a run that has a fixed size was lent with another one, or it holds octets that no value writes (a mark that is
  *                 neither 0 nor 1, an awaited code that is not 0, 2 or 6), or the number for LM is not one of the three
- *   (mschap_domain and mschap_account return a size instead.)
+ *   (The four functions on the parts of a name return an offset or a length instead.)
  *   100 comes before any refusal. On every return but 0, each run that was lent is as it was.
  *
  * STATE
@@ -163,10 +163,11 @@ uint32_t mschap_open(uint8_t identifier,
                      uint8_t *conversation, size_t conversation_size,
                      uint8_t *reply, size_t reply_size);
 
-/* One step of a conversation (50): packet was received, and record (39) is what the lookup of its name found (mschap_account and mschap_domain
-   tell the name). While a change is awaited record is ignored, yet it must be one: 39 octets 0 will do. Writes the next conversation over this
-   one; at the front of reply (17 or more) the Success or Failure to be sent, whose size is its own Length field, reply[2] * 256 + reply[3]; and
-   into handed (39) the record after an accepted change of the password, to be stored by the caller, or else one that is not found.
+/* One step of a conversation (50): packet was received, and record (39) is what the lookup of its name found (mschap_account_offset and the
+   three functions below it tell where the parts of the name stand). While a change is awaited record is ignored, yet it must be one: 39 octets 0
+   will do. Writes the next conversation over this one; at the front of reply (17 or more) the Success or Failure to be sent, whose size is its own
+   Length field, reply[2] * 256 + reply[3]; and into handed (39) the record after an accepted change of the password, to be stored by the caller,
+   or else one that is not found.
    Returns 0 where the packet is judged, for better or worse: reply tells the verdict; reply[0] is 3 for Success and 4 for Failure. Returns 1
    to 7 where the packet is refused, in that order: no reply is sent and the conversation goes on as if it had not come. Returns 100 for
    another size of conversation, record or handed, or octets in the first two that no value writes. */
@@ -176,18 +177,27 @@ uint32_t mschap_step(uint8_t *conversation, size_t conversation_size,
                      uint8_t *reply, size_t reply_size,
                      uint8_t *handed, size_t handed_size);
 
-/* The domain in the name of a Response: what stands before its first backslash or, where it has none, home; nothing for a packet that is
-   refused as a Response. Written at the front of out where out has the room; else out is as it was.
-   Returns how many octets the domain has. */
-size_t mschap_domain(const uint8_t *packet, size_t packet_size,
-                     const uint8_t *home, size_t home_size,
-                     uint8_t *out, size_t out_size);
+/* Where the account stands in a Response: what is behind the first backslash of its name or, where it has none, the whole name. It ends at the
+   packet's Length.
+   Returns its offset in packet, 54 or more; 0 where the packet is refused as a Response (by 3, 4, 6 or 7, in any conversation). */
+size_t mschap_account_offset(const uint8_t *packet, size_t packet_size);
 
-/* The account in the name of a Response: what stands behind its first backslash or, where it has none, the whole name; nothing for a packet
-   that is refused as a Response. Written at the front of out where out has the room (256 octets are always enough); else out is as it was.
-   Returns how many octets the account has. */
-size_t mschap_account(const uint8_t *packet, size_t packet_size,
-                      uint8_t *out, size_t out_size);
+/* How many octets the account has at that offset.
+   Returns 0 to 256; 0 where the packet is refused as a Response. Offset and length together are at most packet_size. */
+size_t mschap_account_length(const uint8_t *packet, size_t packet_size);
+
+/* Where the domain stands in a Response: what is before the first backslash of its name.
+   Returns its offset in packet, 54; 0 where the domain is not in the packet. Then the packet is refused as a Response, and
+   mschap_account_offset returns 0 too, or the name has no backslash, and the caller takes the home domain:
+       size_t at = mschap_domain_offset(packet, packet_size);
+       const uint8_t *domain = at ? packet + at : home;
+       size_t domain_size = at ? mschap_domain_length(packet, packet_size) : home_size;
+   A leading backslash has the empty domain before it, at offset 54, and not the home domain. */
+size_t mschap_domain_offset(const uint8_t *packet, size_t packet_size);
+
+/* How many octets the domain has at that offset.
+   Returns 0 to 255; 0 where the domain is not in the packet. Offset and length together are at most packet_size. */
+size_t mschap_domain_length(const uint8_t *packet, size_t packet_size);
 
 /* ---- the peer */
 

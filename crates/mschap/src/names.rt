@@ -1,31 +1,35 @@
-// The two parts of a Response's name, for the lookup of the account.
+// Where the two parts of a Response's name stand in its packet, for the lookup of the account.
 ghost use mathlib.Core.Path.{_≡_};
-ghost use lib.ListN.{length};
-ghost use Rattle.packets.specs.Frame.{headed};
-ghost use Rattle.packets.specs.Name.{domainOf, accountOf};
+ghost use Rattle.packets.specs.Name.{domainPart, accountPart};
 
-// Lays a name over the front of out, where it has the room. Answers how many octets the name has.
-fn put(name: &[u8], out: &mut [u8]) -> usize
-    ensures { λ r. ⌜ (r ≡ length (now (name .entry))) × (now (out .exit) ≡ headed (now (name .entry)) (now (out .entry))) ⌝ }
+// Where the account begins; 0 where the packet is refused.
+#[no_mangle]
+pub extern "C" fn mschap_account_offset(packet: &[u8]) -> usize
+    ensures { λ r. ⌜ r ≡ accountPart (now (packet .entry)) .offset ⌝ }
 {
-    if name.len() <= out.len() {
-        octets::copy(out, name);
-    }
-    name.len()
+    packets::account_part(packet).offset
 }
 
-// The domain of a Response, or the home domain where its name has none; empty for a packet that is refused. Answers its size.
+// How many octets the account has there.
 #[no_mangle]
-pub extern "C" fn mschap_domain<'a>(packet: &'a [u8], home: &'a [u8], out: &mut [u8]) -> usize
-    ensures { λ r. ⌜ (r ≡ length (domainOf (now (packet .entry)) (now (home .entry)))) × (now (out .exit) ≡ headed (domainOf (now (packet .entry)) (now (home .entry))) (now (out .entry))) ⌝ }
+pub extern "C" fn mschap_account_length(packet: &[u8]) -> usize
+    ensures { λ r. ⌜ r ≡ accountPart (now (packet .entry)) .length ⌝ }
 {
-    put(packets::domain(packet, home), out)
+    packets::account_part(packet).length
 }
 
-// The account of a Response; empty for a packet that is refused. Answers its size.
+// Where the domain begins; 0 where the name has no backslash, or the packet is refused.
 #[no_mangle]
-pub extern "C" fn mschap_account(packet: &[u8], out: &mut [u8]) -> usize
-    ensures { λ r. ⌜ (r ≡ length (accountOf (now (packet .entry)))) × (now (out .exit) ≡ headed (accountOf (now (packet .entry))) (now (out .entry))) ⌝ }
+pub extern "C" fn mschap_domain_offset(packet: &[u8]) -> usize
+    ensures { λ r. ⌜ r ≡ domainPart (now (packet .entry)) .offset ⌝ }
 {
-    put(packets::account(packet), out)
+    packets::domain_part(packet).offset
+}
+
+// How many octets the domain has there.
+#[no_mangle]
+pub extern "C" fn mschap_domain_length(packet: &[u8]) -> usize
+    ensures { λ r. ⌜ r ≡ domainPart (now (packet .entry)) .length ⌝ }
+{
+    packets::domain_part(packet).length
 }

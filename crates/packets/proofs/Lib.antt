@@ -2,6 +2,7 @@ pub mod Fields
 pub mod Framing
 pub mod Writing
 pub mod Split
+pub mod Places
 pub mod Refusals
 pub mod ReadBack
 pub mod Stands

@@ -3,16 +3,14 @@
 use mathlib.Core.Path.{_≡_, refl, sym, ap, _∙_}
 use mathlib.Core.Bool.{Bool, true, false, cond, _||_}
 use mathlib.Core.List.{List, [], _∷_}
-use Prim.Native.Nat.{ℕ, suc, _+_, _≤_, _<_}
+use Prim.Native.Nat.{ℕ, suc, _+_, _<_}
 use native.Mathlib.Numerals.{add-one}
 use native.Mathlib.Omega.{arith}
-use borrow.Author.Tests.{eq-eqb, ne-eqb, lt-ltb, le-ltb}
+use borrow.Author.Tests.{eq-eqb, ne-eqb, lt-ltb}
 use lib.Dec.{eqb, ltb, leb·suc-suc}
-use lib.ListN.{length, take, drop, getD, length-drop}
-use lib.Seq.{drop-cons, take-all}
-use Rattle.octets.specs.Parts.{part}
-use Rattle.packets.specs.Response.{nameIn}
-use Rattle.packets.specs.Name.{isSplit, beforeSplit, afterSplit, isUnfit, domainOf, accountOf}
+use lib.ListN.{length, take, drop, getD}
+use lib.Seq.{drop-cons}
+use Rattle.packets.specs.Name.{isSplit, beforeSplit, afterSplit}
 
 -- how many octets stand before it, or in all where there is none
 abbrev pub place : List ℕ → ℕ
@@ -58,25 +56,3 @@ drop-place (x ∷ n) = which (eqb x 92) (drop-place n)
     which : (b : Bool) → drop (suc (place n)) n ≡ afterSplit n → drop (length (cond b [] (x ∷ beforeSplit n))) n ≡ cond b n (afterSplit n)
     which true e = refl
     which false e = e
-
-module _ (p home : List ℕ) where
-  pub none : isUnfit p ≡ true → ([] ≡ domainOf p home) × ([] ≡ accountOf p)
-  unfolding domainOf accountOf
-  none u = (simp u, simp u)
-
-  module _ (u : isUnfit p ≡ false) {k : ℕ} (e : k ≡ place (nameIn p)) where
-    pub parted : k < length (nameIn p) → (part 0 k (nameIn p) ≡ domainOf p home) × (part (k + 1) (length (nameIn p)) (nameIn p) ≡ accountOf p)
-    unfolding domainOf accountOf
-    parted h =
-        let n = nameIn p in
-        let s : isSplit n ≡ true = is-split n ∙ lt-ltb (place n) (length n) (omega arith) in
-        let front : part 0 k n ≡ beforeSplit n = ap (λ (i : ℕ). take i n) e ∙ take-place n in
-        let back : part (k + 1) (length n) n ≡ afterSplit n =
-        take-all (length n) (drop (k + 1) n) (omega (arith, length-drop (k + 1) n)) ∙ ap (λ (i : ℕ). drop i n) (add-one k ∙ ap suc e) ∙ drop-place n in
-        (simp (u, s) front, simp (u, s) back)
-
-    pub whole : length (nameIn p) ≤ k → (home ≡ domainOf p home) × (nameIn p ≡ accountOf p)
-    unfolding domainOf accountOf
-    whole h =
-        let s : isSplit (nameIn p) ≡ false = is-split (nameIn p) ∙ le-ltb (place (nameIn p)) (length (nameIn p)) (omega arith) in
-        (simp (u, s), simp (u, s))

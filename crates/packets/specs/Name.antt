@@ -2,10 +2,12 @@
 -- Assumes nothing: these are definitions.
 use mathlib.Core.Bool.{Bool, false, cond, not, _||_}
 use mathlib.Core.List.{List, [], _∷_}
-use Prim.Native.Nat.{ℕ}
+use Prim.Native.Nat.{ℕ, _+_, _-_}
 use lib.Dec.{eqb}
-use Rattle.packets.specs.Frame.{octet, badFrame}
+use lib.ListN.{length}
+use Rattle.packets.specs.Frame.{octet, lengthOf, badFrame}
 use Rattle.packets.specs.Response.{nameIn, badResponseSize, badResponseFlag}
+use Rattle.packets.specs.declared.Part.{Part}
 
 -- a backslash is octet 92
 abbrev pub isSplit : List ℕ → Bool
@@ -32,3 +34,19 @@ domainOf p home = cond (isUnfit p) [] (cond (isSplit (nameIn p)) (beforeSplit (n
 -- the account: the rest of the name
 unfoldable pub accountOf : List ℕ → List ℕ
 accountOf p = cond (isUnfit p) [] (cond (isSplit (nameIn p)) (afterSplit (nameIn p)) (nameIn p))
+
+-- ---- where the two parts stand in the packet; a name begins at 54, so offset 0 says that the part is not there
+
+abbrev pub noPart : Part
+noPart = record { offset = 0; length = 0 }
+
+-- from the place a up to Length
+abbrev pub partFrom : ℕ → List ℕ → Part
+partFrom a p = record { offset = a; length = lengthOf p - a }
+
+-- not there where the name has no backslash: the home domain counts
+unfoldable pub domainPart : List ℕ → Part
+domainPart p = cond (isUnfit p) noPart (cond (isSplit (nameIn p)) (record { offset = 54; length = length (beforeSplit (nameIn p)) }) noPart)
+
+unfoldable pub accountPart : List ℕ → Part
+accountPart p = cond (isUnfit p) noPart (cond (isSplit (nameIn p)) (partFrom (55 + length (beforeSplit (nameIn p))) p) (partFrom 54 p))

@@ -13,7 +13,9 @@ pub use frames::frame_refusal;
 pub use frames::length;
 pub use frames::octet;
 pub use names::account;
+pub use names::account_part;
 pub use names::domain;
+pub use names::domain_part;
 pub use nexts::grown_challenge;
 pub use nexts::next_id;
 pub use replies::read_challenge;
@@ -56,4 +58,10 @@ pub struct Asked {
     pub refusal: u8,
     pub id: u8,
     pub challenge: [u8; 8],
+}
+
+// Where a part of a packet stands: from offset on, length octets. Offset 0 says that it is not in the packet.
+pub struct Part {
+    pub offset: usize,
+    pub length: usize,
 }

@@ -1,13 +1,14 @@
 // The two parts of a Response's name, for the lookup.
+use crate::Part;
 use crate::frames::bad_frame;
+use crate::frames::behind;
 use crate::frames::octet;
 use crate::responses::bad_flag;
 use crate::responses::bad_size;
 use crate::responses::name;
 ghost use mathlib.Core.Path.{_≡_};
-ghost use Prim.Native.Nat.{_≤_};
 ghost use lib.ListN.{length};
-ghost use Rattle.packets.specs.Name.{isUnfit, beforeSplit, domainOf, accountOf};
+ghost use Rattle.packets.specs.Name.{isUnfit, beforeSplit, noPart, partFrom, domainPart, accountPart, domainOf, accountOf};
 
 // Whether the packet by itself is refused as a Response.
 fn is_unfit(packet: &[u8]) -> bool
@@ -31,6 +32,60 @@ fn split_at(name: &[u8]) -> usize
     i
 }
 
+// No part of the packet.
+fn no_part() -> Part
+    ensures { λ r. ⌜ r ≡ noPart ⌝ }
+{
+    Part {
+        offset: 0,
+        length: 0,
+    }
+}
+
+// From the place at up to the packet's Length.
+fn part_from(packet: &[u8], at: usize) -> Part
+    ensures { λ r. ⌜ r ≡ partFrom at (now (packet .entry)) ⌝ }
+{
+    let n = behind(packet, at);
+    Part {
+        offset: at,
+        length: n,
+    }
+}
+
+// Where the domain stands: before the first backslash. Nowhere where there is none, or the packet is refused.
+pub fn domain_part(packet: &[u8]) -> Part
+    ensures { λ r. ⌜ r ≡ domainPart (now (packet .entry)) ⌝ }
+{
+    if is_unfit(packet) {
+        return no_part();
+    }
+    let name = name(packet);
+    let k = split_at(name);
+    if k < name.len() {
+        return Part {
+            offset: 54,
+            length: k,
+        };
+    }
+    no_part()
+}
+
+// Where the account stands: behind the first backslash or, where there is none, the whole name. Nowhere where the packet is refused.
+pub fn account_part(packet: &[u8]) -> Part
+    ensures { λ r. ⌜ r ≡ accountPart (now (packet .entry)) ⌝ }
+{
+    if is_unfit(packet) {
+        return no_part();
+    }
+    let name = name(packet);
+    let k = split_at(name);
+    if k < name.len() {
+        return part_from(packet, 55 + k);
+    }
+    part_from(packet, 54)
+}
+
 // The domain: what stands before the first backslash or, where there is none, the home domain. Empty for a packet that is refused.
 pub fn domain<'a>(packet: &'a [u8], home: &'a [u8]) -> &'a [u8]
     ensures { λ r. ⌜ now r ≡ domainOf (now (packet .entry)) (now (home .entry)) ⌝ }
@@ -38,25 +93,17 @@ pub fn domain<'a>(packet: &'a [u8], home: &'a [u8]) -> &'a [u8]
     if is_unfit(packet) {
         return octets::part_of(packet, 0, 0);
     }
-    let name = name(packet);
-    let k = split_at(name);
-    if k < name.len() {
-        return octets::part_of(name, 0, k);
+    let part = domain_part(packet);
+    if part.offset == 0 {
+        return home;
     }
-    home
+    octets::part_of(packet, part.offset, part.length)
 }
 
 // The account: the rest of the name. Empty for a packet that is refused.
 pub fn account(packet: &[u8]) -> &[u8]
     ensures { λ r. ⌜ now r ≡ accountOf (now (packet .entry)) ⌝ }
 {
-    if is_unfit(packet) {
-        return octets::part_of(packet, 0, 0);
-    }
-    let name = name(packet);
-    let k = split_at(name);
-    if k < name.len() {
-        return octets::part_of(name, k + 1, name.len());
-    }
-    name
+    let part = account_part(packet);
+    octets::part_of(packet, part.offset, part.length)
 }

@@ -125,17 +125,28 @@ impl Conversation {
 }
 
 /// The domain in the name of a Response: what stands before its first backslash, or `home` where it
-/// has none; nothing for a packet that is refused as a Response. Where `out` has not the room for
-/// it, the error is the room it needs.
-pub fn domain_of<'a>(packet: &[u8], home: &[u8], out: &'a mut [u8]) -> Result<&'a [u8], usize> {
-    let size = sys::domain(packet, home, out);
-    out.get(..size).ok_or(size)
+/// has none; nothing for a packet that is refused as a Response.
+pub fn domain_of<'a>(packet: &'a [u8], home: &'a [u8]) -> &'a [u8] {
+    match sys::domain_offset(packet) {
+        // Not in the packet. A packet that is refused has no account there either.
+        0 if sys::account_offset(packet) == 0 => &[],
+        0 => home,
+        offset => run(packet, offset, sys::domain_length(packet)),
+    }
 }
 
 /// The account in the name of a Response: what stands behind its first backslash, or the whole
-/// name; nothing for a packet that is refused as a Response. 256 octets of room are always enough;
-/// the error is the room it needs.
-pub fn account_of<'a>(packet: &[u8], out: &'a mut [u8]) -> Result<&'a [u8], usize> {
-    let size = sys::account(packet, out);
-    out.get(..size).ok_or(size)
+/// name; nothing for a packet that is refused as a Response.
+pub fn account_of(packet: &[u8]) -> &[u8] {
+    run(
+        packet,
+        sys::account_offset(packet),
+        sys::account_length(packet),
+    )
+}
+
+/// The run of a packet from an offset on. It lies within the packet, so there is always one.
+fn run(packet: &[u8], offset: usize, length: usize) -> &[u8] {
+    let end = offset.saturating_add(length);
+    packet.get(offset..end).unwrap_or_default()
 }

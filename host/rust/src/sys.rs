@@ -125,22 +125,14 @@ pub mod raw {
             handed: *mut u8,
             handed_size: usize,
         ) -> u32;
-        /// The domain in the name of a Response; returns its size.
-        pub fn mschap_domain(
-            packet: *const u8,
-            packet_size: usize,
-            home: *const u8,
-            home_size: usize,
-            out: *mut u8,
-            out_size: usize,
-        ) -> usize;
-        /// The account in the name of a Response; returns its size.
-        pub fn mschap_account(
-            packet: *const u8,
-            packet_size: usize,
-            out: *mut u8,
-            out_size: usize,
-        ) -> usize;
+        /// Where the account stands in a Response; 0 where the packet is refused as one.
+        pub fn mschap_account_offset(packet: *const u8, packet_size: usize) -> usize;
+        /// How many octets the account has there.
+        pub fn mschap_account_length(packet: *const u8, packet_size: usize) -> usize;
+        /// Where the domain stands in a Response; 0 where it is not in the packet.
+        pub fn mschap_domain_offset(packet: *const u8, packet_size: usize) -> usize;
+        /// How many octets the domain has there.
+        pub fn mschap_domain_length(packet: *const u8, packet_size: usize) -> usize;
         /// Reads a Challenge, and writes the turn it asks for.
         pub fn mschap_read_challenge(
             packet: *const u8,
@@ -332,25 +324,28 @@ pub fn step(
     }
 }
 
-/// The domain in the name of a Response; returns its size.
-pub fn domain(packet: &[u8], home: &[u8], out: &mut [u8]) -> usize {
-    // SAFETY: slices, as said above.
-    unsafe {
-        raw::mschap_domain(
-            packet.as_ptr(),
-            packet.len(),
-            home.as_ptr(),
-            home.len(),
-            out.as_mut_ptr(),
-            out.len(),
-        )
-    }
+/// Where the account stands in a Response; 0 where the packet is refused as one.
+pub fn account_offset(packet: &[u8]) -> usize {
+    // SAFETY: a slice, as said above.
+    unsafe { raw::mschap_account_offset(packet.as_ptr(), packet.len()) }
 }
 
-/// The account in the name of a Response; returns its size.
-pub fn account(packet: &[u8], out: &mut [u8]) -> usize {
-    // SAFETY: slices, as said above.
-    unsafe { raw::mschap_account(packet.as_ptr(), packet.len(), out.as_mut_ptr(), out.len()) }
+/// How many octets the account has there.
+pub fn account_length(packet: &[u8]) -> usize {
+    // SAFETY: a slice, as said above.
+    unsafe { raw::mschap_account_length(packet.as_ptr(), packet.len()) }
+}
+
+/// Where the domain stands in a Response; 0 where it is not in the packet.
+pub fn domain_offset(packet: &[u8]) -> usize {
+    // SAFETY: a slice, as said above.
+    unsafe { raw::mschap_domain_offset(packet.as_ptr(), packet.len()) }
+}
+
+/// How many octets the domain has there.
+pub fn domain_length(packet: &[u8]) -> usize {
+    // SAFETY: a slice, as said above.
+    unsafe { raw::mschap_domain_length(packet.as_ptr(), packet.len()) }
 }
 
 /// Reads a Challenge, and writes the turn it asks for.

@@ -214,10 +214,10 @@ fn null_with_no_octets() {
         );
         assert_eq!((next, run, out), (conversation, [FILL; 50], [FILL; 64]));
 
-        assert_eq!(mschap_domain(n, 0, n, 0, m, 0), 0);
-        assert_eq!(mschap_account(n, 0, m, 0), 0);
-        assert_eq!(mschap_domain(packet.as_ptr(), 55, n, 0, m, 0), 0);
-        assert_eq!(mschap_account(packet.as_ptr(), 55, m, 0), 1);
+        assert_eq!(mschap_account_offset(n, 0), 0);
+        assert_eq!(mschap_account_length(n, 0), 0);
+        assert_eq!(mschap_domain_offset(n, 0), 0);
+        assert_eq!(mschap_domain_length(n, 0), 0);
 
         assert_eq!(mschap_read_challenge(n, 0, m, 0), sys::MISFIT);
         assert_eq!(mschap_read_reply(7, n, 0, m, 0), sys::MISFIT);

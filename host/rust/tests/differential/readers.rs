@@ -4,7 +4,7 @@ use crate::both::{our_reading, our_turn, plain};
 use crate::packets;
 use crate::random::Random;
 use crate::run::{run, Seen};
-use mschap::Turn;
+use mschap::{sys, Turn};
 use reference::{packet, peer};
 
 fn challenge(random: &mut Random, seen: &mut Seen) {
@@ -82,35 +82,35 @@ fn name(random: &mut Random, seen: &mut Seen) {
     packets::damage(random, &mut packet);
     let size = random.below_any(&[4, 300]);
     let home = random.octets(size);
-    let size = random.pick(&[300, 300, 8]);
-    let room = random.octets(size);
 
-    let mut out = room.clone();
-    let theirs = packet::domain(&packet, &home);
-    let ours = mschap::domain_of(&packet, &home, &mut out).map(<[u8]>::to_vec);
-    part(theirs, ours, &room, &out);
+    let domain = packet::domain(&packet, &home);
+    assert_eq!(mschap::domain_of(&packet, &home), domain, "{packet:?}");
+    let at = place(&packet, &home, domain);
+    let ours = (sys::domain_offset(&packet), sys::domain_length(&packet));
+    assert_eq!(ours, at, "the domain's place in {packet:?}");
 
-    let mut out = room.clone();
-    let theirs = packet::account(&packet);
-    let ours = mschap::account_of(&packet, &mut out).map(<[u8]>::to_vec);
-    part(theirs, ours, &room, &out);
-    seen.note(if theirs.is_empty() {
-        "no account"
-    } else {
-        "account"
+    let account = packet::account(&packet);
+    assert_eq!(mschap::account_of(&packet), account, "{packet:?}");
+    let there = place(&packet, &home, account);
+    let ours = (sys::account_offset(&packet), sys::account_length(&packet));
+    assert_eq!(ours, there, "the account's place in {packet:?}");
+
+    seen.note(match (there, at) {
+        ((0, _), _) => "name: no Response",
+        (_, (0, _)) => "name: home domain",
+        (_, (_, 0)) => "name: empty domain",
+        ((_, 0), _) => "name: empty account",
+        _ => "name: domain and account",
     });
 }
 
-/// The part stands at the front, and the rest of the room is as it was; without room, all of it.
-fn part(theirs: &[u8], ours: Result<Vec<u8>, usize>, room: &[u8], out: &[u8]) {
-    let mut expected = room.to_vec();
-    if theirs.len() <= room.len() {
-        expected[..theirs.len()].copy_from_slice(theirs);
-        assert_eq!(ours.as_deref(), Ok(theirs));
-    } else {
-        assert_eq!(ours, Err(theirs.len()));
+/// Offset and length of what `reference` gave, by where it lies; 0 and 0 for the home domain.
+fn place(packet: &[u8], home: &[u8], part: &[u8]) -> (usize, usize) {
+    if std::ptr::eq(part, home) {
+        return (0, 0);
     }
-    assert_eq!(out, expected);
+    let offset = part.as_ptr() as usize - packet.as_ptr() as usize;
+    (offset, part.len())
 }
 
 #[test]
@@ -133,7 +133,10 @@ fn readers_agree() {
         "reply refused 3",
         "reply refused 5",
         "reply refused 11",
-        "account",
-        "no account",
+        "name: no Response",
+        "name: home domain",
+        "name: empty domain",
+        "name: empty account",
+        "name: domain and account",
     ]);
 }

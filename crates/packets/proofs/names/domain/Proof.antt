@@ -1,39 +1,31 @@
 -- `packets::names::domain` meets its contract.
 -- Assumes nothing.
 use mathlib.Core.Path.{sym, ap, _∙_}
-use mathlib.Core.List.{List}
-use Prim.Native.Nat.{ℕ}
-use native.Mathlib.Omega.{arith}
 use borrow.Author.Needs.{needs}
-use lib.ListN.{length}
-use Rattle.octets.specs.Parts.{part}
-use Rattle.packets.proofs.Split.{place, none, parted, whole}
+use Rattle.packets.specs.declared.Part.{Part}
+use Rattle.packets.proofs.Places.{cut, domain-cut, domain-home, domain-unfit}
 use Rattle.packets.proofs.names.domain.Statement.{statement}
 use Rattle.packets.proofs.names.domain.Tie as tie
 
 returns : tie.Need-returns
 returns c =
-    c .part-of .ensures
-    ∙ none (c .before .before .before .before .before .args .packet .now) (c .before .before .before .before .before .args .home .now)
-    (sym (c .before .before .is-unfit .ensures) ∙ c .before .if1 .taken) .0
+    let a = c .before .before .before .before .before .args in
+    c .part-of .ensures ∙ sym (domain-unfit (a .packet .now) (a .home .now) (sym (c .before .before .is-unfit .ensures) ∙ c .before .if1 .taken))
 
 returns-2 : tie.Need-returns-2
 returns-2 c =
-    let a = c .before .before .before .before .before .before .before .before .args in
-    let u = sym (c .before .before .before .before .before .is-unfit .ensures) ∙ c .before .before .before .before .if1 .left in
-    let e = c .before .before .before .name .ensures in
-    c .part-of2 .ensures ∙ ap (λ (n : List ℕ). part 0 (c .before .before .split-at .result) n) e
-    ∙ parted (a .packet .now) (a .home .now) u (c .before .before .split-at .ensures ∙ ap place e) (omega (arith, ap length e)) .0
+    let a = c .before .before .before .before .before .before .before .args in
+    let u = sym (c .before .before .before .before .is-unfit .ensures) ∙ c .before .before .before .if1 .left in
+    sym (domain-home (a .packet .now) (a .home .now) u (ap (λ (r : Part). r .offset) (sym (c .before .before .domain-part .ensures)) ∙ c .if2 .taken))
 
 returns-3 : tie.Need-returns-3
 returns-3 c =
-    let a = c .before .before .before .before .before .before .before .args in
-    let u = sym (c .before .before .before .before .is-unfit .ensures) ∙ c .before .before .before .if1 .left in
-    let e = c .before .before .name .ensures in
-    whole (a .packet .now) (a .home .now) u (c .before .split-at .ensures ∙ ap place e) (omega (arith, ap length e)) .0
+    let a = c .before .before .before .before .before .before .before .before .args in
+    let e = c .before .before .before .domain-part .ensures in
+    c .part-of2 .ensures ∙ ap (λ (r : Part). cut r (a .packet .now)) e
+    ∙ domain-cut (a .packet .now) (a .home .now) (λ z. c .before .if2 .left (ap (λ (r : Part). r .offset) e ∙ z))
 
 pub domain-spec : {M : Type 1} → statement M
 domain-spec =
     tie.close
-    (tie.spec
-    (λ c κs. search needs) (λ c κs. search needs) returns (λ c κs. search needs) (λ c κs. search needs) (λ c κs. search needs) returns-2 returns-3)
+    (tie.spec (λ c κs. search needs) (λ c κs. search needs) returns (λ c κs. search needs) returns-2 (λ c κs. search needs) returns-3)

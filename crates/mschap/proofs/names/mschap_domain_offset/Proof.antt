@@ -1,0 +1,11 @@
+-- `mschap::names::mschap_domain_offset` meets its contract.
+-- Assumes nothing.
+use borrow.Author.Needs.{needs}
+use Rattle.mschap.proofs.names.mschap_domain_offset.Statement.{statement}
+use Rattle.mschap.proofs.names.mschap_domain_offset.Tie as tie
+
+returns : tie.Need-returns
+returns c = cc
+
+pub mschap-domain-offset-spec : {M : Type 1} → statement M
+mschap-domain-offset-spec = tie.close (tie.spec (λ c κs. search needs) returns)

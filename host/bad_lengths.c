@@ -1,0 +1,161 @@
+/*
+ * Bad lengths at the C interface, and null pointers with length 0: each function of mschap.h is called with the right sizes, and then with each of
+ * its runs lent as NULL and 0, with one octet less and with one more. What it answers is in the table. Where that is not 0, every run must be as it
+ * was. Each run has its own memory of exactly its size, so that valgrind sees any octet that is touched beyond it.
+ */
+#include <mschap.h>
+#include <stdio.h>
+#include <stdlib.h>
+#include <string.h>
+
+struct lent {
+    uint8_t *at;
+    size_t size;
+};
+
+#define RUN(i) r[i].at, r[i].size
+
+static size_t md4(struct lent *r) { return mschap_md4(RUN(0), RUN(1)); }
+static size_t rc4(struct lent *r) { return mschap_rc4(RUN(0), RUN(1)); }
+static size_t des_encrypt(struct lent *r) { return mschap_des_encrypt(RUN(0), RUN(1), RUN(2)); }
+static size_t des_decrypt(struct lent *r) { return mschap_des_decrypt(RUN(0), RUN(1), RUN(2)); }
+static size_t nt_hash(struct lent *r) { return mschap_nt_hash(RUN(0), RUN(1)); }
+static size_t lm_hash(struct lent *r) { return mschap_lm_hash(RUN(0), RUN(1)); }
+static size_t challenge_response(struct lent *r) { return mschap_challenge_response(RUN(0), RUN(1), RUN(2)); }
+static size_t opening(struct lent *r) { return mschap_open(7, RUN(0), 2, 1, RUN(1), RUN(2)); }
+static size_t step(struct lent *r) { return mschap_step(RUN(0), RUN(1), RUN(2), RUN(3), RUN(4)); }
+static size_t account_offset(struct lent *r) { return mschap_account_offset(RUN(0)); }
+static size_t account_length(struct lent *r) { return mschap_account_length(RUN(0)); }
+static size_t domain_offset(struct lent *r) { return mschap_domain_offset(RUN(0)); }
+static size_t domain_length(struct lent *r) { return mschap_domain_length(RUN(0)); }
+static size_t read_challenge(struct lent *r) { return mschap_read_challenge(RUN(0), RUN(1)); }
+static size_t read_reply(struct lent *r) { return mschap_read_reply(7, RUN(0), RUN(1)); }
+static size_t next_turn(struct lent *r) { return mschap_next_turn(RUN(0), RUN(1), RUN(2)); }
+static size_t write_response(struct lent *r) { return mschap_write_response(RUN(0), RUN(1), RUN(2), RUN(3)); }
+static size_t write_change(struct lent *r) { return mschap_write_change(RUN(0), RUN(1), RUN(2), RUN(3), RUN(4)); }
+
+/* what runs hold, with an octet more for the call that lends one more */
+static const uint8_t zeros[513];
+static const uint8_t opened[51] = {2, 1, 7, 2}; /* a conversation that awaits a Response with identifier 7 */
+static const uint8_t response[63] = {2, 7, 0, 62, 49, [53] = 1, 'D', 'O', 'M', '\\', 'U', 's', 'e', 'r'};
+static const uint8_t challenge[14] = {1, 7, 0, 13, 8};
+static const uint8_t success[5] = {3, 7, 0, 4};
+static const uint8_t sent[10] = {7};
+#define FILL 0xa5 /* what is in a run that is only written */
+
+/* the answers for a run of a fixed size */
+#define FIXED MSCHAP_MISFIT, MSCHAP_MISFIT, MSCHAP_MISFIT
+
+struct run {
+    const uint8_t *holds; /* NULL: octets FILL */
+    size_t size;
+    size_t null, less, more; /* the answers for NULL and 0, for one octet less and for one more */
+};
+
+static const struct function {
+    const char *name;
+    size_t (*call)(struct lent *);
+    size_t right, none; /* the answers for the right sizes, and for NULL and 0 in every run */
+    struct run runs[5];
+} functions[] = {
+    {"md4", md4, 0, 100, {{zeros, 3, 0, 0, 0}, {NULL, 16, FIXED}}},
+    {"rc4", rc4, 0, 8, {{zeros, 5, 8, 0, 0}, {NULL, 3, 0, 0, 0}}},
+    {"des_encrypt", des_encrypt, 0, 100, {{zeros, 7, FIXED}, {zeros, 8, FIXED}, {NULL, 8, FIXED}}},
+    {"des_decrypt", des_decrypt, 0, 100, {{zeros, 7, FIXED}, {zeros, 8, FIXED}, {NULL, 8, FIXED}}},
+    {"nt_hash", nt_hash, 0, 100, {{zeros, 2, 0, 8, 8}, {NULL, 16, FIXED}}},
+    {"lm_hash", lm_hash, 0, 100, {{zeros, 14, 0, 0, 8}, {NULL, 16, FIXED}}},
+    {"challenge_response", challenge_response, 0, 100, {{zeros, 16, FIXED}, {zeros, 8, FIXED}, {NULL, 24, FIXED}}},
+    {"open", opening, 0, 100, {{zeros, 8, FIXED}, {NULL, 50, FIXED}, {NULL, 17, 2, 2, 0}}},
+    {"step", step, 0, 100, {{opened, 50, FIXED}, {response, 62, 3, 3, 0}, {zeros, 39, FIXED}, {NULL, 17, 2, 2, 0}, {NULL, 39, FIXED}}},
+    {"account_offset", account_offset, 58, 0, {{response, 62, 0, 0, 58}}},
+    {"account_length", account_length, 4, 0, {{response, 62, 0, 0, 4}}},
+    {"domain_offset", domain_offset, 54, 0, {{response, 62, 0, 0, 54}}},
+    {"domain_length", domain_length, 3, 0, {{response, 62, 0, 0, 3}}},
+    {"read_challenge", read_challenge, 0, 100, {{challenge, 13, 3, 3, 0}, {NULL, 9, FIXED}}},
+    {"read_reply", read_reply, 0, 100, {{success, 4, 3, 3, 0}, {NULL, 35, FIXED}}},
+    {"next_turn", next_turn, 0, 100, {{sent, 9, FIXED}, {success, 4, 3, 3, 0}, {NULL, 9, FIXED}}},
+    /* a name of one octet more has too little room */
+    {"write_response", write_response, 0, 100, {{sent, 9, FIXED}, {zeros, 2, 0, 8, 8}, {zeros, 8, 10, 0, 9}, {NULL, 62, 9, 9, 0}}},
+    {"write_change", write_change, 0, 100, {{sent, 9, FIXED}, {zeros, 2, 0, 8, 8}, {zeros, 2, 0, 8, 8}, {zeros, 512, 12, 12, 12}, {NULL, 1118, 9, 9, 0}}},
+};
+
+/* the digest or hash of no octets */
+static const struct known {
+    const char *name;
+    size_t (*call)(struct lent *);
+    uint8_t digest[16];
+} knowns[] = {
+    {"md4", md4, {0x31, 0xd6, 0xcf, 0xe0, 0xd1, 0x6a, 0xe9, 0x31, 0xb7, 0x3c, 0x59, 0xd7, 0xe0, 0xc0, 0x89, 0xc0}},
+    {"nt_hash", nt_hash, {0x31, 0xd6, 0xcf, 0xe0, 0xd1, 0x6a, 0xe9, 0x31, 0xb7, 0x3c, 0x59, 0xd7, 0xe0, 0xc0, 0x89, 0xc0}},
+    {"lm_hash", lm_hash, {0xaa, 0xd3, 0xb4, 0x35, 0xb5, 0x14, 0x04, 0xee, 0xaa, 0xd3, 0xb4, 0x35, 0xb5, 0x14, 0x04, 0xee}},
+};
+
+static unsigned calls;
+
+static uint8_t held(const struct run *run, size_t i)
+{
+    return run->holds ? run->holds[i] : FILL;
+}
+
+/* One call with these sizes; what and the number of the run say how they differ from the right ones. */
+static void expect(const struct function *f, const size_t *sizes, size_t answer, const char *what, unsigned run)
+{
+    struct lent r[5];
+    size_t got, i, j;
+
+    for (i = 0; i < 5; i++) {
+        r[i].size = sizes[i];
+        r[i].at = sizes[i] ? malloc(sizes[i]) : NULL;
+        for (j = 0; j < sizes[i]; j++)
+            r[i].at[j] = held(&f->runs[i], j);
+    }
+    got = f->call(r);
+    calls++;
+    if (got != answer) {
+        printf("bad_lengths: %s, run %u, %s: the answer is %lu and not %lu\n", f->name, run, what, (unsigned long)got, (unsigned long)answer);
+        exit(1);
+    }
+    for (i = 0; i < 5; i++) {
+        for (j = 0; answer != 0 && j < sizes[i]; j++)
+            if (r[i].at[j] != held(&f->runs[i], j)) {
+                printf("bad_lengths: %s, run %u, %s: run %u was changed\n", f->name, run, what, (unsigned)i);
+                exit(1);
+            }
+        free(r[i].at);
+    }
+}
+
+int main(void)
+{
+    static const size_t none[5];
+    size_t sizes[5], k;
+    unsigned i;
+
+    for (k = 0; k < sizeof functions / sizeof *functions; k++) {
+        const struct function *f = &functions[k];
+        for (i = 0; i < 5; i++)
+            sizes[i] = f->runs[i].size;
+        expect(f, sizes, f->right, "all of the right size", 0);
+        expect(f, none, f->none, "all of them NULL and 0", 0);
+        for (i = 0; i < 5 && f->runs[i].size; i++) {
+            sizes[i] = 0;
+            expect(f, sizes, f->runs[i].null, "NULL and 0", i);
+            sizes[i] = f->runs[i].size - 1;
+            expect(f, sizes, f->runs[i].less, "one octet less", i);
+            sizes[i] = f->runs[i].size + 1;
+            expect(f, sizes, f->runs[i].more, "one octet more", i);
+            sizes[i] = f->runs[i].size;
+        }
+    }
+    for (k = 0; k < sizeof knowns / sizeof *knowns; k++) {
+        uint8_t digest[16] = {0};
+        struct lent r[2] = {{NULL, 0}, {digest, 16}};
+        calls++;
+        if (knowns[k].call(r) != 0 || memcmp(digest, knowns[k].digest, 16) != 0) {
+            printf("bad_lengths: %s of no octets has another digest\n", knowns[k].name);
+            return 1;
+        }
+    }
+    printf("bad_lengths: %u calls answered as they should\n", calls);
+    return 0;
+}
