@@ -1,6 +1,7 @@
 // The six exchanges of RFC 2433, B.1.
 use crate::lines::packet;
 use crate::lines::say;
+use crate::lines::title;
 use crate::lines::verdict;
 use authenticator::Account;
 use authenticator::Conversation;
@@ -70,7 +71,7 @@ pub(crate) fn opening(id: u8, challenge: [u8; 8], retries: Retries) -> Talk {
 }
 
 // The box takes a packet of the peer and answers, and the peer reads the answer.
-fn answered(talk: Talk, written: &[u8], lookup: Lookup) -> Talk {
+pub(crate) fn answered(talk: Talk, written: &[u8], lookup: Lookup) -> Talk {
     packet(b"   -> ", written);
     let conversation = talk.conversation;
     let turn = talk.turn;
@@ -91,23 +92,32 @@ fn answered(talk: Talk, written: &[u8], lookup: Lookup) -> Talk {
     }
 }
 
-// A Response that the peer writes from a password.
+// Writes a Response from a password, and answers its size.
+pub(crate) fn write_response(turn: Turn, password: &[u8], out: &mut [u8]) -> usize {
+    peer::write_response(turn, password, b"BENCH\\user", out).length
+}
+
 pub(crate) fn response(talk: Talk, password: &[u8], lookup: Lookup) -> Talk {
     let mut out = [0u8; 310];
     let turn = talk.turn;
-    let written = peer::write_response(turn, password, b"BENCH\\user", &mut out);
-    answered(talk, octets::part_of(&out, 0, written.length), lookup)
+    let n = write_response(turn, password, &mut out);
+    answered(talk, octets::part_of(&out, 0, n), lookup)
 }
 
-// The change of the right password to the new one. The box decides by the record that it kept, so that none is lent.
-pub(crate) fn change(talk: Talk) -> Talk {
+// Writes the change of the right password to the new one, and answers its size.
+pub(crate) fn write_change(turn: Turn, out: &mut [u8]) -> usize {
     let old = right();
     let new = new_one();
     let filler = [0x5au8; 512];
+    peer::write_change(turn, &old, &new, &filler, out).length
+}
+
+// The box decides by the record that it kept, so that none is lent.
+pub(crate) fn change(talk: Talk) -> Talk {
     let mut out = [0u8; 1118];
     let turn = talk.turn;
-    let written = peer::write_change(turn, &old, &new, &filler, &mut out);
-    answered(talk, octets::part_of(&out, 0, written.length), no_record())
+    let n = write_change(turn, &mut out);
+    answered(talk, octets::part_of(&out, 0, n), no_record())
 }
 
 // No record.
@@ -117,12 +127,12 @@ pub(crate) fn no_record() -> Lookup {
     none
 }
 
-fn challenge() -> [u8; 8] {
+pub(crate) fn challenge() -> [u8; 8] {
     [0x10, 0x2d, 0xb5, 0xdf, 0x08, 0x5d, 0x30, 0x41]
 }
 
 // A Response from the right password, and one from a wrong one.
-fn rightly(talk: Talk, expired: bool) -> Talk {
+pub(crate) fn rightly(talk: Talk, expired: bool) -> Talk {
     let password = right();
     response(talk, &password, account(expired))
 }
@@ -133,40 +143,40 @@ fn wrongly(talk: Talk, expired: bool) -> Talk {
 }
 
 fn successful() {
-    say(b"B.1.1 Successful authentication");
+    title(b"B.1.1 Successful authentication");
     rightly(opening(7, challenge(), Retries::Default), false);
 }
 
 fn failed() {
-    say(b"B.1.2 Failed authentication with no retry allowed");
+    title(b"B.1.2 Failed authentication with no retry allowed");
     wrongly(opening(7, challenge(), Retries::Count(0)), false);
 }
 
 fn retried() {
-    say(b"B.1.3 Successful authentication after retry");
+    title(b"B.1.3 Successful authentication after retry");
     let again = wrongly(opening(255, challenge(), Retries::Default), false);
     rightly(again, false);
 }
 
 fn attacked() {
-    say(b"B.1.4 Failed hack attack with 3 attempts allowed");
+    title(b"B.1.4 Failed hack attack with 3 attempts allowed");
     let second = wrongly(opening(7, challenge(), Retries::Default), false);
     let third = wrongly(second, false);
     wrongly(third, false);
 }
 
 fn changed() {
-    say(b"B.1.5 Successful authentication with password change");
+    title(b"B.1.5 Successful authentication with password change");
     let expired = rightly(opening(7, challenge(), Retries::Default), true);
     let after = change(expired);
     let record = after.handed;
-    say(b"   The box hands out a new record. In a later conversation:");
+    say(b"   The box hands out a record with the new password's hash. In a later conversation:");
     let new = new_one();
     response(opening(8, challenge(), Retries::Default), &new, record);
 }
 
 fn retried_and_changed() {
-    say(b"B.1.6 Successful authentication with retry and password change");
+    title(b"B.1.6 Successful authentication with retry and password change");
     let again = wrongly(opening(7, challenge(), Retries::Default), true);
     let expired = rightly(again, true);
     change(expired);

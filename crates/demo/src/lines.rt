@@ -1,16 +1,27 @@
 // What is printed: text, and packets.
 use libc::STDOUT_FILENO;
 use message::Call;
+use message::Failed;
 use message::Verdict;
 
-pub(crate) fn say(text: &[u8]) {
+fn put(text: &[u8]) {
     io::write_all(STDOUT_FILENO, text);
-    io::write_all(STDOUT_FILENO, b"\n");
+}
+
+pub(crate) fn say(text: &[u8]) {
+    put(text);
+    put(b"\n");
+}
+
+// A heading, apart from what stands above it.
+pub(crate) fn title(text: &[u8]) {
+    put(b"\n");
+    say(text);
 }
 
 fn say_octet(x: u8) {
     let pair = [octets::hex_digit(x / 16), octets::hex_digit(x)];
-    io::write_all(STDOUT_FILENO, &pair);
+    put(&pair);
 }
 
 // Octets as digits, 64 of them at most, and dots for the rest.
@@ -22,9 +33,19 @@ fn say_octets(octets: &[u8]) {
         i += 1;
     }
     if 64 < octets.len() {
-        io::write_all(STDOUT_FILENO, b"..");
+        put(b"..");
     }
-    io::write_all(STDOUT_FILENO, b"\n");
+    put(b"\n");
+}
+
+// The octets of a packet from a place on, as a rule has them or as a slip does.
+pub(crate) fn place(whose: &[u8], at: usize, octets: &[u8]) {
+    put(b"      ");
+    put(whose);
+    put(b" from octet ");
+    io::print_decimal(STDOUT_FILENO, at as u64);
+    put(b" on: ");
+    say_octets(octets);
 }
 
 fn kind(code: u8) -> [u8; 15] {
@@ -38,46 +59,74 @@ fn kind(code: u8) -> [u8; 15] {
     }
 }
 
-// One packet: the way it goes, its kind, its identifier, its Length, its octets; of a Failure the message as text, too.
+// What a packet means; of a Failure the message itself.
+fn meaning(code: u8, octets: &[u8]) {
+    put(b"      ");
+    match code {
+        1 => say(
+            b"The box asks: show that you know the password, by answering these eight octets.",
+        ),
+        2 => say(b"The peer answers from a password, and says who it is: BENCH\\user."),
+        3 => say(b"The box lets the peer in."),
+        4 => say(octets::part_of(octets, 4, 256)),
+        6 => say(
+            b"The peer sends a new password, sealed under the old one's hash, and proves that it knows both.",
+        ),
+        _ => say(b"This is no packet of MS-CHAP."),
+    }
+}
+
+// One packet: the way it goes, its kind, its identifier, its Length and its octets, and a line for what it means.
 pub(crate) fn packet(way: &[u8], octets: &[u8]) {
-    let name = kind(packets::octet(octets, 0));
-    io::write_all(STDOUT_FILENO, way);
-    io::write_all(STDOUT_FILENO, &name);
-    io::write_all(STDOUT_FILENO, b" id ");
+    let code = packets::octet(octets, 0);
+    let name = kind(code);
+    put(way);
+    put(&name);
+    put(b" id ");
     io::print_decimal(STDOUT_FILENO, packets::octet(octets, 1) as u64);
-    io::write_all(STDOUT_FILENO, b", ");
+    put(b", ");
     io::print_decimal(STDOUT_FILENO, packets::length(octets) as u64);
-    io::write_all(STDOUT_FILENO, b" octets: ");
+    put(b" octets: ");
     say_octets(octets);
-    if packets::octet(octets, 0) == 4 {
-        io::write_all(STDOUT_FILENO, b"      ");
-        say(octets::part_of(octets, 4, 256));
+    meaning(code, octets);
+}
+
+// Document 01's reasons.
+fn reason(e: u64) {
+    match e {
+        646 => put(b"not at this hour"),
+        647 => put(b"the account is disabled"),
+        648 => put(b"the password has expired"),
+        649 => put(b"no permission to dial in"),
+        691 => put(b"wrong name or password"),
+        709 => put(b"the change is not accepted"),
+        _ => put(b"another reason"),
     }
 }
 
 fn call(c: Call) {
     match c {
         Call::Retry => say(
-            b"   The peer reads: try again, to the challenge grown by 23, under the next identifier.",
+            b"; try again, to the challenge grown by 23, under the next identifier.",
         ),
-        Call::ChangeTwo => say(
-            b"   The peer reads: the password has expired; change it, to the same challenge, under the next identifier.",
-        ),
-        Call::ChangeOne => say(
-            b"   The peer reads: a version 1 change is wanted; nothing is sent.",
-        ),
-        Call::End => say(b"   The peer reads: no."),
+        Call::ChangeTwo => say(b"; change it, to the same challenge, under the next identifier."),
+        Call::ChangeOne => say(b"; a version 1 change is wanted, and nothing is sent."),
+        Call::End => say(b"; this is the end."),
     }
 }
 
-// What the peer reads in a reply.
+fn failure(f: Failed) {
+    let c = f.call;
+    put(b"      The peer reads: ");
+    reason(f.e);
+    call(c)
+}
+
+// What the peer reads in a reply; a Success has been told.
 pub(crate) fn verdict(v: Verdict) {
     match v {
-        Verdict::Success => say(b"   The peer reads: welcome."),
-        Verdict::Failure(f) => {
-            let c = f.call;
-            call(c)
-        }
-        Verdict::Refused(_) => say(b"   The peer cannot read this."),
+        Verdict::Success => {}
+        Verdict::Failure(f) => failure(f),
+        Verdict::Refused(_) => say(b"      The peer cannot read this."),
     }
 }

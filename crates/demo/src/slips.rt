@@ -1,16 +1,46 @@
-// What students get wrong, and what the box does.
+// What students get wrong, and what the box does: the slips of docs/SLIPS.md.
 use crate::exchanges::account;
+use crate::exchanges::answered;
+use crate::exchanges::challenge;
+use crate::exchanges::new_one;
 use crate::exchanges::no_record;
 use crate::exchanges::opening;
 use crate::exchanges::response;
 use crate::exchanges::right;
+use crate::exchanges::rightly;
+use crate::exchanges::write_change;
+use crate::exchanges::write_response;
 use crate::exchanges::wrong;
+use crate::lines::place;
 use crate::lines::say;
+use crate::lines::title;
+use authenticator::Hash;
 use authenticator::Lookup;
 use authenticator::Retries;
 
-fn carry() {
+// ---- the challenge
+
+fn shared() {
+    title(
+        b"Slip: one challenge shared by two boxes. The Response that was recorded at the first opens the second.",
+    );
+    let password = right();
+    let mut out = [0u8; 310];
+    let first = opening(7, challenge(), Retries::Default);
+    let turn = first.turn;
+    let n = write_response(turn, &password, &mut out);
+    let recorded = octets::part_of(&out, 0, n);
+    answered(first, recorded, account(false));
+    say(b"   At the second box:");
+    let second = opening(7, challenge(), Retries::Default);
+    answered(second, recorded, account(false));
     say(
+        b"   So each opening is lent a challenge of its own; the box does not remember those of other openings.",
+    );
+}
+
+fn carry() {
+    title(
         b"Slip: a carry out of the challenge's first octet. E9 grows by 23 to 00, and the second octet stays.",
     );
     let talk = opening(9, [0xe9, 2, 3, 4, 5, 6, 7, 8], Retries::Count(1));
@@ -20,8 +50,10 @@ fn carry() {
     response(again, &password, account(false));
 }
 
+// ---- the Response
+
 fn disabled() {
-    say(
+    title(
         b"Slip: a disabled account reported before the password was checked. A wrong password draws 691, the right one 647.",
     );
     let mut lookup = account(false);
@@ -42,13 +74,99 @@ fn guess_for(lookup: Lookup) {
 }
 
 fn unknown() {
-    say(b"Slip: an unknown account told apart from a wrong password. Both draw the same octets.");
+    title(b"Slip: an unknown account told apart from a wrong password. Both draw the same octets.");
     guess_for(no_record());
     guess_for(account(false));
 }
 
+// The account has an LM hash too. The Response has a wrong NT response and the right LM response.
+fn fallback() {
+    title(
+        b"Slip: falling back to LM when the NT response is wrong. With flag 1 the LM response is not looked at.",
+    );
+    let hash = credentials::lm_hash(b"MyPw").hash;
+    let lm_hash = Hash {
+        present: true,
+        octets: hash,
+    };
+    let mut lookup = account(false);
+    let mut record = lookup.account;
+    record.lm = lm_hash;
+    lookup.account = record;
+    let guess = wrong();
+    let mut out = [0u8; 310];
+    let talk = opening(7, challenge(), Retries::Count(0));
+    let turn = talk.turn;
+    let n = write_response(turn, &guess, &mut out);
+    let lm = credentials::challenge_response(hash, challenge());
+    octets::copy_at(&mut out, 5, &lm);
+    place(b"the right LM response", 5, &lm);
+    answered(talk, octets::part_of(&out, 0, n), lookup);
+}
+
+// ---- the change
+
+// The right change but for the octets from a place on, which a slip made otherwise.
+fn slipped(at: usize, slip: &[u8]) {
+    let talk = rightly(opening(7, challenge(), Retries::Default), true);
+    let turn = talk.turn;
+    let mut out = [0u8; 1118];
+    let n = write_change(turn, &mut out);
+    place(b"right,", at, octets::part_of(&out, at, slip.len()));
+    place(b"slip, ", at, slip);
+    octets::copy_at(&mut out, at, slip);
+    answered(talk, octets::part_of(&out, 0, n), no_record());
+}
+
+fn old_hash() -> [u8; 16] {
+    let password = right();
+    credentials::nt_hash(&password).hash
+}
+
+fn new_hash() -> [u8; 16] {
+    let password = new_one();
+    credentials::nt_hash(&password).hash
+}
+
+fn by_old_hash() {
+    title(b"Slip: a change's response made from the old password. It is the new one's.");
+    let response = credentials::challenge_response(old_hash(), challenge());
+    slipped(1092, &response);
+}
+
+fn second_key() {
+    title(
+        b"Slip: A.17's second key taken as the new hash's first seven octets again. It is the next seven.",
+    );
+    let old = old_hash();
+    let new = new_hash();
+    let half = des::encrypt(octets::seven_at(&new, 0), octets::eight_at(&old, 8));
+    slipped(528, &half);
+}
+
+fn anew() {
+    title(b"Slip: RC4 started anew for the four length octets. One run goes over all 516.");
+    let old = old_hash();
+    let mut length = [14u8, 0, 0, 0];
+    rc4::rc4(&old, &mut length);
+    slipped(516, &length);
+}
+
+fn grown() {
+    title(b"Slip: the challenge grown after 648. A change answers the last Response's challenge.");
+    let grown = packets::grown_challenge(challenge());
+    let response = credentials::challenge_response(new_hash(), grown);
+    slipped(1092, &response);
+}
+
 pub(crate) fn all() {
+    shared();
     carry();
     disabled();
     unknown();
+    fallback();
+    by_old_hash();
+    second_key();
+    anew();
+    grown();
 }
