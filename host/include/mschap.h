@@ -156,7 +156,7 @@ uint32_t mschap_challenge_response(const uint8_t *hash, size_t hash_size,
    a wrong password may be tried again, 0 to 7, or 255 for the default, 2. lm is 1 where a response by LM is allowed, 0 where it is not, or 255
    for the default, allowed. Writes the conversation (50) and, at the front of reply (17 or more), the Challenge to be sent. The packet's size
    is its own Length field: reply[2] * 256 + reply[3]; what lay behind it stays.
-   Returns 0; 13 for over 7 retries; 2 where reply has under 17 octets; 100 for another size of challenge or conversation, or another lm. */
+   Returns 0; 13 for 8 to 254 retries; 2 where reply has under 17 octets; 100 for another size of challenge or conversation, or another lm. */
 uint32_t mschap_open(uint8_t identifier,
                      const uint8_t *challenge, size_t challenge_size,
                      uint8_t retries, uint8_t lm,
@@ -168,7 +168,7 @@ uint32_t mschap_open(uint8_t identifier,
    will do. Writes the next conversation over this one; at the front of reply (17 or more) the Success or Failure to be sent, whose size is its own
    Length field, reply[2] * 256 + reply[3]; and into handed (39) the record after an accepted change of the password, to be stored by the caller,
    or else one that is not found.
-   Returns 0 where the packet is judged, for better or worse: reply tells the verdict; reply[0] is 3 for Success and 4 for Failure. Returns 1
+   Returns 0 where the packet is judged, with Success or Failure: reply[0] is 3 or 4. Returns 1
    to 7 where the packet is refused, in that order: no reply is sent and the conversation goes on as if it had not come. Returns 100 for
    another size of conversation, record or handed, or octets in the first two that no value writes. */
 uint32_t mschap_step(uint8_t *conversation, size_t conversation_size,
@@ -190,8 +190,12 @@ size_t mschap_account_length(const uint8_t *packet, size_t packet_size);
    Returns its offset in packet, 54; 0 where the domain is not in the packet. Then the packet is refused as a Response, and
    mschap_account_offset returns 0 too, or the name has no backslash, and the caller takes the home domain:
        size_t at = mschap_domain_offset(packet, packet_size);
-       const uint8_t *domain = at ? packet + at : home;
-       size_t domain_size = at ? mschap_domain_length(packet, packet_size) : home_size;
+       if (mschap_account_offset(packet, packet_size) == 0)
+           .. there is nobody to look up: mschap_step will refuse the packet
+       else if (at == 0)
+           .. the domain is the home domain
+       else
+           .. the domain is at packet + at, with mschap_domain_length(packet, packet_size) octets
    A leading backslash has the empty domain before it, at offset 54, and not the home domain. */
 size_t mschap_domain_offset(const uint8_t *packet, size_t packet_size);
 

@@ -11,11 +11,11 @@ use native.Mathlib.Omega.{arith}
 use borrow.Author.Tests.{lt-ltb, eqb-true, eqb-false}
 use lib.Dec.{eqb}
 use lib.ListN.{length}
-use Rattle.credentials.specs.Credentials.{ntHashOf, sealedBlock, openedAs}
-use Rattle.credentials.specs.declared.Opened.{Opened}
+use Rattle.credentials.specs.Credentials.{ntHashOf, sealedBlock, unsealedAs}
+use Rattle.credentials.specs.declared.Unsealed.{Unsealed}
 use Rattle.credentials.specs.declared.Content.{Content}
 use Rattle.credentials.specs.declared.Content.the-variants.{Password}
-use Rattle.credentials.proofs.Laws.{open-sealed, password-sealed, content-password}
+use Rattle.credentials.proofs.Laws.{unseal-sealed, password-sealed, content-password}
 use Rattle.message.specs.Message.{textOf}
 use Rattle.packets.specs.Response.{responseIn}
 use Rattle.packets.specs.Change.{changeIn}
@@ -25,7 +25,7 @@ use Rattle.packets.specs.declared.Change as changes
 use Rattle.authenticator.specs.Account.{noRecord, found, renewed}
 use Rattle.authenticator.specs.Conversation.{ended, retried, keeping}
 use Rattle.authenticator.specs.Refusal.{refusalOf}
-use Rattle.authenticator.specs.Response.{version, Drawn, valid, firstReason, reasonOf, afterReason, replyFor, responseDrawn}
+use Rattle.authenticator.specs.Response.{version, Drawn, valid, firstReason, reasonOf, drawnFor, responseDrawn}
 use Rattle.authenticator.specs.Change.{hashInside, hashIn, proves, proven, newHash, drawnBy, changeDrawn}
 use Rattle.authenticator.specs.Step.{drawnIn, drawn, judgedAs, step}
 use Rattle.authenticator.specs.Steps.{Rightful}
@@ -51,10 +51,6 @@ accepted c = record { reason = 0; reply = successPacket (c .id); next = ended c;
 abbrev pub changed : Conversation → List ℕ → Drawn
 changed c h = record { reason = 0; reply = successPacket (c .id); next = ended c; handed = found (renewed (c .kept) h) }
 
--- what the reason draws
-abbrev drawnFor : Conversation → Account → ℕ → Drawn
-drawnFor c a e = record { reason = e; reply = replyFor c e; next = afterReason c a e; handed = noRecord }
-
 module _ (c : Conversation) (p b : List ℕ) (ok : refusalOf c p b ≡ 0) where
   response-step : (l : Lookup) → c .phase ≡ Response → step c p l b ≡ judgedAs (drawnFor c (l .account) (reasonOf c l (responseIn p))) b
   unfolding drawn responseDrawn
@@ -77,7 +73,7 @@ rightful-reason : (c : Conversation) (a : Account) (f : fields.Response) → Rig
     → reasonOf c (found a) f ≡ cond (a .expired) 648 0
 unfolding reasonOf firstReason
 rightful-reason c a f g v =
-    reason-valid (valid c a f) (a .disabled) (a .hours) (a .nodialin) (cond (a .expired) 648 0) v (g .enabled) (g .hours) (g .dialin)
+    reason-valid (valid c a f) (a .disabled) (a .barred) (a .nodialin) (cond (a .expired) 648 0) v (g .enabled) (g .barred) (g .dialin)
 
 again-drawn : (c : Conversation) (a : Account) → 0 < c .retries → drawnFor c a 691 ≡ again c
 again-drawn c a h = rw (lt-ltb 0 (c .retries) h)
@@ -109,18 +105,18 @@ module _ (c : Conversation) (p b : List ℕ) (ok : refusalOf c p b ≡ 0) where
 
 -- the hash inside a block that was sealed under the same old hash
 pub hash-sealed : (old filler new : List ℕ) → length filler ≡ 512 → length new ≤ 512 → length new % 2 ≡ 0
-    → hashIn (openedAs old (sealedBlock old filler new)) ≡ some (ntHashOf new)
+    → hashIn (unsealedAs old (sealedBlock old filler new)) ≡ some (ntHashOf new)
 hash-sealed old filler new full fits even =
-    let o = openedAs old (sealedBlock old filler new) in
+    let o = unsealedAs old (sealedBlock old filler new) in
     let content : o .content ≡ Password (length new) =
-    ap (λ (x : Opened). x .content) (open-sealed filler new full fits old) ∙ content-password (length new) fits even in
+    ap (λ (x : Unsealed). x .content) (unseal-sealed filler new full fits old) ∙ content-password (length new) fits even in
     ap (λ (x : Content). hashInside x o) content ∙ ap (λ (x : List ℕ). some (ntHashOf x)) (password-sealed filler new full fits old)
 
 pub new-hash : (c : Conversation) (f : changes.Change) (h : List ℕ) → c .kept .nt .present ≡ true → eqb (f .flags % 2) 1 ≡ true
-    → hashIn (openedAs (c .kept .nt .octets) (f .block)) ≡ some h → proves c f h ≡ true → newHash c f ≡ some h
+    → hashIn (unsealedAs (c .kept .nt .octets) (f .block)) ≡ some h → proves c f h ≡ true → newHash c f ≡ some h
 unfolding newHash
 new-hash c f h there bit inside proved =
-    all (c .kept .nt .present) (eqb (f .flags % 2) 1) (proven c f (hashIn (openedAs (c .kept .nt .octets) (f .block)))) there bit
+    all (c .kept .nt .present) (eqb (f .flags % 2) 1) (proven c f (hashIn (unsealedAs (c .kept .nt .octets) (f .block)))) there bit
     (ap (proven c f) inside ∙ ap (λ (t : Bool). cond t (some h) none) proved)
   where
     all : (s t : Bool) (o : Option (List ℕ)) → s ≡ true → t ≡ true → o ≡ some h → cond (s && t) o none ≡ some h
@@ -129,7 +125,7 @@ new-hash c f h there bit inside proved =
 -- a renewed record is rightful where the kept one is, is not expired, and has the new hash
 pub renewed-rightful : (a : Account) (h : List ℕ) → Rightful a
     → Rightful (renewed a h) × (renewed a h .expired ≡ false) × (renewed a h .nt .octets ≡ h)
-renewed-rightful a h g = (record { nt = refl; enabled = g .enabled; hours = g .hours; dialin = g .dialin }, refl, refl)
+renewed-rightful a h g = (record { nt = refl; enabled = g .enabled; barred = g .barred; dialin = g .dialin }, refl, refl)
 
 -- ---- no record and an invalid Response
 

@@ -31,7 +31,7 @@ use Rattle.authenticator.proofs.Steps.{judged-step, number-step, live-a
 -- document 01's reasons; 0 is Success
 pub data Reason : ℕ → Type 0 where
   success : Reason 0
-  hours : Reason 646
+  barred : Reason 646
   disabled : Reason 647
   expired : Reason 648
   nodialin : Reason 649
@@ -40,7 +40,7 @@ pub data Reason : ℕ → Type 0 where
 
 three-digits : {e : ℕ} → Reason e → e < 1000
 three-digits success = omega arith
-three-digits hours = omega arith
+three-digits barred = omega arith
 three-digits disabled = omega arith
 three-digits expired = omega arith
 three-digits nodialin = omega arith
@@ -49,12 +49,12 @@ three-digits change = omega arith
 
 first-reason : (v : Bool) (a : Account) → Reason (firstReason v a)
 unfolding firstReason
-first-reason v a = which v (a .disabled) (a .hours) (a .nodialin) (a .expired)
+first-reason v a = which v (a .disabled) (a .barred) (a .nodialin) (a .expired)
   where
     which : (v d h n x : Bool) → Reason (cond (not v) 691 (cond d 647 (cond h 646 (cond n 649 (cond x 648 0)))))
     which false d h n x = invalid
     which true true h n x = disabled
-    which true false true n x = hours
+    which true false true n x = barred
     which true false false true x = nodialin
     which true false false false true = expired
     which true false false false false = success

@@ -12,7 +12,7 @@ use borrow.Author.Tests.{lt-ltb, le-ltb, eq-eqb, ne-eqb, eqb-true, eqb-false, lt
 use lib.Dec.{eqb, ltb}
 use lib.ListN.{length}
 use Rattle.message.specs.Message.{textOf}
-use Rattle.packets.specs.Frame.{octet, badFrame}
+use Rattle.packets.specs.Frame.{octet, badFrame, badId}
 use Rattle.packets.specs.Response.{badResponseSize, badResponseFlag, responseRefusal}
 use Rattle.packets.specs.Change.{badChangeSize, badChangeFlags, changeRefusal}
 use Rattle.packets.specs.Reply.{successPacket, failurePacket}
@@ -21,10 +21,10 @@ use Rattle.packets.specs.declared.Change as changes
 use Rattle.packets.proofs.Writing.{taken}
 use Rattle.authenticator.specs.Conversation.{awaitedCode, isEnded}
 use Rattle.authenticator.specs.Opening.{badRoom}
-use Rattle.authenticator.specs.Refusal.{badCode, badId, bodyRefusal, refusalOf}
+use Rattle.authenticator.specs.Refusal.{badCode, bodyRefusal, refusalOf}
 use Rattle.authenticator.specs.Response.{Drawn, version, mayRetry, reasonOf, responseDrawn}
 use Rattle.authenticator.specs.Change.{newHash, drawnBy, changeDrawn}
-use Rattle.authenticator.specs.Step.{numberOf, drawnIn, drawn, Outcome, judgedAs, refusedAs, step}
+use Rattle.authenticator.specs.Step.{numberOf, stepReason, drawnIn, drawn, Outcome, judgedAs, refusedAs, step}
 use Rattle.authenticator.specs.Steps.{Lent, stepOn, nextAfter, refusalAt, Refused, replyOf, judged}
 use Rattle.authenticator.specs.declared.Lookup.{Lookup}
 use Rattle.authenticator.specs.declared.Conversation.{Conversation}
@@ -42,6 +42,14 @@ module _ (c : Conversation) (p : List ℕ) (l : Lookup) (b : List ℕ) where
   pub refused-step : refusalOf c p b ≢ 0 → step c p l b ≡ refusedAs (refusalOf c p b) c b
   unfolding step
   refused-step n = rw (ne-eqb (refusalOf c p b) 0 n)
+
+  pub judged-reason : refusalOf c p b ≡ 0 → stepReason c p l b ≡ drawn c p l .reason
+  unfolding stepReason
+  judged-reason e = rw e
+
+  pub refused-reason : refusalOf c p b ≢ 0 → stepReason c p l b ≡ 0
+  unfolding stepReason
+  refused-reason n = rw (ne-eqb (refusalOf c p b) 0 n)
 
   pub number-step : numberOf (step c p l b .answer .kind) ≡ refusalOf c p b
   number-step = which (eqb (refusalOf c p b) 0) refl
@@ -84,15 +92,15 @@ passes c p b h =
     (le-ltb (length b) 17 (h .room)) (h .frame) (ap not (eq-eqb (octet 0 p) (awaitedCode (c .phase)) (h .code)))
     (ap not (eq-eqb (octet 1 p) (c .id) (h .id))) (h .body)
 
--- a live conversation: a number that is not 2 says that the buffer has room
-pub roomy : (c : Conversation) (s : Lent) → isEnded (c .phase) ≡ false → refusalAt stepOn c s ≢ 2 → 17 ≤ length (s .buffer)
+-- a live conversation: where a buffer with no room does not draw 2, there is none
+pub roomy : (c : Conversation) (s : Lent) → isEnded (c .phase) ≡ false → (badRoom (s .buffer) ≡ true → refusalAt stepOn c s ≢ 2) → 17 ≤ length (s .buffer)
 unfolding refusalOf
 roomy c s live two =
     ltb-false (length (s .buffer)) 17
-    (which (isEnded (c .phase)) (badRoom (s .buffer)) _ live (λ e. two (number-step c (s .packet) (s .account) (s .buffer) ∙ e)))
+    (which (isEnded (c .phase)) (badRoom (s .buffer)) _ live (λ h e. two h (number-step c (s .packet) (s .account) (s .buffer) ∙ e)))
   where
-    which : (t₁ t₂ : Bool) (n : ℕ) → t₁ ≡ false → cond t₁ 1 (cond t₂ 2 n) ≢ 2 → t₂ ≡ false
-    which t₁ true n e h = absurd (h (rw e))
+    which : (t₁ t₂ : Bool) (n : ℕ) → t₁ ≡ false → (t₂ ≡ true → cond t₁ 1 (cond t₂ 2 n) ≢ 2) → t₂ ≡ false
+    which t₁ true n e h = absurd (h refl (rw e))
     which t₁ false n e h = refl
 
 -- ---- the numbers that a step can have

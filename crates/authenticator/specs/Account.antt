@@ -15,7 +15,7 @@ abbrev pub noHash : Hash
 noHash = record { present = false; octets = replicate 16 0 }
 
 abbrev pub blank : Account
-blank = record { nt = noHash; lm = noHash; disabled = false; hours = false; nodialin = false; expired = false }
+blank = record { nt = noHash; lm = noHash; disabled = false; barred = false; nodialin = false; expired = false }
 
 abbrev pub noRecord : Lookup
 noRecord = record { found = false; account = blank }
@@ -34,7 +34,7 @@ renewed a h =
       nt = record { present = true; octets = h };
       lm = noHash;
       disabled = a .disabled;
-      hours = a .hours;
+      barred = a .barred;
       nodialin = a .nodialin;
       expired = false;
     }

@@ -6,8 +6,8 @@ use mathlib.Core.Option.{Option, none, some}
 use Prim.Native.Nat.{ℕ, _%_}
 use lib.Dec.{eqb}
 use Rattle.octets.specs.Parts.{agrees}
-use Rattle.credentials.specs.Credentials.{ntHashOf, responseOf, oldUnderNew, openedAs, passwordIn}
-use Rattle.credentials.specs.declared.Opened.{Opened}
+use Rattle.credentials.specs.Credentials.{ntHashOf, responseOf, oldUnderNew, unsealedAs, passwordIn}
+use Rattle.credentials.specs.declared.Unsealed.{Unsealed}
 use Rattle.credentials.specs.declared.Content.{Content}
 use Rattle.credentials.specs.declared.Content.the-variants.{Over, Odd, Password}
 use Rattle.message.specs.Message.{textOf}
@@ -19,17 +19,17 @@ use Rattle.authenticator.specs.Response.{version, Drawn}
 use Rattle.authenticator.specs.declared.Conversation.{Conversation}
 
 -- the hash of the password in an opened block; none where the length is over 512 or odd
-abbrev pub hashInside : Content → Opened → Option (List ℕ)
+abbrev pub hashInside : Content → Unsealed → Option (List ℕ)
 hashInside Over o = none
 hashInside Odd o = none
 hashInside (Password n) o = some (ntHashOf (passwordIn o n))
 
-abbrev pub hashIn : Opened → Option (List ℕ)
+abbrev pub hashIn : Unsealed → Option (List ℕ)
 hashIn o = hashInside (o .content) o
 
 -- the old hash under the new one is the one sent, and the NT response is the new hash's to the challenge in force
 abbrev pub proves : Conversation → Change → List ℕ → Bool
-proves c f h = agrees (f .proof) (oldUnderNew (c .kept .nt .octets) h) && agrees (f .nt) (responseOf h (c .challenge))
+proves c f h = agrees (f .verifier) (oldUnderNew (c .kept .nt .octets) h) && agrees (f .nt) (responseOf h (c .challenge))
 
 abbrev pub proven : Conversation → Change → Option (List ℕ) → Option (List ℕ)
 proven c f none = none
@@ -37,7 +37,7 @@ proven c f (some h) = cond (proves c f h) (some h) none
 
 -- the new hash of an accepted change: the kept record has an NT hash and flag bit 0 is set. Bit 1 and the LM fields are ignored.
 unfoldable pub newHash : Conversation → Change → Option (List ℕ)
-newHash c f = cond (c .kept .nt .present && eqb (f .flags % 2) 1) (proven c f (hashIn (openedAs (c .kept .nt .octets) (f .block)))) none
+newHash c f = cond (c .kept .nt .present && eqb (f .flags % 2) 1) (proven c f (hashIn (unsealedAs (c .kept .nt .octets) (f .block)))) none
 
 -- Success and the new record, or 709; either ends the conversation
 abbrev pub drawnBy : Conversation → Option (List ℕ) → Drawn

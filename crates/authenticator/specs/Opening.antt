@@ -36,7 +36,7 @@ lmAllowed Silent = true
 lmAllowed Allowed = true
 lmAllowed Disallowed = false
 
--- refusal 2: a reply buffer has room for the longest reply
+-- refusal 2: under the 17 octets of the longest reply
 abbrev pub badRoom : List ℕ → Bool
 badRoom buffer = ltb (length buffer) 17
 

@@ -4,7 +4,7 @@ use mathlib.Core.Bool.{Bool, cond, not}
 use mathlib.Core.List.{List}
 use Prim.Native.Nat.{ℕ}
 use lib.Dec.{eqb}
-use Rattle.packets.specs.Frame.{octet, badFrame}
+use Rattle.packets.specs.Frame.{octet, badFrame, badId}
 use Rattle.packets.specs.Response.{responseRefusal}
 use Rattle.packets.specs.Change.{changeRefusal}
 use Rattle.authenticator.specs.Conversation.{awaitedCode, isEnded}
@@ -13,12 +13,9 @@ use Rattle.authenticator.specs.declared.Conversation.{Conversation}
 use Rattle.authenticator.specs.declared.Phase.{Phase}
 use Rattle.authenticator.specs.declared.Phase.the-variants.{Response, Change, Ended}
 
--- refusal 4 and refusal 5
+-- refusal 4: another code than the awaited one
 abbrev pub badCode : Phase → List ℕ → Bool
 badCode phase p = not (eqb (octet 0 p) (awaitedCode phase))
-
-abbrev pub badId : ℕ → List ℕ → Bool
-badId id p = not (eqb (octet 1 p) id)
 
 -- 6, then 7, by the packet that is awaited
 abbrev pub bodyRefusal : Phase → List ℕ → ℕ

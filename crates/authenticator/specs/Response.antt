@@ -36,7 +36,7 @@ unfoldable pub firstReason : Bool → Account → ℕ
 firstReason v a =
     cond (not v) 691
     (cond (a .disabled) 647
-    (cond (a .hours) 646
+    (cond (a .barred) 646
     (cond (a .nodialin) 649
     (cond (a .expired) 648 0))))
 
@@ -55,6 +55,8 @@ afterReason c a e = cond (mayRetry c e) (retried c) (cond (eqb e 648) (keeping c
 abbrev pub replyFor : Conversation → ℕ → List ℕ
 replyFor c e = cond (eqb e 0) (successPacket (c .id)) (failurePacket (c .id) (textOf e (cond (mayRetry c e) 1 0) version))
 
+abbrev pub drawnFor : Conversation → Account → ℕ → Drawn
+drawnFor c a e = record { reason = e; reply = replyFor c e; next = afterReason c a e; handed = noRecord }
+
 unfoldable pub responseDrawn : Conversation → Lookup → Response → Drawn
-responseDrawn c l f =
-    record { reason = reasonOf c l f; reply = replyFor c (reasonOf c l f); next = afterReason c (l .account) (reasonOf c l f); handed = noRecord }
+responseDrawn c l f = drawnFor c (l .account) (reasonOf c l f)

@@ -53,5 +53,9 @@ judgedAs d b =
 abbrev pub refusedAs : ℕ → Conversation → List ℕ → Outcome
 refusedAs n c b = record { answer = record { kind = Refused n; next = c; written = 0; handed = noRecord }; buffer = b }
 
+-- the reason with which a packet is judged; 0 beside a refusal
+unfoldable pub stepReason : Conversation → List ℕ → Lookup → List ℕ → ℕ
+stepReason c p l b = cond (eqb (refusalOf c p b) 0) (drawn c p l .reason) 0
+
 unfoldable pub step : Conversation → List ℕ → Lookup → List ℕ → Outcome
 step c p l b = cond (eqb (refusalOf c p b) 0) (judgedAs (drawn c p l) b) (refusedAs (refusalOf c p b) c b)

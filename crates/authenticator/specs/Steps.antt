@@ -50,5 +50,5 @@ module _ (box : Box) where
 pub record Rightful (a : Account) : Type 0 where
   pub nt : a .nt .present ≡ true
   pub enabled : a .disabled ≡ false
-  pub hours : a .hours ≡ false
+  pub barred : a .barred ≡ false
   pub dialin : a .nodialin ≡ false

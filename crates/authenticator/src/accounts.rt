@@ -24,7 +24,7 @@ pub fn blank_account() -> Account
         nt,
         lm,
         disabled: false,
-        hours: false,
+        barred: false,
         nodialin: false,
         expired: false,
     }
@@ -73,7 +73,7 @@ pub fn renewed_record(account: Account, hash: [u8; 16]) -> Lookup
             },
             lm,
             disabled: account.disabled,
-            hours: account.hours,
+            barred: account.barred,
             nodialin: account.nodialin,
             expired: false,
         },

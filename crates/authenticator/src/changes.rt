@@ -16,9 +16,9 @@ use crate::accounts::no_hash;
 use crate::accounts::no_record;
 use crate::accounts::renewed_record;
 use credentials::Content;
-use credentials::Opened;
+use credentials::Unsealed;
 
-// The hash of the password of n octets at the end of an opened block.
+// The hash of the password of n octets at the end of an unsealed block.
 fn hash_of_last(octets: [u8; 512], n: usize) -> Hash
     requires { ⌜ (n ≤ 512) × (n % 2 ≡ 0) ⌝ }
     ensures { λ r. ⌜ r ≡ record { present = true; octets = ntHashOf (part (512 - n) n octets) } ⌝ }
@@ -31,13 +31,13 @@ fn hash_of_last(octets: [u8; 512], n: usize) -> Hash
     }
 }
 
-// The hash of the password in an opened block, or none.
-fn hash_in(opened: Opened) -> Hash
-    requires { ⌜ Sound (opened .content) ⌝ }
-    ensures { λ r. ⌜ r ≡ hashFound (hashIn opened) ⌝ }
+// The hash of the password in an unsealed block, or none.
+fn hash_in(unsealed: Unsealed) -> Hash
+    requires { ⌜ Sound (unsealed .content) ⌝ }
+    ensures { λ r. ⌜ r ≡ hashFound (hashIn unsealed) ⌝ }
 {
-    let content = opened.content;
-    let octets = opened.octets;
+    let content = unsealed.content;
+    let octets = unsealed.octets;
     match content {
         Content::Over => no_hash(),
         Content::Odd => no_hash(),
@@ -52,7 +52,7 @@ fn is_same_hash(a: [u8; 16], b: [u8; 16]) -> bool
 }
 
 // The kept record has an NT hash, and flag bit 0 is set.
-fn is_asked(present: bool, flags: u16) -> bool
+fn may_change(present: bool, flags: u16) -> bool
     ensures { λ r. ⌜ r ≡ (present && eqb (flags % 2) 1) ⌝ }
 {
     if present {
@@ -70,9 +70,9 @@ impl Conversation {
         let kept = self.kept;
         let nt = kept.nt;
         let old = nt.octets;
-        let proof = fields.proof;
+        let verifier = fields.verifier;
         let response = fields.nt;
-        if is_same_hash(proof, credentials::old_under_new(old, hash)) {
+        if is_same_hash(verifier, credentials::old_under_new(old, hash)) {
             return is_same_response(response, credentials::challenge_response(hash, challenge));
         }
         false
@@ -85,11 +85,11 @@ impl Conversation {
         let kept = self.kept;
         let nt = kept.nt;
         let old = nt.octets;
-        if !is_asked(nt.present, fields.flags) {
+        if !may_change(nt.present, fields.flags) {
             return no_hash();
         }
         let block = fields.block;
-        let hash = hash_in(credentials::open(old, block));
+        let hash = hash_in(credentials::unseal(old, block));
         let octets = hash.octets;
         if !hash.present {
             return no_hash();

@@ -12,7 +12,7 @@ ghost use Rattle.packets.specs.Frame.{headed};
 ghost use Rattle.authenticator.specs.Conversation.{awaitedCode, isEnded};
 ghost use Rattle.authenticator.specs.Refusal.{bodyRefusal, refusalOf};
 ghost use Rattle.authenticator.specs.Response.{replyFor};
-ghost use Rattle.authenticator.specs.Step.{numberOf, step};
+ghost use Rattle.authenticator.specs.Step.{numberOf, reasonIn, stepReason, step};
 ghost use Rattle.authenticator.specs.Code.{judgementIn};
 use accounts::no_record;
 use opening::is_bad_room;
@@ -28,7 +28,7 @@ pub struct Account {
     pub nt: Hash,
     pub lm: Hash,
     pub disabled: bool,
-    pub hours: bool,
+    pub barred: bool,
     pub nodialin: bool,
     pub expired: bool,
 }
@@ -107,7 +107,8 @@ struct Judgement {
 
 // ---- the step
 
-fn awaited_code(phase: Phase) -> u8
+// The code of the packet that a phase awaits; 0 is none.
+pub fn awaited_code(phase: Phase) -> u8
     ensures { λ r. ⌜ r ≡ awaitedCode phase ⌝ }
 {
     match phase {
@@ -196,7 +197,7 @@ impl Conversation {
 
     // One step: a packet is refused, and conversation and buffer stay as they were, or it is judged and draws a reply.
     pub fn step(self, packet: &[u8], lookup: Lookup, reply: &mut [u8]) -> Answer
-        ensures { λ r. ⌜ (r ≡ step self (now (packet .entry)) lookup (now (reply .entry)) .answer) × (now (reply .exit) ≡ step self (now (packet .entry)) lookup (now (reply .entry)) .buffer) × (numberOf (r .kind) ≡ refusalOf self (now (packet .entry)) (now (reply .entry))) ⌝ }
+        ensures { λ r. ⌜ (r ≡ step self (now (packet .entry)) lookup (now (reply .entry)) .answer) × (now (reply .exit) ≡ step self (now (packet .entry)) lookup (now (reply .entry)) .buffer) × (numberOf (r .kind) ≡ refusalOf self (now (packet .entry)) (now (reply .entry))) × (reasonIn (r .kind) ≡ stepReason self (now (packet .entry)) lookup (now (reply .entry))) ⌝ }
     {
         let refusal = self.refusal(packet, reply);
         if refusal != 0 {

@@ -42,7 +42,7 @@ impl Conversation {
     }
 
     // There is a record, and the Response is valid for it.
-    fn is_rightful(self, lookup: Lookup, fields: packets::Response) -> bool
+    fn is_found_and_valid(self, lookup: Lookup, fields: packets::Response) -> bool
         ensures { λ r. ⌜ r ≡ (lookup .found && valid self (lookup .account) fields) ⌝ }
     {
         let account = lookup.account;
@@ -57,13 +57,13 @@ impl Conversation {
         ensures { λ r. ⌜ r ≡ reasonOf self lookup fields ⌝ }
     {
         let account = lookup.account;
-        if !self.is_rightful(lookup, fields) {
+        if !self.is_found_and_valid(lookup, fields) {
             return 691;
         }
         if account.disabled {
             return 647;
         }
-        if account.hours {
+        if account.barred {
             return 646;
         }
         if account.nodialin {

@@ -3,6 +3,7 @@
 use mathlib.Core.Path.{_≡_, refl, sym, ap, ap₂, _∙_}
 use mathlib.Core.Bool.{Bool, true, false, cond, not, _||_, true≢false}
 use mathlib.Core.List.{List, _++_, map, append-assoc}
+use mathlib.Core.Option.{none, some}
 use Prim.Native.Nat.{ℕ, _+_, _-_, _%_, _≤_}
 use native.Mathlib.Nat.{mod-eq-of-lt}
 use native.Mathlib.Omega.{arith}
@@ -20,9 +21,9 @@ use Rattle.des.proofs.Sizes.{length-encrypt, length-three}
 use Rattle.rc4.specs.Rc4.{crypted}
 use Rattle.rc4.proofs.Laws.{crypted-twice, length-crypted}
 use Rattle.credentials.specs.declared.Content.the-variants.{Over, Odd, Password}
-use Rattle.credentials.specs.declared.Opened.{Opened}
+use Rattle.credentials.specs.declared.Unsealed.{Unsealed}
 use Rattle.credentials.specs.declared.Sealed.{Sealed}
-use Rattle.credentials.specs.Credentials.{ntHashOf, badNtPassword, lmHashOf, lmKeys, upper, responseOf, oldUnderNew, plainBlock, sealedBlock, badFiller, sealRefusal, sealedAs, lengthIn, contentFor, Sound, openedAs, passwordIn}
+use Rattle.credentials.specs.Credentials.{ntHashOf, badNtPassword, lmKeys, upper, responseOf, oldUnderNew, plainBlock, sealedBlock, badFiller, sealRefusal, sealedAs, lengthIn, contentFor, lengthTold, passwordLength, Sound, unsealedAs, passwordIn}
 
 -- ---- lengths
 
@@ -38,10 +39,6 @@ length-keys password = length-fixed 14 (map upper password)
 two-blocks : (key₁ block₁ key₂ block₂ : List ℕ) → length (desEncrypt key₁ block₁ ++ desEncrypt key₂ block₂) ≡ 16
 two-blocks key₁ block₁ key₂ block₂ =
     length-append (desEncrypt key₁ block₁) (desEncrypt key₂ block₂) ∙ ap₂ (λ (m n : ℕ). m + n) (length-encrypt key₁ block₁) (length-encrypt key₂ block₂)
-
-pub length-lm : (password : List ℕ) → length (lmHashOf password) ≡ 16
-unfolding lmHashOf
-length-lm password = two-blocks _ _ _ _
 
 pub length-response : (hash challenge : List ℕ) → length (responseOf hash challenge) ≡ 24
 unfolding responseOf
@@ -84,24 +81,24 @@ module _ (filler password : List ℕ) (room : length filler ≡ 512) (fits : len
       over-fills (plainBlock filler password) (replicate 512 0) (omega (arith, length-plain))
       ∙ ap (take 512) plain-parts ∙ take-at (front ++ password) (toLe 4 (length password)) 512 body-length
 
-  opened-plain : (old : List ℕ) → crypted old (sealedBlock old filler password) ≡ plainBlock filler password
+  unsealed-plain : (old : List ℕ) → crypted old (sealedBlock old filler password) ≡ plainBlock filler password
   unfolding sealedBlock
-  opened-plain old = crypted-twice old (plainBlock filler password)
+  unsealed-plain old = crypted-twice old (plainBlock filler password)
 
   pub length-sealed : (old : List ℕ) → length (sealedBlock old filler password) ≡ 516
-  length-sealed old = sym (length-crypted old (sealedBlock old filler password)) ∙ ap length (opened-plain old) ∙ length-plain
+  length-sealed old = sym (length-crypted old (sealedBlock old filler password)) ∙ ap length (unsealed-plain old) ∙ length-plain
 
-  pub open-sealed : (old : List ℕ) → openedAs old (sealedBlock old filler password) ≡ record { content = contentFor (length password); octets = front ++ password }
-  unfolding openedAs
-  open-sealed old =
-      ap (λ (x : List ℕ). record { content = contentFor (lengthIn x); octets = fixed 512 x }) (opened-plain old)
+  pub unseal-sealed : (old : List ℕ) → unsealedAs old (sealedBlock old filler password) ≡ record { content = contentFor (length password); octets = front ++ password }
+  unfolding unsealedAs
+  unseal-sealed old =
+      ap (λ (x : List ℕ). record { content = contentFor (lengthIn x); octets = fixed 512 x }) (unsealed-plain old)
       ∙ ap₂ (λ (n : ℕ) (x : List ℕ). record { content = contentFor n; octets = x }) length-read body-read
 
   -- the password, for every old hash
-  pub password-sealed : (old : List ℕ) → passwordIn (openedAs old (sealedBlock old filler password)) (length password) ≡ password
+  pub password-sealed : (old : List ℕ) → passwordIn (unsealedAs old (sealedBlock old filler password)) (length password) ≡ password
   unfolding passwordIn
   password-sealed old =
-      ap (λ (x : Opened). part (512 - length password) (length password) (x .octets)) (open-sealed old)
+      ap (λ (x : Unsealed). part (512 - length password) (length password) (x .octets)) (unseal-sealed old)
       ∙ ap (take (length password)) (drop-at front password (512 - length password) front-length)
       ∙ take-all (length password) password (omega arith)
 
@@ -110,6 +107,15 @@ module _ (filler password : List ℕ) (room : length filler ≡ 512) (fits : len
 pub content-password : (n : ℕ) → n ≤ 512 → n % 2 ≡ 0 → contentFor n ≡ Password n
 unfolding contentFor
 content-password n h e = simp (le-ltb 512 n h, ne-eqb (n % 2) 1 (λ o. omega (arith, o, e)))
+
+pub length-told : (n : ℕ) → lengthTold (contentFor n) ≡ passwordLength n
+unfolding contentFor passwordLength
+length-told n = which (ltb 512 n) (eqb (n % 2) 1)
+  where
+    which : (a b : Bool) → lengthTold (cond a Over (cond b Odd (Password n))) ≡ cond (a || b) none (some n)
+    which true b = refl
+    which false true = refl
+    which false false = refl
 
 sound-for : (n : ℕ) → Sound (contentFor n)
 unfolding contentFor
@@ -122,9 +128,9 @@ sound-for n = which (ltb 512 n) (eqb (n % 2) 1) refl refl
         let even : n % 2 ≡ 1 → ⊥ = eqb-false (n % 2) 1 q in
         (ltb-false 512 n p, omega arith)
 
-pub sound-opened : (old block : List ℕ) → Sound (openedAs old block .content)
-unfolding openedAs
-sound-opened old block = sound-for (lengthIn (crypted old block))
+pub sound-unsealed : (old block : List ℕ) → Sound (unsealedAs old block .content)
+unfolding unsealedAs
+sound-unsealed old block = sound-for (lengthIn (crypted old block))
 
 -- a password that is not refused has such a length
 pub good-password : (password : List ℕ) → badNtPassword password ≡ false → (length password ≤ 512) × (length password % 2 ≡ 0)

@@ -2,6 +2,7 @@
 -- Assumes nothing: these are definitions.
 use mathlib.Core.Bool.{Bool, cond, not, _||_}
 use mathlib.Core.List.{List, [], _∷_, _++_, map}
+use mathlib.Core.Option.{Option, none, some}
 use mathlib.Core.Path.{_≡_}
 use Prim.Native.Nat.{ℕ, _-_, _%_, _≤_}
 use lib.Dec.{eqb, ltb}
@@ -15,7 +16,7 @@ use Rattle.rc4.specs.Rc4.{crypted}
 use Rattle.credentials.specs.declared.Hashed.{Hashed}
 use Rattle.credentials.specs.declared.Content.{Content}
 use Rattle.credentials.specs.declared.Content.the-variants.{Over, Odd, Password}
-use Rattle.credentials.specs.declared.Opened.{Opened}
+use Rattle.credentials.specs.declared.Unsealed.{Unsealed}
 use Rattle.credentials.specs.declared.Sealed.{Sealed}
 
 -- ---- hashes
@@ -71,7 +72,7 @@ plainBlock filler password = take (512 - length password) filler ++ (password ++
 unfoldable pub sealedBlock : List ℕ → List ℕ → List ℕ → List ℕ
 sealedBlock old filler password = crypted old (plainBlock filler password)
 
--- refusal 12: a filler has 512 octets
+-- refusal 12: not 512 octets
 abbrev pub badFiller : List ℕ → Bool
 badFiller filler = not (eqb (length filler) 512)
 
@@ -94,6 +95,16 @@ lengthIn plain = fromLe (part 512 4 plain)
 unfoldable pub contentFor : ℕ → Content
 contentFor n = cond (ltb 512 n) Over (cond (eqb (n % 2) 1) Odd (Password n))
 
+-- the password's length that it tells, or none
+abbrev pub lengthTold : Content → Option ℕ
+lengthTold Over = none
+lengthTold Odd = none
+lengthTold (Password n) = some n
+
+-- a length of at most 512, even
+unfoldable pub passwordLength : ℕ → Option ℕ
+passwordLength n = cond (ltb 512 n || eqb (n % 2) 1) none (some n)
+
 -- a password's length as an opened block gives it
 abbrev pub Sound : Content → Type 0
 Sound Over = Unit {0}
@@ -101,9 +112,9 @@ Sound Odd = Unit {0}
 Sound (Password n) = (n ≤ 512) × (n % 2 ≡ 0)
 
 -- opening a block: what it holds, and its 512 octets, of which a password is the last
-unfoldable pub openedAs : List ℕ → List ℕ → Opened
-openedAs old block = record { content = contentFor (lengthIn (crypted old block)); octets = fixed 512 (crypted old block) }
+unfoldable pub unsealedAs : List ℕ → List ℕ → Unsealed
+unsealedAs old block = record { content = contentFor (lengthIn (crypted old block)); octets = fixed 512 (crypted old block) }
 
 -- the password of n octets in an opened block
-unfoldable pub passwordIn : Opened → ℕ → List ℕ
+unfoldable pub passwordIn : Unsealed → ℕ → List ℕ
 passwordIn opened n = part (512 - n) n (opened .octets)

@@ -3,7 +3,8 @@ ghost use mathlib.Core.Path.{_≡_};
 ghost use mathlib.Core.List.{_++_};
 ghost use Prim.Native.Nat.{_≤_};
 ghost use lib.ListN.{length};
-ghost use Rattle.credentials.specs.Credentials.{upper, ntHashOf, badNtPassword, lmKeys, lmHashOf, badLmPassword, hashed, responseOf, oldUnderNew, plainBlock, sealedAs, contentFor, openedAs};
+ghost use Rattle.rc4.specs.Rc4.{crypted};
+ghost use Rattle.credentials.specs.Credentials.{upper, ntHashOf, badNtPassword, lmKeys, lmHashOf, badLmPassword, hashed, responseOf, oldUnderNew, plainBlock, sealedAs, lengthIn, contentFor, lengthTold, passwordLength, unsealedAs};
 
 // A hash, or a refusal (8) with sixteen octets 0. 0 is no refusal.
 pub struct Hashed {
@@ -25,7 +26,7 @@ pub enum Content {
 }
 
 // An opened block: what it holds, and its octets, of which a password is the last. (An enum can hold no array.)
-pub struct Opened {
+pub struct Unsealed {
     pub content: Content,
     pub octets: [u8; 512],
 }
@@ -190,13 +191,13 @@ fn content_of(n: u32) -> Content
 }
 
 // Opens a block under the old hash.
-pub fn open(old: [u8; 16], block: [u8; 516]) -> Opened
-    ensures { λ r. ⌜ r ≡ openedAs old block ⌝ }
+pub fn unseal(old: [u8; 16], block: [u8; 516]) -> Unsealed
+    ensures { λ r. ⌜ (r ≡ unsealedAs old block) × (lengthTold (r .content) ≡ passwordLength (lengthIn (crypted old block))) ⌝ }
 {
     let mut plain = block;
     rc4::rc4(&old, &mut plain);
     let content = content_of(octets::u32_from_le(plain[512], plain[513], plain[514], plain[515]));
     let mut octets = [0u8; 512];
     octets::copy(&mut octets, &plain);
-    Opened { content, octets }
+    Unsealed { content, octets }
 }

@@ -47,7 +47,7 @@ pub(crate) fn account(expired: bool) -> Lookup {
                 octets: [0; 16],
             },
             disabled: false,
-            hours: false,
+            barred: false,
             nodialin: false,
             expired,
         },

@@ -70,7 +70,7 @@ fn meaning(code: u8, octets: &[u8]) {
         3 => say(b"The box lets the peer in."),
         4 => say(octets::part_of(octets, 4, 256)),
         6 => say(
-            b"The peer sends a new password, sealed under the old one's hash, and proves that it knows both.",
+            b"The peer sends a new password, sealed under the old one's hash, to show that it knows both.",
         ),
         _ => say(b"This is no packet of MS-CHAP."),
     }

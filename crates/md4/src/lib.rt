@@ -29,7 +29,7 @@ fn rotate(x: u32, s: u32) -> u32
     (x << s) | (x >> (32 - s))
 }
 
-// F in three operations; on z, the register that is known last, only one of them waits.
+// F in three operations. Two of them wait for x, the register that is known last.
 fn choose(x: u32, y: u32, z: u32) -> u32
     ensures { λ r. ⌜ r ≡ auxF x y z ⌝ }
 {

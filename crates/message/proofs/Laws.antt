@@ -1,11 +1,11 @@
 -- The laws of a Failure message for other crates to cite: the text that is written reads as its numbers, what a failure calls for is the one
--- call that fits it, and a reading's refusal number.
+-- call that fits it, and a reading's number and values.
 -- Assumes nothing.
 use mathlib.Core.Path.{_≡_, refl, sym, ap, _∙_}
 use mathlib.Core.Bool.{Bool, true, false, cond, not, _&&_, _||_, and-eq-true-iff, false≢true}
 use mathlib.Core.List.{List, [], _∷_}
 use mathlib.Core.Option.{Option, none, some}
-use Prim.Native.Nat.{ℕ, _+_, _/_, _%_, _<_}
+use Prim.Native.Nat.{ℕ, _/_, _%_, _<_}
 use native.Mathlib.Omega.{arith}
 use borrow.Author.Tests.{lt-ltb, lt-leb, ne-eqb, eqb-true, ltb-true, ltb-false, leb-false}
 use lib.Dec.{eqb, leb, ltb}
@@ -15,11 +15,11 @@ use Rattle.octets.proofs.Digits.{digit-back}
 use Rattle.message.specs.declared.Call.{Call}
 use Rattle.message.specs.declared.Call.the-variants.{Retry, ChangeTwo, ChangeOne, End}
 use Rattle.message.specs.declared.Reading.{Reading}
-use Rattle.message.specs.Message.{words, allBelow, isField, fieldOf, first, fieldE, numberFrom, callFits, calledFor, numberOf, noC, refusedWith, failedWith, readFields, readMessage, isNone, messageRefusal, textOf}
+use Rattle.message.specs.Message.{words, isField, fieldOf, first, fieldE, numberFrom, callFits, calledFor, numberOf, valuesOf, noC, refusedWith, failedWith, readFields, readMessage, isNone, messageRefusal, fieldValues, messageValues, textOf}
 
--- ---- the refusal
+-- ---- the number and the values of what is read
 
-pub refusal-number : (m : List ℕ) → numberOf (readMessage m .verdict) ≡ messageRefusal m
+refusal-number : (m : List ℕ) → numberOf (readMessage m .verdict) ≡ messageRefusal m
 unfolding readMessage messageRefusal
 refusal-number m = which (ltb 256 (length m)) (first fieldE (words m))
   where
@@ -28,6 +28,24 @@ refusal-number m = which (ltb 256 (length m)) (first fieldE (words m))
     which true e = refl
     which false none = refl
     which false (some ds) = refl
+
+values-read : (m : List ℕ) → valuesOf (readMessage m .verdict) ≡ messageValues m
+unfolding readMessage messageValues
+values-read m = which (ltb 256 (length m)) (first fieldE (words m))
+  where
+    which : (over : Bool) (e : Option (List ℕ))
+        → valuesOf (cond {A = Reading} over (refusedWith 11) (readFields (words m) e) .verdict) ≡ cond over [] (fieldValues (words m) e)
+    which true e = refl
+    which false none = refl
+    which false (some ds) = refl
+
+pub message-told : (m : List ℕ) {r : Reading} → r ≡ readMessage m
+    → (r ≡ readMessage m) × (numberOf (r .verdict) ≡ messageRefusal m) × (valuesOf (r .verdict) ≡ messageValues m)
+message-told m e = (
+  e,
+  ap (λ (x : Reading). numberOf (x .verdict)) e ∙ refusal-number m,
+  ap (λ (x : Reading). valuesOf (x .verdict)) e ∙ values-read m,
+)
 
 -- ---- what a failure calls for
 
@@ -70,22 +88,6 @@ length-text e r v = refl
 no-space : (d : ℕ) → d < 10 → eqb (hexOf d) 32 ≡ false
 unfolding digitOf
 no-space d h = ne-eqb (hexOf d) 32 (λ e. omega (arith, sym (digit-back d (omega arith)) ∙ ap digitOf e))
-
-octet : (d : ℕ) → d < 10 → ltb (hexOf d) 256 ≡ true
-unfolding hexOf
-octet d h = simp (lt-ltb d 10 h) (lt-ltb (d + 48) 256 (omega arith))
-
--- each of its octets is one
-pub text-octets : (e r v : ℕ) → allBelow 256 (textOf e r v) ≡ true
-unfolding textOf
-text-octets e r v =
-    simp (
-      octet (e / 100 % 10) (omega arith),
-      octet (e / 10 % 10) (omega arith),
-      octet (e % 10) (omega arith),
-      octet (r % 10) (omega arith),
-      octet (v % 10) (omega arith),
-    )
 
 module _ (a b c d f : ℕ) (ha : a < 10) (hb : b < 10) (hc : c < 10) (hd : d < 2) (hf : f < 10) where
   digits-words : words (69 ∷ 61 ∷ hexOf a ∷ hexOf b ∷ hexOf c ∷ 32 ∷ 82 ∷ 61 ∷ hexOf d ∷ 32 ∷ 86 ∷ 61 ∷ hexOf f ∷ [])

@@ -105,6 +105,12 @@ numberOf Success = 0
 numberOf (Failure f) = 0
 numberOf (Refused n) = n
 
+-- and its values: E, R and V of a failure
+abbrev pub valuesOf : Verdict → List ℕ
+valuesOf Success = []
+valuesOf (Failure f) = f .e ∷ f .r ∷ f .v ∷ []
+valuesOf (Refused n) = []
+
 -- C's octets beside the verdict; 00 where none is given
 abbrev pub noC : Given
 noC = record { given = false; octets = replicate 8 0 }
@@ -129,13 +135,21 @@ readFields ws (some e) =
 unfoldable pub readMessage : List ℕ → Reading
 readMessage m = cond (ltb 256 (length m)) (refusedWith 11) (readFields (words m) (first fieldE (words m)))
 
--- the number with which a message is refused: over 256 octets or without E, 11
 abbrev pub isNone : Option (List ℕ) → Bool
 isNone none = true
 isNone (some ds) = false
 
+-- the number with which a message is refused: over 256 octets or without E, 11
 unfoldable pub messageRefusal : List ℕ → ℕ
 messageRefusal m = cond (ltb 256 (length m) || isNone (first fieldE (words m))) 11 0
+
+-- E, R (0 where it is missing) and V (1 where it is missing) of a message that is not refused
+abbrev pub fieldValues : List (List ℕ) → Option (List ℕ) → List ℕ
+fieldValues ws none = []
+fieldValues ws (some e) = numberFrom 10 0 e ∷ numberOr 2 0 (first fieldR ws) ∷ numberOr 10 1 (first fieldV ws) ∷ []
+
+unfoldable pub messageValues : List ℕ → List ℕ
+messageValues m = cond (ltb 256 (length m)) [] (fieldValues (words m) (first fieldE (words m)))
 
 -- ---- the text that is written: `E=691 R=1 V=2` with the numbers set, of which the three, one and one last decimal digits count
 unfoldable pub textOf : ℕ → ℕ → ℕ → List ℕ

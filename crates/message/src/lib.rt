@@ -6,7 +6,7 @@ ghost use Prim.Native.Nat.{_-_, _%_, _≤_, _<_};
 ghost use lib.ListN.{length, drop};
 ghost use Rattle.octets.specs.Digits.{digitOf, hexOf};
 ghost use Rattle.octets.specs.Parts.{part};
-ghost use Rattle.message.specs.Message.{words, allBelow, isField, first, fieldE, numberFrom, numberOr, pairs, calledFor, numberOf, givenAs, refusedWith, readFields, readMessage, messageRefusal, textOf};
+ghost use Rattle.message.specs.Message.{words, allBelow, isField, first, fieldE, numberFrom, numberOr, pairs, calledFor, numberOf, valuesOf, noC, givenAs, refusedWith, readFields, readMessage, messageRefusal, messageValues, textOf};
 ghost use Rattle.message.specs.Walk.{digitsAt, toldAt, toldIn, toldOf, joined, orPlace, Where, Small, Eight, rest, Inside, isLetter, fitting};
 
 // What a failure calls for.
@@ -241,6 +241,16 @@ fn number_or(message: &[u8], place: Place, base: u64, missing: u64) -> u64
     }
 }
 
+// No C is given.
+pub fn no_c() -> Given
+    ensures { λ r. ⌜ r ≡ noC ⌝ }
+{
+    Given {
+        given: false,
+        octets: [0; 8],
+    }
+}
+
 // The octets of the field C at a place.
 fn given_at(message: &[u8], place: Place) -> Given
     requires { ⌜ Where Eight (digitsAt (now message) place) ⌝ }
@@ -254,10 +264,7 @@ fn given_at(message: &[u8], place: Place) -> Given
                 octets,
             }
         }
-        Place::Nowhere => Given {
-            given: false,
-            octets: [0u8; 8],
-        },
+        Place::Nowhere => no_c(),
     }
 }
 
@@ -280,16 +287,14 @@ fn called_for(e: u64, r: u64, v: u64) -> Call
     Call::End
 }
 
-// Refusal 11, and no C.
-fn refused() -> Reading
-    ensures { λ r. ⌜ r ≡ refusedWith 11 ⌝ }
+// A refusal, and no C.
+pub fn refused_with(number: u8) -> Reading
+    ensures { λ r. ⌜ r ≡ refusedWith number ⌝ }
 {
+    let c = no_c();
     Reading {
-        verdict: Verdict::Refused(11),
-        c: Given {
-            given: false,
-            octets: [0u8; 8],
-        },
+        verdict: Verdict::Refused(number),
+        c,
     }
 }
 
@@ -314,16 +319,16 @@ fn judge(message: &[u8], f: Fields) -> Reading
                 c,
             }
         }
-        Place::Nowhere => refused(),
+        Place::Nowhere => refused_with(11),
     }
 }
 
 // What a Failure packet's message says to the peer.
 pub fn read(message: &[u8]) -> Reading
-    ensures { λ r. ⌜ (r ≡ readMessage (now (message .entry))) × (numberOf (r .verdict) ≡ messageRefusal (now (message .entry))) ⌝ }
+    ensures { λ r. ⌜ (r ≡ readMessage (now (message .entry))) × (numberOf (r .verdict) ≡ messageRefusal (now (message .entry))) × (valuesOf (r .verdict) ≡ messageValues (now (message .entry))) ⌝ }
 {
     if 256 < message.len() {
-        return refused();
+        return refused_with(11);
     }
     let none = Fields {
         e: Place::Nowhere,

@@ -7,10 +7,10 @@ use mathlib.Core.Path.{_≡_, refl}
 use Prim.Native.Nat.{ℕ, _%_}
 use lib.Dec.{eqb}
 use lib.ListN.{length}
-use Rattle.credentials.specs.Credentials.{openedAs, passwordIn}
+use Rattle.credentials.specs.Credentials.{unsealedAs, passwordIn}
 use Rattle.credentials.specs.declared.Content.{Content}
 use Rattle.credentials.specs.declared.Content.the-variants.{Over, Odd, Password}
-use Rattle.credentials.specs.declared.Opened as blocks
+use Rattle.credentials.specs.declared.Unsealed as blocks
 use Rattle.credentials.proofs.Laws.{length-nt}
 use Rattle.packets.specs.Next.{grown}
 use Rattle.packets.specs.Response.{responseIn}
@@ -68,7 +68,7 @@ module _ (c : Conversation) (s : SizedConversation c) where
   Whole none = Unit {0}
   Whole (some h) = length h ≡ 16
 
-  inside-whole : (k : Content) (o : blocks.Opened) → Whole (hashInside k o)
+  inside-whole : (k : Content) (o : blocks.Unsealed) → Whole (hashInside k o)
   inside-whole Over o = tt
   inside-whole Odd o = tt
   inside-whole (Password n) o = length-nt (passwordIn o n)
@@ -84,7 +84,7 @@ module _ (c : Conversation) (s : SizedConversation c) where
   new-whole : (f : changes.Change) → Whole (newHash c f)
   unfolding newHash
   new-whole f =
-      let o = openedAs (c .kept .nt .octets) (f .block) in
+      let o = unsealedAs (c .kept .nt .octets) (f .block) in
       choice-whole (c .kept .nt .present && eqb (f .flags % 2) 1) (proven c f (hashIn o)) (proven-whole f (hashIn o) (inside-whole (o .content) o))
 
   drawn-by-sized : (x : Option (List ℕ)) → Whole x → SizedDrawn (drawnBy c x)

@@ -50,15 +50,15 @@ unfolding layout.accountRun
 length-account a s = simp (length-append, s .nt, s .lm)
 
 account-same : {n n' l l' : Hash} {d d' h h' o o' e e' : Bool} → n ≡ n' → l ≡ l' → d ≡ d' → h ≡ h' → o ≡ o' → e ≡ e'
-    → _≡_ {A = Account} (record { nt = n; lm = l; disabled = d; hours = h; nodialin = o; expired = e })
-    (record { nt = n'; lm = l'; disabled = d'; hours = h'; nodialin = o'; expired = e' })
+    → _≡_ {A = Account} (record { nt = n; lm = l; disabled = d; barred = h; nodialin = o; expired = e })
+    (record { nt = n'; lm = l'; disabled = d'; barred = h'; nodialin = o'; expired = e' })
 account-same e₁ e₂ e₃ e₄ e₅ e₆ = cc
 
 pub account-back : (a : Account) → SizedAccount a → layout.accountIn (layout.accountRun a) ≡ a
 unfolding layout.accountRun layout.accountIn
 account-back a s =
     account-same (ap layout.hashIn (first .0) ∙ hash-back (a .nt) (s .nt)) (ap layout.hashIn (second .0) ∙ hash-back (a .lm) (s .lm))
-    (marked 0 ∙ mark-back (a .disabled)) (marked 1 ∙ mark-back (a .hours)) (marked 2 ∙ mark-back (a .nodialin)) (marked 3 ∙ mark-back (a .expired))
+    (marked 0 ∙ mark-back (a .disabled)) (marked 1 ∙ mark-back (a .barred)) (marked 2 ∙ mark-back (a .nodialin)) (marked 3 ∙ mark-back (a .expired))
   where
     nt : List ℕ
     nt = layout.hashRun (a .nt)
@@ -67,7 +67,7 @@ account-back a s =
     lm = layout.hashRun (a .lm)
 
     marks : List ℕ
-    marks = layout.mark (a .disabled) ∷ layout.mark (a .hours) ∷ layout.mark (a .nodialin) ∷ layout.mark (a .expired) ∷ []
+    marks = layout.mark (a .disabled) ∷ layout.mark (a .barred) ∷ layout.mark (a .nodialin) ∷ layout.mark (a .expired) ∷ []
 
     run : List ℕ
     run = nt ++ (lm ++ marks)

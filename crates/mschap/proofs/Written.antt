@@ -17,13 +17,13 @@ pub laid-whole : {l xs b : List ℕ} {n : ℕ} → Laid l xs n b → length l �
 laid-whole {l} {xs} s e = s .same ∙ filled xs l (e ∙ sym (s .long))
 
 -- the pieces are those of the layout
-pub account-pieces : (a : Account) {nt lm : List ℕ} {d h n e : ℕ} → nt ≡ hashRun (a .nt) → lm ≡ hashRun (a .lm) → d ≡ mark (a .disabled) → h ≡ mark (a .hours)
+pub account-pieces : (a : Account) {nt lm : List ℕ} {d h n e : ℕ} → nt ≡ hashRun (a .nt) → lm ≡ hashRun (a .lm) → d ≡ mark (a .disabled) → h ≡ mark (a .barred)
     → n ≡ mark (a .nodialin) → e ≡ mark (a .expired) → (nt ++ lm) ++ (d ∷ h ∷ n ∷ e ∷ []) ≡ accountRun a
 unfolding accountRun
 account-pieces a {nt} {lm} {d} {h} {n} {e} e₁ e₂ e₃ e₄ e₅ e₆ = append-assoc nt lm (d ∷ h ∷ n ∷ e ∷ []) ∙ pieces
   where
     pieces : nt ++ (lm ++ (d ∷ h ∷ n ∷ e ∷ []))
-        ≡ hashRun (a .nt) ++ (hashRun (a .lm) ++ (mark (a .disabled) ∷ mark (a .hours) ∷ mark (a .nodialin) ∷ mark (a .expired) ∷ []))
+        ≡ hashRun (a .nt) ++ (hashRun (a .lm) ++ (mark (a .disabled) ∷ mark (a .barred) ∷ mark (a .nodialin) ∷ mark (a .expired) ∷ []))
     pieces = cc
 
 pub conversation-pieces : (c : Conversation) {code lm : ℕ} {kept : List ℕ} → code ≡ awaitedCode (c .phase) → lm ≡ mark (c .terms .lm) → kept ≡ accountRun (c .kept)

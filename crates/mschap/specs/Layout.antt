@@ -39,10 +39,10 @@ hashRun h = mark (h .present) ∷ h .octets
 abbrev pub hashIn : List ℕ → Hash
 hashIn run = record { present = isMark (octet 0 run); octets = fixed 16 (part 1 16 run) }
 
--- an account, 38 octets: the NT hash 17, the LM hash 17, disabled, hours, no dial-in, expired
+-- an account, 38 octets: the NT hash 17, the LM hash 17, disabled, barred by hours, no dial-in, expired
 unfoldable pub accountRun : Account → List ℕ
 accountRun a =
-    hashRun (a .nt) ++ (hashRun (a .lm) ++ (mark (a .disabled) ∷ mark (a .hours) ∷ mark (a .nodialin) ∷ mark (a .expired) ∷ []))
+    hashRun (a .nt) ++ (hashRun (a .lm) ++ (mark (a .disabled) ∷ mark (a .barred) ∷ mark (a .nodialin) ∷ mark (a .expired) ∷ []))
 
 unfoldable pub accountIn : List ℕ → Account
 accountIn run =
@@ -50,7 +50,7 @@ accountIn run =
       nt = hashIn (part 0 17 run);
       lm = hashIn (part 17 17 run);
       disabled = isMark (octet 34 run);
-      hours = isMark (octet 35 run);
+      barred = isMark (octet 35 run);
       nodialin = isMark (octet 36 run);
       expired = isMark (octet 37 run);
     }

@@ -7,7 +7,6 @@ ghost use Rattle.des.specs.Des.{desEncrypt, desDecrypt};
 ghost use Rattle.credentials.specs.Credentials.{responseOf};
 ghost use Rattle.mschap.specs.Call.{sized, numbered, left, ntHashed, lmHashed};
 use crate::runs::hand;
-use crate::runs::sixteen_at;
 use crate::runs::wide;
 
 // The MD4 digest of at most 4,096 octets. 8: more octets.
@@ -43,7 +42,7 @@ pub extern "C" fn mschap_des_encrypt(key: &[u8], block: &[u8], out: &mut [u8]) -
     hand(0, &result, out)
 }
 
-// The block that DES made so.
+// The inverse of mschap_des_encrypt.
 #[no_mangle]
 pub extern "C" fn mschap_des_decrypt(key: &[u8], block: &[u8], out: &mut [u8]) -> u32
     ensures { λ r. ⌜ (r ≡ numbered (sized 7 (now (key .entry)) && (sized 8 (now (block .entry)) && sized 8 (now (out .entry)))) 0) × (now (out .exit) ≡ left r (desDecrypt (now (key .entry)) (now (block .entry))) (now (out .entry))) ⌝ }
@@ -94,7 +93,7 @@ pub extern "C" fn mschap_challenge_response(
         return 100;
     }
     let result = credentials::challenge_response(
-        sixteen_at(hash, 0),
+        octets::sixteen_at(hash, 0),
         octets::eight_at(challenge, 0),
     );
     hand(0, &result, response)

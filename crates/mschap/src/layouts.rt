@@ -1,5 +1,4 @@
 // Values as runs of octets: what each layout writes and reads, and whether a run is what a value writes.
-use crate::runs::sixteen_at;
 use authenticator::Account;
 use authenticator::Conversation;
 use authenticator::Hash;
@@ -41,7 +40,7 @@ fn hash_in(run: &[u8]) -> Hash
     ensures { λ r. ⌜ r ≡ hashIn (now (run .entry)) ⌝ }
 {
     let present = is_mark(packets::octet(run, 0));
-    let octets = sixteen_at(run, 1);
+    let octets = octets::sixteen_at(run, 1);
     Hash { present, octets }
 }
 
@@ -55,7 +54,7 @@ fn account_run(account: Account) -> [u8; 38]
     let second = hash_run(lm);
     let marks = [
         mark(account.disabled),
-        mark(account.hours),
+        mark(account.barred),
         mark(account.nodialin),
         mark(account.expired),
     ];
@@ -71,14 +70,14 @@ fn account_in(run: &[u8]) -> Account
     let nt = hash_in(octets::part_of(run, 0, 17));
     let lm = hash_in(octets::part_of(run, 17, 17));
     let disabled = is_mark(packets::octet(run, 34));
-    let hours = is_mark(packets::octet(run, 35));
+    let barred = is_mark(packets::octet(run, 35));
     let nodialin = is_mark(packets::octet(run, 36));
     let expired = is_mark(packets::octet(run, 37));
     Account {
         nt,
         lm,
         disabled,
-        hours,
+        barred,
         nodialin,
         expired,
     }
@@ -115,16 +114,6 @@ pub fn is_record(run: &[u8]) -> bool
 
 // ---- conversations
 
-fn phase_code(phase: Phase) -> u8
-    ensures { λ r. ⌜ r ≡ awaitedCode phase ⌝ }
-{
-    match phase {
-        Phase::Response => 2,
-        Phase::Change => 6,
-        Phase::Ended => 0,
-    }
-}
-
 fn phase_of(code: u8) -> Phase
     ensures { λ r. ⌜ r ≡ phaseOf code ⌝ }
 {
@@ -146,7 +135,7 @@ pub fn conversation_run(conversation: Conversation) -> [u8; 50]
     let challenge = conversation.challenge;
     let kept = conversation.kept;
     let head = [
-        phase_code(phase),
+        authenticator::awaited_code(phase),
         mark(terms.lm),
         conversation.id,
         conversation.retries,

@@ -10,15 +10,6 @@ pub fn wide(n: u8) -> u32
     n as u32
 }
 
-// The sixteen octets of s from the place at on; 0 for those that s does not reach.
-pub fn sixteen_at(s: &[u8], at: usize) -> [u8; 16]
-    ensures { λ r. ⌜ r ≡ fixed 16 (part at 16 (now (s .entry))) ⌝ }
-{
-    let mut octets = [0u8; 16];
-    octets::copy(&mut octets, octets::part_of(s, at, 16));
-    octets
-}
-
 // Fills out with a run of its size, unless there is a refusal. Answers the number of the call: 100 where out has another size.
 pub fn hand(refusal: u8, run: &[u8], out: &mut [u8]) -> u32
     ensures { λ r. ⌜ (r ≡ numbered (sized (length (now (run .entry))) (now (out .entry))) refusal) × (now (out .exit) ≡ left r (now (run .entry)) (now (out .entry))) ⌝ }

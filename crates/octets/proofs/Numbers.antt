@@ -3,7 +3,7 @@
 use mathlib.Core.Path.{_≡_, refl, sym, ap, ap₂, _∙_, subst}
 use mathlib.Core.List.{List, [], _∷_}
 use Prim.Native.Nat.{ℕ, zero, suc, _+_, _*_, _/_, _%_, _^_, _<_}
-use native.Mathlib.Nat.{mod-one, mod-lt, add-comm, add-assoc, add-mul, mul-assoc, mul-suc, mul-zero, zero-mul, zero-add}
+use native.Mathlib.Nat.{mod-one, add-comm, add-assoc, add-mul, mul-assoc, mul-suc, mul-zero, zero-mul, zero-add}
 use native.Mathlib.Omega.{arith}
 use lib.Arith.{digits-lt, digits-mod}
 use lib.ListN.{length, getD}
@@ -30,11 +30,6 @@ module _ (w : ℕ) where
   pub length-digits : (n x : ℕ) → length (toDigits w n x) ≡ n
   length-digits zero x = refl
   length-digits (suc n) x = ap suc (length-digits n x)
-
-  pub to-below : (n x : ℕ) → Below (2 ^ w) (toDigits w n x)
-  to-below zero x i = pow-pos w
-  to-below (suc n) x zero = mod-lt (x / 2 ^ (w * n)) (pow-pos w)
-  to-below (suc n) x (suc i) = to-below n x i
 
   pub digits-below : (l : List ℕ) → Below (2 ^ w) l → fromDigits w l < 2 ^ (w * length l)
   digits-below [] h = pow-pos (w * 0)
@@ -71,9 +66,6 @@ module _ (w : ℕ) where
       ap (toDigits w (length l)) (sym (ap (λ (v : ℕ). v + x) (zero-mul (2 ^ (w * length l))) ∙ zero-add x)) ∙ found-after l h 0
 
 -- as octets
-
-pub length-toBe : (n x : ℕ) → length (toBe n x) ≡ n
-length-toBe n x = length-digits 8 n x
 
 pub fromBe-lt : (l : List ℕ) → Octets l → fromBe l < 2 ^ (8 * length l)
 fromBe-lt l h = digits-below 8 l h

@@ -1,13 +1,10 @@
--- Laws of exclusive or and of masks that the kit lacks, each one computed test.
+-- Laws of exclusive or and of masks that lib.Bits lacks, each one computed test.
 -- Assumes nothing.
 use mathlib.Core.Path.{_≡_, sym, ap, _∙_}
 use mathlib.Core.List.{[], _∷_}
 use Prim.Native.Nat.{ℕ}
 use lib.Bits.{bitAnd, bitXor, xor-zero-l}
 use Rattle.octets.proofs.Bitwise.{at, and, xor, bitwise}
-
-pub xor-assoc : (a b c : ℕ) → bitXor (bitXor a b) c ≡ bitXor a (bitXor b c)
-xor-assoc a b c = bitwise (xor (xor (at 0) (at 1)) (at 2)) (xor (at 0) (xor (at 1) (at 2))) (a ∷ b ∷ c ∷ []) tt
 
 -- the middle two change places
 pub xor-swap : (a b c d : ℕ) → bitXor (bitXor a b) (bitXor c d) ≡ bitXor (bitXor a c) (bitXor b d)

@@ -41,6 +41,15 @@ pub fn eight_at(s: &[u8], at: usize) -> [u8; 8]
     octets
 }
 
+// The sixteen octets of s from the place at on, as for a hash; 0 for those that s does not reach.
+pub fn sixteen_at(s: &[u8], at: usize) -> [u8; 16]
+    ensures { λ r. ⌜ r ≡ fixed 16 (part at 16 (now (s .entry))) ⌝ }
+{
+    let mut octets = [0u8; 16];
+    copy(&mut octets, part_of(s, at, 16));
+    octets
+}
+
 // Lays source over the front of target: what it does not reach is unchanged, and what of it finds no place is left out.
 pub fn copy(target: &mut [u8], source: &[u8])
     ensures { λ _. ⌜ now (target .exit) ≡ over (now (source .entry)) (now (target .entry)) ⌝ }

@@ -16,6 +16,6 @@ pub asked-same : {a a' b b' : ℕ} {c c' : List ℕ} → a ≡ a' → b ≡ b' �
 asked-same h₁ h₂ h₃ = cc
 
 pub change-same : {a a' b b' c c' d d' e e' f f' : List ℕ} {g g' : ℕ} → a ≡ a' → b ≡ b' → c ≡ c' → d ≡ d' → e ≡ e' → f ≡ f' → g ≡ g'
-    → _≡_ {A = Change} (record { block = a; proof = b; lmblock = c; lmproof = d; lm = e; nt = f; flags = g })
-    (record { block = a'; proof = b'; lmblock = c'; lmproof = d'; lm = e'; nt = f'; flags = g' })
+    → _≡_ {A = Change} (record { block = a; verifier = b; lmblock = c; lmverifier = d; lm = e; nt = f; flags = g })
+    (record { block = a'; verifier = b'; lmblock = c'; lmverifier = d'; lm = e'; nt = f'; flags = g' })
 change-same h₁ h₂ h₃ h₄ h₅ h₆ h₇ = cc

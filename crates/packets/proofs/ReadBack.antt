@@ -86,13 +86,13 @@ pub change-back : (id : ℕ) (f : Change) (t : List ℕ) → Sized f → f .flag
 unfolding changePacket changeRefusal
 change-back id f t s small =
     let p = changePacket id f ++ t in
-    let g = frame-good 6 id (f .block ++ (f .proof ++ (f .lmblock ++ (f .lmproof ++ (f .lm ++ (f .nt ++ toBe 2 (f .flags))))))) t (omega (arith, length-fields f s)) in
+    let g = frame-good 6 id (f .block ++ (f .verifier ++ (f .lmblock ++ (f .lmverifier ++ (f .lm ++ (f .nt ++ toBe 2 (f .flags))))))) t (omega (arith, length-fields f s)) in
     let all : lengthOf p ≡ 1118 = g .long ∙ omega (arith, length-fields f s) in
-    let start : drop 4 p ≡ f .block ++ (f .proof ++ (f .lmblock ++ (f .lmproof ++ (f .lm ++ (f .nt ++ (toBe 2 (f .flags) ++ t)))))) = simp append-assoc in
+    let start : drop 4 p ≡ f .block ++ (f .verifier ++ (f .lmblock ++ (f .lmverifier ++ (f .lm ++ (f .nt ++ (toBe 2 (f .flags) ++ t)))))) = simp append-assoc in
     let x₁ = field p 4 516 (f .block) _ start (s .block) in
-    let x₂ = field p 520 16 (f .proof) _ (x₁ .1) (s .proof) in
+    let x₂ = field p 520 16 (f .verifier) _ (x₁ .1) (s .verifier) in
     let x₃ = field p 536 516 (f .lmblock) _ (x₂ .1) (s .lmblock) in
-    let x₄ = field p 1052 16 (f .lmproof) _ (x₃ .1) (s .lmproof) in
+    let x₄ = field p 1052 16 (f .lmverifier) _ (x₃ .1) (s .lmverifier) in
     let x₅ = field p 1068 24 (f .lm) _ (x₄ .1) (s .lm) in
     let x₆ = field p 1092 24 (f .nt) _ (x₅ .1) (s .nt) in
     let x₇ = field p 1116 1 (_ ∷ []) _ (x₆ .1) refl in
@@ -105,8 +105,8 @@ change-back id f t s small =
       id = refl;
       fields =
           change-same
-          (fixed-part 516 _ (f .block) (x₁ .0) (s .block)) (fixed-part 16 _ (f .proof) (x₂ .0) (s .proof))
-          (fixed-part 516 _ (f .lmblock) (x₃ .0) (s .lmblock)) (fixed-part 16 _ (f .lmproof) (x₄ .0) (s .lmproof))
+          (fixed-part 516 _ (f .block) (x₁ .0) (s .block)) (fixed-part 16 _ (f .verifier) (x₂ .0) (s .verifier))
+          (fixed-part 516 _ (f .lmblock) (x₃ .0) (s .lmblock)) (fixed-part 16 _ (f .lmverifier) (x₄ .0) (s .lmverifier))
           (fixed-part 24 _ (f .lm) (x₅ .0) (s .lm)) (fixed-part 24 _ (f .nt) (x₆ .0) (s .nt)) flags;
       size = size;
       fit = λ h. simp (size, le-ltb 3 (changeIn p .flags) (omega arith));

@@ -73,9 +73,9 @@ change-fit p e = by (eqb (lengthOf p) 1118) (ltb 3 (changeIn p .flags)) refl ref
 
 pub record ChangeStands (p : List ℕ) : Type 0 where
   pub block : changeIn p .block ≡ part 4 516 p
-  pub proof : changeIn p .proof ≡ part 520 16 p
+  pub verifier : changeIn p .verifier ≡ part 520 16 p
   pub lmblock : changeIn p .lmblock ≡ part 536 516 p
-  pub lmproof : changeIn p .lmproof ≡ part 1052 16 p
+  pub lmverifier : changeIn p .lmverifier ≡ part 1052 16 p
   pub lm : changeIn p .lm ≡ part 1068 24 p
   pub nt : changeIn p .nt ≡ part 1092 24 p
 
@@ -88,9 +88,9 @@ module _ (p : List ℕ) (good : badFrame p ≡ false) (fit : changeRefusal p ≡
       let h = long in
       record {
         block = fixed-part 4 516 p (omega arith);
-        proof = fixed-part 520 16 p (omega arith);
+        verifier = fixed-part 520 16 p (omega arith);
         lmblock = fixed-part 536 516 p (omega arith);
-        lmproof = fixed-part 1052 16 p (omega arith);
+        lmverifier = fixed-part 1052 16 p (omega arith);
         lm = fixed-part 1068 24 p (omega arith);
         nt = fixed-part 1092 24 p (omega arith);
       }
@@ -103,9 +103,9 @@ module _ (p : List ℕ) (good : badFrame p ≡ false) (fit : changeRefusal p ≡
       let x₇ = toBe-fromBe (octet 1116 p ∷ octet 1117 p ∷ []) (two p o 1116 1117) ∙ sym (part-written 2 1116 p (omega arith)) in
       let x₆ = ap₂ (λ (x y : List ℕ). x ++ y) (s .nt) x₇ ∙ part-join 1092 24 2 p in
       let x₅ = ap₂ (λ (x y : List ℕ). x ++ y) (s .lm) x₆ ∙ part-join 1068 24 26 p in
-      let x₄ = ap₂ (λ (x y : List ℕ). x ++ y) (s .lmproof) x₅ ∙ part-join 1052 16 50 p in
+      let x₄ = ap₂ (λ (x y : List ℕ). x ++ y) (s .lmverifier) x₅ ∙ part-join 1052 16 50 p in
       let x₃ = ap₂ (λ (x y : List ℕ). x ++ y) (s .lmblock) x₄ ∙ part-join 536 516 66 p in
-      let x₂ = ap₂ (λ (x y : List ℕ). x ++ y) (s .proof) x₃ ∙ part-join 520 16 582 p in
+      let x₂ = ap₂ (λ (x y : List ℕ). x ++ y) (s .verifier) x₃ ∙ part-join 520 16 582 p in
       let x₁ = ap₂ (λ (x y : List ℕ). x ++ y) (s .block) x₂ ∙ part-join 4 516 598 p in
       let count : 1114 ≡ lengthOf p - 4 = omega (arith, change-fit p fit .0) in
       ap₂ (λ (n : ℕ) (x : List ℕ). framed n (octet 1 p) x) (sym code) (x₁ ∙ ap (λ (n : ℕ). part 4 n p) count) ∙ frame-back p good o

@@ -48,15 +48,15 @@ length-response id f name l n = omega (arith, length-answers f name l n)
 -- the lengths of a change's fields
 pub record Sized (f : Change) : Type 0 where
   pub block : length (f .block) ≡ 516
-  pub proof : length (f .proof) ≡ 16
+  pub verifier : length (f .verifier) ≡ 16
   pub lmblock : length (f .lmblock) ≡ 516
-  pub lmproof : length (f .lmproof) ≡ 16
+  pub lmverifier : length (f .lmverifier) ≡ 16
   pub lm : length (f .lm) ≡ 24
   pub nt : length (f .nt) ≡ 24
 
 pub length-fields : (f : Change) → Sized f
-    → length (f .block ++ (f .proof ++ (f .lmblock ++ (f .lmproof ++ (f .lm ++ (f .nt ++ toBe 2 (f .flags))))))) ≡ 1114
-length-fields f s = simp (length-append, s .block, s .proof, s .lmblock, s .lmproof, s .lm, s .nt)
+    → length (f .block ++ (f .verifier ++ (f .lmblock ++ (f .lmverifier ++ (f .lm ++ (f .nt ++ toBe 2 (f .flags))))))) ≡ 1114
+length-fields f s = simp (length-append, s .block, s .verifier, s .lmblock, s .lmverifier, s .lm, s .nt)
 
 pub length-change : (id : ℕ) (f : Change) → Sized f → length (changePacket id f) ≡ 1118
 unfolding changePacket

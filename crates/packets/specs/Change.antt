@@ -14,16 +14,16 @@ use Rattle.packets.specs.declared.Written.{Written}
 -- the flags go most significant octet first (decided by document 01)
 unfoldable pub changePacket : ℕ → Change → List ℕ
 changePacket id f =
-    framed 6 id (f .block ++ (f .proof ++ (f .lmblock ++ (f .lmproof ++ (f .lm ++ (f .nt ++ toBe 2 (f .flags)))))))
+    framed 6 id (f .block ++ (f .verifier ++ (f .lmblock ++ (f .lmverifier ++ (f .lm ++ (f .nt ++ toBe 2 (f .flags)))))))
 
 -- octets that the packet does not reach are 0
 abbrev pub changeIn : List ℕ → Change
 changeIn p =
     record {
       block = fixed 516 (part 4 516 p);
-      proof = fixed 16 (part 520 16 p);
+      verifier = fixed 16 (part 520 16 p);
       lmblock = fixed 516 (part 536 516 p);
-      lmproof = fixed 16 (part 1052 16 p);
+      lmverifier = fixed 16 (part 1052 16 p);
       lm = fixed 24 (part 1068 24 p);
       nt = fixed 24 (part 1092 24 p);
       flags = fromBe (octet 1116 p ∷ octet 1117 p ∷ []);

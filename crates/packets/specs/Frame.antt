@@ -1,6 +1,6 @@
 -- The frame of every packet (RFC 1994, section 4): code, identifier, Length (two octets, the most significant first, of the whole packet), data.
 -- Assumes nothing: these are definitions.
-use mathlib.Core.Bool.{Bool, cond, _||_}
+use mathlib.Core.Bool.{Bool, cond, not, _||_}
 use mathlib.Core.List.{List, [], _∷_, _++_}
 use Prim.Native.Nat.{ℕ, _+_, _-_}
 use lib.Dec.{eqb, leb, ltb}
@@ -23,6 +23,10 @@ framed code id d = code ∷ id ∷ (toBe 2 (4 + length d) ++ d)
 -- refusal 3: under 4 octets, or Length under 4 or over what was lent
 abbrev pub badFrame : List ℕ → Bool
 badFrame p = ltb (length p) 4 || (ltb (lengthOf p) 4 || ltb (length p) (lengthOf p))
+
+-- refusal 5: another identifier than this one
+abbrev pub badId : ℕ → List ℕ → Bool
+badId id p = not (eqb (octet 1 p) id)
 
 -- the data end at Length: the octets after it are padding
 abbrev pub dataOf : List ℕ → List ℕ

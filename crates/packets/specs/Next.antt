@@ -1,4 +1,5 @@
--- What follows a Failure (RFC 2433, section 8): the identifier of the next packet, and the challenge that it answers where none is given.
+-- What follows a Failure: the identifier of the next packet (RFC 2433, section 10 for a change, B.1 for a retry), and the challenge that it answers
+-- where none is given (section 8).
 -- Assumes nothing: these are definitions.
 use mathlib.Core.List.{List, [], _∷_}
 use Prim.Native.Nat.{ℕ, _+_, _%_}

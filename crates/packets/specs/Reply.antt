@@ -6,10 +6,10 @@ use Prim.Native.Nat.{ℕ, _+_}
 use lib.Dec.{eqb, ltb}
 use lib.ListN.{length, replicate}
 use Rattle.octets.specs.Parts.{part, fixed}
-use Rattle.message.specs.Message.{readMessage, messageRefusal, refusedWith, noC}
+use Rattle.message.specs.Message.{readMessage, messageRefusal, messageValues, refusedWith, noC}
 use Rattle.message.specs.declared.Reading.{Reading}
 use Rattle.message.specs.declared.Verdict.the-variants.{Success}
-use Rattle.packets.specs.Frame.{octet, lengthOf, framed, badFrame, dataOf}
+use Rattle.packets.specs.Frame.{octet, lengthOf, framed, badFrame, badId, dataOf}
 use Rattle.packets.specs.declared.Asked.{Asked}
 
 -- a Challenge with no name, a Success with no message, a Failure with its message
@@ -46,7 +46,7 @@ succeeded = record { verdict = Success; c = noC }
 unfoldable pub readReply : ℕ → List ℕ → Reading
 readReply last p =
     cond (badFrame p) (refusedWith 3)
-    (cond (not (eqb (octet 1 p) last)) (refusedWith 5)
+    (cond (badId last p) (refusedWith 5)
     (cond (eqb (octet 0 p) 3) succeeded
     (cond (eqb (octet 0 p) 4) (readMessage (dataOf p))
     (refusedWith 11))))
@@ -55,7 +55,11 @@ readReply last p =
 unfoldable pub replyRefusal : ℕ → List ℕ → ℕ
 replyRefusal last p =
     cond (badFrame p) 3
-    (cond (not (eqb (octet 1 p) last)) 5
+    (cond (badId last p) 5
     (cond (eqb (octet 0 p) 3) 0
     (cond (eqb (octet 0 p) 4) (messageRefusal (dataOf p))
     11)))
+
+-- E, R and V of a Failure that is not refused
+unfoldable pub replyValues : ℕ → List ℕ → List ℕ
+replyValues last p = cond (badFrame p || (badId last p || not (eqb (octet 0 p) 4))) [] (messageValues (dataOf p))

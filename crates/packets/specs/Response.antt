@@ -21,7 +21,7 @@ responseIn p = record { lm = fixed 24 (part 5 24 p); nt = fixed 24 (part 29 24 p
 abbrev pub nameIn : List ℕ → List ℕ
 nameIn p = part 54 (lengthOf p - 54) p
 
--- refusal 6: a name has 1 to 256 octets, so Length is 55 to 310, and the size is 49
+-- refusal 6: Length not 55 to 310 (a name has 1 to 256 octets), or the size not 49
 abbrev pub badResponseSize : List ℕ → Bool
 badResponseSize p = ltb (lengthOf p) 55 || (ltb 310 (lengthOf p) || not (eqb (octet 4 p) 49))
 

@@ -4,7 +4,7 @@ use crate::Written;
 use crate::frames::head;
 use crate::frames::length;
 use crate::frames::octet;
-use crate::responses::answer_at;
+use crate::responses::response_at;
 ghost use mathlib.Core.Path.{_≡_};
 ghost use mathlib.Core.List.{[], _∷_, _++_};
 ghost use Prim.Native.Nat.{_<_};
@@ -43,30 +43,21 @@ fn block_at(packet: &[u8], at: usize) -> [u8; 516]
     block
 }
 
-// The same for an old hash under a new one.
-fn proof_at(packet: &[u8], at: usize) -> [u8; 16]
-    ensures { λ r. ⌜ r ≡ fixed 16 (part at 16 (now (packet .entry))) ⌝ }
-{
-    let mut proof = [0u8; 16];
-    octets::copy(&mut proof, octets::part_of(packet, at, 16));
-    proof
-}
-
 pub fn read_change(packet: &[u8]) -> Change
     ensures { λ r. ⌜ r ≡ changeIn (now (packet .entry)) ⌝ }
 {
     let block = block_at(packet, 4);
-    let proof = proof_at(packet, 520);
+    let verifier = octets::sixteen_at(packet, 520);
     let lmblock = block_at(packet, 536);
-    let lmproof = proof_at(packet, 1052);
-    let lm = answer_at(packet, 1068);
-    let nt = answer_at(packet, 1092);
+    let lmverifier = octets::sixteen_at(packet, 1052);
+    let lm = response_at(packet, 1068);
+    let nt = response_at(packet, 1092);
     let flags = flags(packet);
     Change {
         block,
-        proof,
+        verifier,
         lmblock,
-        lmproof,
+        lmverifier,
         lm,
         nt,
         flags,
@@ -74,12 +65,12 @@ pub fn read_change(packet: &[u8]) -> Change
 }
 
 // Puts a block and the hash behind it at the place at, one of 4 and 536.
-fn put_pair(out: &mut [u8], at: usize, block: [u8; 516], proof: [u8; 16])
+fn put_pair(out: &mut [u8], at: usize, block: [u8; 516], verifier: [u8; 16])
     requires { ⌜ at < 1118 ⌝ }
-    ensures { λ _. ⌜ (now (out .exit) ≡ overAt at (block ++ proof) (now (out .entry))) × (length (block ++ proof) ≡ 532) ⌝ }
+    ensures { λ _. ⌜ (now (out .exit) ≡ overAt at (block ++ verifier) (now (out .entry))) × (length (block ++ verifier) ≡ 532) ⌝ }
 {
     octets::copy_at(out, at, &block);
-    octets::copy_at(out, at + 516, &proof);
+    octets::copy_at(out, at + 516, &verifier);
 }
 
 // Puts the two responses and the flags at their place.
@@ -105,11 +96,11 @@ pub fn write_change(id: u8, fields: Change, out: &mut [u8]) -> Written
     let first = head(6, id, 1118);
     octets::copy_at(out, 0, &first);
     let block = fields.block;
-    let proof = fields.proof;
-    put_pair(out, 4, block, proof);
+    let verifier = fields.verifier;
+    put_pair(out, 4, block, verifier);
     let lmblock = fields.lmblock;
-    let lmproof = fields.lmproof;
-    put_pair(out, 536, lmblock, lmproof);
+    let lmverifier = fields.lmverifier;
+    put_pair(out, 536, lmblock, lmverifier);
     let lm = fields.lm;
     let nt = fields.nt;
     put_rest(out, lm, nt, fields.flags);

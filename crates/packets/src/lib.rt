@@ -39,9 +39,9 @@ pub struct Response {
 // two for LM, the LM and the NT response, and the flags.
 pub struct Change {
     pub block: [u8; 516],
-    pub proof: [u8; 16],
+    pub verifier: [u8; 16],
     pub lmblock: [u8; 516],
-    pub lmproof: [u8; 16],
+    pub lmverifier: [u8; 16],
     pub lm: [u8; 24],
     pub nt: [u8; 24],
     pub flags: u16,

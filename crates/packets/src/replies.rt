@@ -5,13 +5,12 @@ use crate::frames::behind;
 use crate::frames::head;
 use crate::frames::length;
 use crate::frames::octet;
-use message::Given;
 use message::Reading;
 use message::Verdict;
 ghost use mathlib.Core.Path.{_≡_};
-ghost use Rattle.message.specs.Message.{textOf, noC, refusedWith, numberOf};
+ghost use Rattle.message.specs.Message.{textOf, numberOf, valuesOf};
 ghost use Rattle.packets.specs.Frame.{headed, headedLength};
-ghost use Rattle.packets.specs.Reply.{challengePacket, successPacket, failurePacket, notAsked, badChallenge, readChallenge, readReply, replyRefusal};
+ghost use Rattle.packets.specs.Reply.{challengePacket, successPacket, failurePacket, notAsked, badChallenge, readChallenge, readReply, replyRefusal, replyValues};
 
 // ---- writers: each answers how many octets of out it wrote, 0 where there is too little room
 
@@ -86,8 +85,7 @@ pub fn read_challenge(packet: &[u8]) -> Asked
     if bad_challenge(packet) {
         return not_asked(11);
     }
-    let mut challenge = [0u8; 8];
-    octets::copy(&mut challenge, octets::part_of(packet, 5, 8));
+    let challenge = octets::eight_at(packet, 5);
     let id = octet(packet, 1);
     Asked {
         refusal: 0,
@@ -96,38 +94,19 @@ pub fn read_challenge(packet: &[u8]) -> Asked
     }
 }
 
-fn no_c() -> Given
-    ensures { λ r. ⌜ r ≡ noC ⌝ }
-{
-    Given {
-        given: false,
-        octets: [0; 8],
-    }
-}
-
-fn refused(number: u8) -> Reading
-    ensures { λ r. ⌜ r ≡ refusedWith number ⌝ }
-{
-    let c = no_c();
-    Reading {
-        verdict: Verdict::Refused(number),
-        c,
-    }
-}
-
 // A reply to the last packet, which had the identifier last. Refusal 3: the frame; 5: another identifier; 11: another kind, or by the message.
 pub fn read_reply(last: u8, packet: &[u8]) -> Reading
-    ensures { λ r. ⌜ (r ≡ readReply last (now (packet .entry))) × (numberOf (r .verdict) ≡ replyRefusal last (now (packet .entry))) ⌝ }
+    ensures { λ r. ⌜ (r ≡ readReply last (now (packet .entry))) × (numberOf (r .verdict) ≡ replyRefusal last (now (packet .entry))) × (valuesOf (r .verdict) ≡ replyValues last (now (packet .entry))) ⌝ }
 {
     if bad_frame(packet) {
-        return refused(3);
+        return message::refused_with(3);
     }
     if octet(packet, 1) != last {
-        return refused(5);
+        return message::refused_with(5);
     }
     let code = octet(packet, 0);
     if code == 3 {
-        let c = no_c();
+        let c = message::no_c();
         return Reading {
             verdict: Verdict::Success,
             c,
@@ -136,5 +115,5 @@ pub fn read_reply(last: u8, packet: &[u8]) -> Reading
     if code == 4 {
         return message::read(octets::part_of(packet, 4, behind(packet, 4)));
     }
-    refused(11)
+    message::refused_with(11)
 }

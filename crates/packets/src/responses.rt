@@ -38,7 +38,7 @@ pub fn response_refusal(packet: &[u8]) -> u8
 }
 
 // An LM or NT response, from the place at on; 0 where the packet does not reach.
-pub fn answer_at(packet: &[u8], at: usize) -> [u8; 24]
+pub fn response_at(packet: &[u8], at: usize) -> [u8; 24]
     ensures { λ r. ⌜ r ≡ fixed 24 (part at 24 (now (packet .entry))) ⌝ }
 {
     let mut answer = [0u8; 24];
@@ -50,8 +50,8 @@ pub fn answer_at(packet: &[u8], at: usize) -> [u8; 24]
 pub fn read_response(packet: &[u8]) -> Response
     ensures { λ r. ⌜ r ≡ responseIn (now (packet .entry)) ⌝ }
 {
-    let lm = answer_at(packet, 5);
-    let nt = answer_at(packet, 29);
+    let lm = response_at(packet, 5);
+    let nt = response_at(packet, 29);
     let flag = octet(packet, 53);
     Response { lm, nt, flag }
 }

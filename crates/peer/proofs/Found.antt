@@ -38,9 +38,9 @@ module _ (t : Turn) (old new filler : List ℕ) (full : length filler ≡ 512) (
   sized =
       record {
         block = laws.length-sealed filler new full fits (ntHashOf old);
-        proof = laws.length-old-under-new (ntHashOf old) (ntHashOf new);
+        verifier = laws.length-old-under-new (ntHashOf old) (ntHashOf new);
         lmblock = refl;
-        lmproof = refl;
+        lmverifier = refl;
         lm = refl;
         nt = laws.length-response (ntHashOf new) (t .challenge);
       }

@@ -14,18 +14,18 @@ use Rattle.packets.specs.declared.Written.{Written}
 use Rattle.peer.specs.declared.Turn.{Turn}
 
 -- a Response from an NT hash: the LM response is zero-filled, the flag is 1
-abbrev pub answerFields : List ℕ → List ℕ → Response
-answerFields challenge hash = record { lm = replicate 24 0; nt = responseOf hash challenge; flag = 1 }
+abbrev pub responseFieldsOf : List ℕ → List ℕ → Response
+responseFieldsOf challenge hash = record { lm = replicate 24 0; nt = responseOf hash challenge; flag = 1 }
 
 -- a change from the old and the new NT hash and the sealed new password: both LM fields and the LM response are zero-filled, the flags are 1;
 -- the response is that of the new hash
-abbrev pub renewalFields : List ℕ → List ℕ → List ℕ → List ℕ → Change
-renewalFields challenge old new block =
+abbrev pub changeFieldsOf : List ℕ → List ℕ → List ℕ → List ℕ → Change
+changeFieldsOf challenge old new block =
     record {
       block = block;
-      proof = oldUnderNew old new;
+      verifier = oldUnderNew old new;
       lmblock = replicate 516 0;
-      lmproof = replicate 16 0;
+      lmverifier = replicate 16 0;
       lm = replicate 24 0;
       nt = responseOf new challenge;
       flags = 1;
@@ -33,11 +33,11 @@ renewalFields challenge old new block =
 
 -- both from passwords
 abbrev pub responseFields : List ℕ → List ℕ → Response
-responseFields challenge password = answerFields challenge (ntHashOf password)
+responseFields challenge password = responseFieldsOf challenge (ntHashOf password)
 
 abbrev pub changeFields : List ℕ → List ℕ → List ℕ → List ℕ → Change
 changeFields challenge old new filler =
-    renewalFields challenge (ntHashOf old) (ntHashOf new) (sealedBlock (ntHashOf old) filler new)
+    changeFieldsOf challenge (ntHashOf old) (ntHashOf new) (sealedBlock (ntHashOf old) filler new)
 
 unfoldable pub responseFor : Turn → List ℕ → List ℕ → List ℕ
 responseFor t password name = responsePacket (t .id) (responseFields (t .challenge) password) name

@@ -4,7 +4,7 @@ use packets::Change;
 use packets::Response;
 use packets::Written;
 ghost use mathlib.Core.Path.{_≡_};
-ghost use Rattle.peer.specs.Write.{refusedBy, answerFields, renewalFields, writeResponse, writeChange};
+ghost use Rattle.peer.specs.Write.{refusedBy, responseFieldsOf, changeFieldsOf, writeResponse, writeChange};
 
 fn refused(number: u8) -> Written
     ensures { λ r. ⌜ r ≡ refusedBy number ⌝ }
@@ -17,7 +17,7 @@ fn refused(number: u8) -> Written
 
 // The Response from an NT hash. The LM response is zero-filled.
 fn response_fields(hash: [u8; 16], challenge: [u8; 8]) -> Response
-    ensures { λ r. ⌜ r ≡ answerFields challenge hash ⌝ }
+    ensures { λ r. ⌜ r ≡ responseFieldsOf challenge hash ⌝ }
 {
     let nt = credentials::challenge_response(hash, challenge);
     Response {
@@ -43,15 +43,15 @@ pub fn write_response(turn: Turn, password: &[u8], name: &[u8], out: &mut [u8]) 
 
 // The change from both NT hashes and the sealed new password. The response is that of the new hash. The LM fields are zero-filled.
 fn change_fields(old: [u8; 16], new: [u8; 16], block: [u8; 516], challenge: [u8; 8]) -> Change
-    ensures { λ r. ⌜ r ≡ renewalFields challenge old new block ⌝ }
+    ensures { λ r. ⌜ r ≡ changeFieldsOf challenge old new block ⌝ }
 {
-    let proof = credentials::old_under_new(old, new);
+    let verifier = credentials::old_under_new(old, new);
     let nt = credentials::challenge_response(new, challenge);
     Change {
         block,
-        proof,
+        verifier,
         lmblock: [0; 516],
-        lmproof: [0; 16],
+        lmverifier: [0; 16],
         lm: [0; 24],
         nt,
         flags: 1,

@@ -71,7 +71,7 @@ module _ (p : Place) (h : InStep (p .conversation) (p .peer .turn)) where
     try-written = response-limits turn password name (l .out) (kept .0 .not8) (kept .0 .not10) (kept .0 .not9)
 
     try-room : 17 ≤ length (l .buffer)
-    try-room = roomy (p .conversation) (reaching wrote l) (ap isEnded ph) (kept .1 .not2)
+    try-room = roomy (p .conversation) (reaching wrote l) (ap isEnded ph) (kept .1)
 
     try-left : reaching wrote l .packet ≡ responseFor turn password name ++ l .after
     try-left = ap (λ (x : List ℕ). x ++ l .after) (response-left turn password name (l .out) try-written)
@@ -109,7 +109,7 @@ module _ (p : Place) (h : InStep (p .conversation) (p .peer .turn)) where
     change-written = change-limits turn old new filler (l .out) (kept .0 .not8) (kept .0 .not12) (kept .0 .not9)
 
     change-room : 17 ≤ length (l .buffer)
-    change-room = roomy (p .conversation) (reaching changeWrote l) (ap isEnded ph) (kept .1 .not2)
+    change-room = roomy (p .conversation) (reaching changeWrote l) (ap isEnded ph) (kept .1)
 
     module _ (there : p .conversation .kept .nt .present ≡ true) (hash : ntHashOf old ≡ p .conversation .kept .nt .octets) where
       change-outcome : stepOn (p .conversation) (reaching changeWrote l) ≡ judgedAs (changed (p .conversation) (ntHashOf new)) (l .buffer)

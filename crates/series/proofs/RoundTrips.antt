@@ -7,10 +7,10 @@ use mathlib.Core.Path.{_≡_, refl, sym, ap, _∙_, subst}
 use Prim.Native.Nat.{ℕ}
 use native.Mathlib.Omega.{arith}
 use lib.ListN.{length}
-use Rattle.credentials.specs.Credentials.{ntHashOf, sealedBlock, openedAs, passwordIn}
-use Rattle.credentials.specs.declared.Opened.{Opened}
+use Rattle.credentials.specs.Credentials.{ntHashOf, sealedBlock, unsealedAs, passwordIn}
+use Rattle.credentials.specs.declared.Unsealed.{Unsealed}
 use Rattle.credentials.specs.declared.Content.the-variants.{Password}
-use Rattle.credentials.proofs.Laws.{length-response, open-sealed, password-sealed, content-password}
+use Rattle.credentials.proofs.Laws.{length-response, unseal-sealed, password-sealed, content-password}
 use Rattle.packets.specs.Change.{changeIn}
 use Rattle.packets.specs.Name.{isSplit, domainOf, accountOf}
 use Rattle.packets.specs.Reply.{readChallenge, readReply}
@@ -89,13 +89,13 @@ module _ (t : Turn) (old new filler out padding : List ℕ) (ok : writeChange t 
       (change-found t old new filler (filler-full t old new filler out ok) (new-fits t old new filler out ok .0) padding)
 
   -- its block, opened under the old hash, holds the new password
-  pub password-round-trip : (openedAs (ntHashOf old) (changeIn change .block) .content ≡ Password (length new))
-      × (passwordIn (openedAs (ntHashOf old) (changeIn change .block)) (length new) ≡ new)
+  pub password-round-trip : (unsealedAs (ntHashOf old) (changeIn change .block) .content ≡ Password (length new))
+      × (passwordIn (unsealedAs (ntHashOf old) (changeIn change .block)) (length new) ≡ new)
   password-round-trip =
       let full = filler-full t old new filler out ok in
       let fits = new-fits t old new filler out ok in
       let block : changeIn change .block ≡ sealedBlock (ntHashOf old) filler new = ap (λ (f : Change). f .block) (change-round-trip .fields) in (
-        ap (λ (x : List ℕ). openedAs (ntHashOf old) x .content) block
-            ∙ ap (λ (o : Opened). o .content) (open-sealed filler new full (fits .0) (ntHashOf old)) ∙ content-password (length new) (fits .0) (fits .1),
-        ap (λ (x : List ℕ). passwordIn (openedAs (ntHashOf old) x) (length new)) block ∙ password-sealed filler new full (fits .0) (ntHashOf old),
+        ap (λ (x : List ℕ). unsealedAs (ntHashOf old) x .content) block
+            ∙ ap (λ (o : Unsealed). o .content) (unseal-sealed filler new full (fits .0) (ntHashOf old)) ∙ content-password (length new) (fits .0) (fits .1),
+        ap (λ (x : List ℕ). passwordIn (unsealedAs (ntHashOf old) x) (length new)) block ∙ password-sealed filler new full (fits .0) (ntHashOf old),
       )

@@ -1,28 +1,28 @@
--- A sample of what demand 3 speaks of: openings, a record, our peer's packets and what is lent with them. They meet the premises with any box that
--- keeps to the limits.
+-- A sample of what demand 3 speaks of: openings, a record, our peer's packets and what is lent with them. They meet the premises with any
+-- box.
 -- Assumes nothing.
 use mathlib.Core.Bool.{Bool, true, false, cond, _&&_, false≢true}
 use mathlib.Core.List.{List, [], _∷_}
 use mathlib.Core.Logic.{_≢_}
 use mathlib.Core.Path.{_≡_, refl, sym, _∙_}
-use Prim.Native.Nat.{ℕ, _≤_}
+use Prim.Native.Nat.{ℕ}
 use native.Mathlib.Omega.{arith}
 use lib.Dec.{eqb}
-use lib.ListN.{length, replicate}
+use lib.ListN.{replicate}
 use Rattle.credentials.specs.Credentials.{ntHashOf}
 use Rattle.packets.specs.Response.{responseIn, responseWriteRefusal}
 use Rattle.packets.specs.Change.{changeWriteRefusal}
 use Rattle.packets.specs.declared.Response as fields
 use Rattle.authenticator.specs.Account.{noHash, blank, noRecord, found, answers}
-use Rattle.authenticator.specs.Opening.{Opening}
+use Rattle.authenticator.specs.Opening.{Opening, badRoom, openRefusal, opened}
 use Rattle.authenticator.specs.Response.{valid}
-use Rattle.authenticator.specs.Steps.{Lent, Box, stepOn, refusalAt, Rightful}
+use Rattle.authenticator.specs.Steps.{Box, Rightful}
 use Rattle.authenticator.specs.declared.Account.{Account}
 use Rattle.authenticator.specs.declared.Lookup.{Lookup}
 use Rattle.authenticator.specs.declared.Conversation.{Conversation}
 use Rattle.authenticator.specs.declared.Retries.{Retries}
+use Rattle.authenticator.specs.declared.Retries.the-variants.{Default, Count}
 use Rattle.authenticator.specs.declared.LmChoice.the-variants.{Disallowed}
-use Rattle.authenticator.proofs.Steps.{number-step, number-range}
 use Rattle.peer.specs.Write.{writeResponseRefusal, writeChangeRefusal, writeResponse, writeChange}
 use Rattle.series.specs.Series.{Packet, invalid, right, renewal, Line, Step, ours, Place, exchange, Within, Kept, Allowed}
 
@@ -31,6 +31,14 @@ use Rattle.series.specs.Series.{Packet, invalid, right, renewal, Line, S
 -- identifier 255 and a challenge that begins with E9, so that both go over their octet
 abbrev pub opening : Retries → Opening
 opening r = record { id = 255; challenge = 0xE9 ∷ 2 ∷ 3 ∷ 4 ∷ 5 ∷ 6 ∷ 7 ∷ 8 ∷ []; retries = r; lm = Disallowed; buffer = replicate 17 0 }
+
+pub opens-default : opened (opening Default) .refusal ≡ 0
+unfolding opened openRefusal
+opens-default = refl
+
+pub opens-once : opened (opening (Count 1)) .refusal ≡ 0
+unfolding opened openRefusal
+opens-once = refl
 
 -- "MyPw", "bad" and "MyNewPw"
 abbrev pub old : List ℕ
@@ -52,13 +60,13 @@ account expired =
       nt = record { present = true; octets = ntHashOf old };
       lm = noHash;
       disabled = false;
-      hours = false;
+      barred = false;
       nodialin = false;
       expired = expired;
     }
 
 pub rightful : (expired : Bool) → Rightful (account expired)
-rightful expired = record { nt = refl; enabled = refl; hours = refl; dialin = refl }
+rightful expired = record { nt = refl; enabled = refl; barred = refl; dialin = refl }
 
 -- ---- our peer's packets
 
@@ -80,22 +88,9 @@ change l = ours newPassword (line 1118 l)
 
 -- ---- the premises
 
-in-range : (n : ℕ) → n ≤ 7 → n ≢ 2 → Within n
-in-range n h two =
-    record { not2 = two; not8 = λ e. omega arith; not9 = λ e. omega arith; not10 = λ e. omega arith; not12 = λ e. omega arith }
-
--- with a reply buffer of 17 octets the box's numbers keep to the limits
-abbrev pub KeepsTo : Box → Type 0
-KeepsTo box = (c : Conversation) (s : Lent) → length (s .buffer) ≡ 17 → Within (refusalAt box c s)
-
-pub ours-keeps-to : KeepsTo stepOn
-ours-keeps-to c s room =
-    let n = number-step c (s .packet) (s .account) (s .buffer) in
-    let r = number-range c (s .packet) (s .buffer) in
-    in-range (refusalAt stepOn c s) (omega (arith, n, r .0)) (λ e. let z = r .1 (sym n ∙ e) in omega arith)
-
-pub seven-keeps-to : Within 7
-seven-keeps-to = in-range 7 (omega arith) (λ e. omega arith)
+written : (n : ℕ) → n ≡ 0 → Within n
+written n e =
+    record { not2 = λ f. omega arith; not8 = λ f. omega arith; not9 = λ f. omega arith; not10 = λ f. omega arith; not12 = λ f. omega arith }
 
 -- no Response is valid for a record with no hash
 no-hash : (c : Conversation) (f : fields.Response) → valid c blank f ≡ false
@@ -108,17 +103,17 @@ no-hash c f = which (eqb (f .flag) 1) (c .terms .lm)
     which false true = refl
     which false false = refl
 
--- at any place
-module _ (box : Box) (h : KeepsTo box) (p : Place) where
-  kept : (t : Packet) (l : Line) → exchange box p t l .wrote .answer .refusal ≡ 0 → length (l .buffer) ≡ 17 → Kept (exchange box p t l)
-  kept t l e room = (in-range (exchange box p t l .wrote .answer .refusal) (omega arith) (λ f. omega arith), h (p .conversation) (exchange box p t l .lent) room)
+-- at any place, with any box: the reply buffer has room
+module _ (box : Box) (p : Place) where
+  kept : (t : Packet) (l : Line) → exchange box p t l .wrote .answer .refusal ≡ 0 → badRoom (l .buffer) ≡ false → Kept (exchange box p t l)
+  kept t l e room = (written (exchange box p t l .wrote .answer .refusal) e, λ h. absurd (false≢true (sym room ∙ h)))
 
-  pub try-kept : (password : List ℕ) (l : Line) → writeResponseRefusal password user (l .out) ≡ 0 → length (l .buffer) ≡ 17
+  pub try-kept : (password : List ℕ) (l : Line) → writeResponseRefusal password user (l .out) ≡ 0 → badRoom (l .buffer) ≡ false
       → Kept (exchange box p (right password user) l)
   unfolding writeResponse
   try-kept password l e room = kept (right password user) l (rw e) room
 
-  change-kept : (l : Line) → writeChangeRefusal old new (replicate 512 7) (l .out) ≡ 0 → length (l .buffer) ≡ 17 → Kept (exchange box p newPassword l)
+  change-kept : (l : Line) → writeChangeRefusal old new (replicate 512 7) (l .out) ≡ 0 → badRoom (l .buffer) ≡ false → Kept (exchange box p newPassword l)
   unfolding writeChange
   change-kept l e room = kept newPassword l (rw e) room
 

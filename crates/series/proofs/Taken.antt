@@ -11,7 +11,7 @@ use lib.Dec.{eqb}
 use lib.ListN.{length}
 use Rattle.octets.specs.Parts.{agrees}
 use Rattle.octets.proofs.Parts.{agrees-refl}
-use Rattle.credentials.specs.Credentials.{ntHashOf, responseOf, oldUnderNew, openedAs}
+use Rattle.credentials.specs.Credentials.{ntHashOf, responseOf, oldUnderNew, unsealedAs}
 use Rattle.packets.specs.Response.{responseIn}
 use Rattle.packets.specs.Change.{changeIn}
 use Rattle.authenticator.specs.Account.{found, answers}
@@ -117,16 +117,16 @@ module _ (c : Conversation) (t : Turn) (h : InStep c t) (ph : c .phase ≡ Chang
     change-hash : newHash c (changeIn change) ≡ some (ntHashOf new)
     change-hash =
         let f = changeFields (t .challenge) old new filler in
-        let inside : hashIn (openedAs (c .kept .nt .octets) (f .block)) ≡ some (ntHashOf new) =
-        ap (λ (x : List ℕ). hashIn (openedAs x (f .block))) (sym right) ∙ hash-sealed (ntHashOf old) filler new full (fits .0) (fits .1) in
-        let proof : agrees (f .proof) (oldUnderNew (c .kept .nt .octets) (ntHashOf new)) ≡ true =
-        ap (λ (x : List ℕ). agrees (f .proof) (oldUnderNew x (ntHashOf new))) (sym right) ∙ agrees-refl (f .proof) in
+        let inside : hashIn (unsealedAs (c .kept .nt .octets) (f .block)) ≡ some (ntHashOf new) =
+        ap (λ (x : List ℕ). hashIn (unsealedAs x (f .block))) (sym right) ∙ hash-sealed (ntHashOf old) filler new full (fits .0) (fits .1) in
+        let verifier : agrees (f .verifier) (oldUnderNew (c .kept .nt .octets) (ntHashOf new)) ≡ true =
+        ap (λ (x : List ℕ). agrees (f .verifier) (oldUnderNew x (ntHashOf new))) (sym right) ∙ agrees-refl (f .verifier) in
         let nt : agrees (f .nt) (responseOf (ntHashOf new) (c .challenge)) ≡ true =
         ap (λ (x : List ℕ). agrees (f .nt) (responseOf (ntHashOf new) x)) (h .challenge) ∙ agrees-refl (f .nt) in
         ap (newHash c) (change-there .fields)
         ∙ new-hash c f (ntHashOf new) there
         (ap (λ (n : ℕ). eqb (n % 2) 1) (change-flags (t .challenge) old new filler)) inside
-        (both (agrees (f .proof) (oldUnderNew (c .kept .nt .octets) (ntHashOf new))) (agrees (f .nt) (responseOf (ntHashOf new) (c .challenge))) proof nt)
+        (both (agrees (f .verifier) (oldUnderNew (c .kept .nt .octets) (ntHashOf new))) (agrees (f .nt) (responseOf (ntHashOf new) (c .challenge))) verifier nt)
 
     pub change-taken : (l : Lookup) → step c change l b ≡ judgedAs (changed c (ntHashOf new)) b
     change-taken l = change-law c change b change-passes l (ntHashOf new) ph change-hash

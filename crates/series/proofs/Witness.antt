@@ -21,7 +21,7 @@ use Rattle.authenticator.proofs.Steps.{number-step}
 use Rattle.series.specs.Course.{end, Along, total}
 use Rattle.series.specs.Series.{right, Step, other, Place, start, exchange, go, judgedAt, Allowed, DrawsSuccess, later, LetsIn, Claimed}
 use Rattle.series.specs.Boxes.{ourBox}
-use Rattle.series.proofs.Sample.{opening, new, user, account, rightful, line, badTry, rightTry, newPassword, change, ours-keeps-to, blank-allowed, right-allowed, change-allowed, new-kept}
+use Rattle.series.proofs.Sample.{opening, opens-once, new, user, account, rightful, line, badTry, rightTry, newPassword, change, blank-allowed, right-allowed, change-allowed, new-kept}
 use Rattle.series.proofs.Demand3.{demand3}
 
 -- ---- the series
@@ -69,12 +69,12 @@ allowed =
     let tight : (p : Place) → Allowed ourBox (account true) p (other narrow) = λ p. narrow-refused (p .conversation) in (
       noise,
       (
-        (λ p. blank-allowed ourBox ours-keeps-to p (account true)),
+        (λ p. blank-allowed ourBox p (account true)),
         (
           tight,
           (
-            (λ p. right-allowed ourBox ours-keeps-to p true),
-            (noise, ((λ p. change-allowed ourBox ours-keeps-to p true noRecord), (tight, tt))),
+            (λ p. right-allowed ourBox p true),
+            (noise, ((λ p. change-allowed ourBox p true noRecord), (tight, tt))),
           ),
         ),
       ),
@@ -85,15 +85,11 @@ met = along (start (opening (Count 1)) []) steps allowed
 
 -- ---- the claim of this series
 
-opens : opened (opening (Count 1)) .refusal ≡ 0
-unfolding opened openRefusal
-opens = refl
-
 -- each packet draws what it should, three are judged, and the conversation has ended
 pub claimed : Along (go ourBox) (Claimed ourBox (account true)) (start (opening (Count 1)) []) steps
     × (total (go ourBox) (judgedAt ourBox) (start (opening (Count 1)) []) steps ≡ 3)
     × (end (go ourBox) (start (opening (Count 1)) []) steps .conversation .phase ≡ Ended)
-claimed = demand3 (opening (Count 1)) opens refl .1 (account true) 1 [] steps (rightful true) (omega arith) refl met
+claimed = demand3 (opening (Count 1)) opens-once refl .1 (account true) 1 [] steps (rightful true) (omega arith) refl met
 
 -- ---- a later conversation, with the record that the change handed out
 
@@ -117,4 +113,4 @@ later-opens = refl
 pub later-success : DrawsSuccess (exchange ourBox (later ourBox laterOpening [] (short ∷ [])) (right new user) (line 55 (found handed))) 0
 later-success =
     lets-in laterOpening [] user (short ∷ []) (line 55 (found handed)) later-opens refl (short-refused (opened laterOpening .conversation), tt) refl
-    (new-kept ourBox ours-keeps-to (later ourBox laterOpening [] (short ∷ [])) (found handed))
+    (new-kept ourBox (later ourBox laterOpening [] (short ∷ [])) (found handed))

@@ -1,14 +1,15 @@
 -- Demand 3 holds of no box that is ours but for one slip: refuses everything, 691 always, accepts always, the change leaves the record, pretends on
 -- retries, retries do not fall. So the statement is strong enough to shut them out.
 -- Assumes nothing.
-use mathlib.Core.Bool.{Bool, true, false, cond}
+use mathlib.Core.Bool.{Bool, true, false, cond, false≢true}
 use mathlib.Core.List.{List, [], _∷_, _++_}
 use mathlib.Core.Path.{_≡_, refl, sym, ap, _∙_, subst}
 use Prim.Native.Nat.{ℕ, _≤_, _<_}
 use native.Mathlib.Omega.{arith}
-use borrow.Author.Tests.{eqb-true, eqb-false}
+use borrow.Author.Tests.{eqb-false}
 use lib.Dec.{eqb, ltb}
 use lib.ListN.{length, replicate}
+use Rattle.octets.specs.Digits.{hexOf}
 use Rattle.message.specs.Message.{textOf}
 use Rattle.packets.specs.Frame.{octet}
 use Rattle.packets.specs.Response.{responseIn, responseRefusal}
@@ -16,22 +17,19 @@ use Rattle.packets.specs.Reply.{successPacket, failurePacket}
 use Rattle.authenticator.specs.Account.{noRecord, found}
 use Rattle.authenticator.specs.Opening.{openRefusal, opened}
 use Rattle.authenticator.specs.Refusal.{refusalOf}
-use Rattle.authenticator.specs.Response.{version, valid, firstReason, reasonOf, replyFor, responseDrawn}
-use Rattle.authenticator.specs.Step.{numberOf, Outcome, judgedAs, drawn, step}
+use Rattle.authenticator.specs.Response.{version, valid, firstReason, reasonOf, afterReason, replyFor, responseDrawn}
+use Rattle.authenticator.specs.Step.{Outcome, judgedAs, drawn, step}
 use Rattle.authenticator.specs.Steps.{Lent, stepOn, replyOf, refusalAt, judged, nextAfter}
+use Rattle.authenticator.specs.declared.Account.{Account}
 use Rattle.authenticator.specs.declared.Conversation.{Conversation}
 use Rattle.authenticator.specs.declared.Lookup.{Lookup}
 use Rattle.authenticator.specs.declared.Retries.the-variants.{Default, Count}
 use Rattle.authenticator.proofs.Steps.{refused-whole, reply-of}
 use Rattle.authenticator.proofs.Written.{Fits, success-fits, failure-fits}
 use Rattle.series.specs.Course.{total}
-use Rattle.series.specs.Series.{invalid, right, start, exchange, go, Within, later, LetsIn, Demand3}
+use Rattle.series.specs.Series.{invalid, right, start, exchange, go, later, LetsIn, Demand3}
 use Rattle.series.specs.Boxes.{refusing, Judge, judging, findsNone, accepts, leavesRecord, pretends, neverCounts}
-use Rattle.series.proofs.Sample.{opening, old, bad, new, user, account, rightful, line, badTry, rightTry, newPassword, change, KeepsTo, ours-keeps-to, seven-keeps-to, bad-allowed, right-allowed, change-allowed, new-kept}
-
-opens : opened (opening Default) .refusal ≡ 0
-unfolding opened openRefusal
-opens = refl
+use Rattle.series.proofs.Sample.{opening, opens-default, opens-once, old, bad, new, user, account, rightful, line, badTry, rightTry, newPassword, change, bad-allowed, right-allowed, change-allowed, new-kept}
 
 success-code : (id : ℕ) → octet 0 (successPacket id) ≡ 3
 unfolding successPacket
@@ -44,27 +42,16 @@ failure-code id message = refl
 -- ---- refuses everything
 
 -- the right password draws nothing
-pub not-refusing : Demand3 refusing → ⊥
-not-refusing h =
-    let all = h (opening Default) opens refl .1 (account false) 0 [] (rightTry false ∷ []) (rightful false) (omega arith) refl
-    (right-allowed refusing (λ c s room. seven-keeps-to) (start (opening Default) []) false, tt) in
+pub not-refusing : (n : ℕ) → Demand3 (refusing n) → ⊥
+not-refusing n h =
+    let all = h (opening Default) opens-default refl .1 (account false) 0 [] (rightTry false ∷ []) (rightful false) (omega arith) refl
+    (right-allowed (refusing n) (start (opening Default) []) false, tt) in
     let code = ap (octet 0) (all .0 .0 .0) ∙ success-code _ in
     omega arith
 
 -- ---- boxes that refuse what ours refuses
 
 module _ (d : Judge) where
-  same-number : (c : Conversation) (s : Lent) → refusalAt (judging d) c s ≡ refusalAt stepOn c s
-  same-number c s = which (eqb (refusalAt stepOn c s) 0) refl
-    where
-      which : (t : Bool) → eqb (refusalAt stepOn c s) 0 ≡ t
-          → numberOf (cond t (judgedAs (d c s) (s .buffer)) (stepOn c s) .answer .kind) ≡ refusalAt stepOn c s
-      which true e = sym (eqb-true (refusalAt stepOn c s) 0 e)
-      which false e = refl
-
-  keeps-to : KeepsTo (judging d)
-  keeps-to c s room = subst Within (sym (same-number c s)) (ours-keeps-to c s room)
-
   -- a packet that draws a reply was judged
   drew : (c : Conversation) (s : Lent) {n : ℕ} → octet 0 (replyOf (judging d c s)) ≡ n → 0 < n → judging d c s ≡ judgedAs (d c s) (s .buffer)
   drew c s {n} e pos = which (eqb (refusalAt stepOn c s) 0) refl e
@@ -93,8 +80,8 @@ none-drawn p = refl
 pub not-finding : Demand3 (judging findsNone) → ⊥
 not-finding h =
     let p = start (opening Default) [] in
-    let all = h (opening Default) opens refl .1 (account false) 0 [] (rightTry false ∷ []) (rightful false) (omega arith) refl
-    (right-allowed (judging findsNone) (keeps-to findsNone) p false, tt) in
+    let all = h (opening Default) opens-default refl .1 (account false) 0 [] (rightTry false ∷ []) (rightful false) (omega arith) refl
+    (right-allowed (judging findsNone) p false, tt) in
     let s = exchange (judging findsNone) p (right old user) (line 55 (found (account false))) .lent in
     let drawn = none-drawn (s .packet) in
     let code = code-drawn findsNone (p .conversation) s (subst Fits (sym drawn) (failure-fits 255 691 1 version)) (omega arith)
@@ -107,8 +94,8 @@ pub not-accepting : Demand3 (judging accepts) → ⊥
 not-accepting h =
     let box = judging accepts in
     let p = start (opening Default) [] in
-    let all = h (opening Default) opens refl .1 (account false) 1 [] (badTry noRecord ∷ rightTry false ∷ []) (rightful false) (omega arith) refl
-    (bad-allowed box (keeps-to accepts) p (account false), (right-allowed box (keeps-to accepts) (go box p (badTry noRecord)) false, tt)) in
+    let all = h (opening Default) opens-default refl .1 (account false) 1 [] (badTry noRecord ∷ rightTry false ∷ []) (rightful false) (omega arith) refl
+    (bad-allowed box p (account false), (right-allowed box (go box p (badTry noRecord)) false, tt)) in
     let code = code-drawn accepts (p .conversation) (exchange box p (invalid bad user) (line 60 noRecord) .lent) (success-fits _) (omega arith)
     (ap (octet 0) (all .0 .0 .0) ∙ failure-code _ (textOf 691 1 version)) (omega arith) in
     omega (arith, code, success-code (p .conversation .id))
@@ -117,61 +104,84 @@ not-accepting h =
 
 -- the first invalid try leaves one retry
 one-left : (p b : List ℕ)
-    → pretends (opened (opening Default) .conversation) (record { packet = p; account = noRecord; buffer = b }) .next .retries ≡ 1
+    → pretends 2 (opened (opening Default) .conversation) (record { packet = p; account = noRecord; buffer = b }) .next .retries ≡ 1
 unfolding opened openRefusal drawn responseDrawn reasonOf firstReason
 one-left p b = refl
 
 -- the second one draws Success
-pub not-pretending : Demand3 (judging pretends) → ⊥
+pub not-pretending : Demand3 (judging (pretends 2)) → ⊥
 not-pretending h =
-    let box = judging pretends in
+    let box = judging (pretends 2) in
     let p = start (opening Default) [] in
     let q = go box p (badTry noRecord) in
-    let all = h (opening Default) opens refl .1 (account false) 2 [] (badTry noRecord ∷ badTry noRecord ∷ rightTry false ∷ []) (rightful false) (omega arith) refl (
-      bad-allowed box (keeps-to pretends) p (account false),
-      (bad-allowed box (keeps-to pretends) q (account false), (right-allowed box (keeps-to pretends) (go box q (badTry noRecord)) false, tt)),
+    let all = h (opening Default) opens-default refl .1 (account false) 2 [] (badTry noRecord ∷ badTry noRecord ∷ rightTry false ∷ []) (rightful false) (omega arith) refl (
+      bad-allowed box p (account false),
+      (bad-allowed box q (account false), (right-allowed box (go box q (badTry noRecord)) false, tt)),
     ) in
     let s = exchange box p (invalid bad user) (line 60 noRecord) .lent in
     let t = exchange box q (invalid bad user) (line 60 noRecord) .lent in
-    let first = drew pretends (p .conversation) s (ap (octet 0) (all .0 .0 .0) ∙ failure-code _ (textOf 691 1 version)) (omega arith) in
+    let first = drew (pretends 2) (p .conversation) s (ap (octet 0) (all .0 .0 .0) ∙ failure-code _ (textOf 691 1 version)) (omega arith) in
     let left = ap (λ (o : Outcome). o .answer .next .retries) first ∙ one-left (s .packet) (s .buffer) in
     let pretended = ap (λ (n : ℕ). cond (ltb n 2) (accepts (q .conversation) t) (drawn (q .conversation) (t .packet) noRecord) .reply) left in
-    let code = code-drawn pretends (q .conversation) t (subst Fits (sym pretended) (success-fits (q .conversation .id))) (omega arith)
+    let code = code-drawn (pretends 2) (q .conversation) t (subst Fits (sym pretended) (success-fits (q .conversation .id))) (omega arith)
     (ap (octet 0) (all .0 .1 .0 .0) ∙ failure-code _ (textOf 691 1 version)) (omega arith) in
     omega (arith, code, ap (octet 0) pretended ∙ success-code (q .conversation .id))
 
 -- ---- the change leaves the record
 
--- an expired record draws a Failure, valid or not
-expired-drawn : (p : List ℕ) → let reply = drawn (opened (opening Default) .conversation) p (found (account true)) .reply in
-    Fits reply × (octet 0 reply ≡ 4)
-unfolding opened openRefusal drawn responseDrawn reasonOf firstReason
+-- what a first conversation draws for an expired record, valid or not: a Failure, and with 648 the record is kept
+expired-drawn : (p : List ℕ) → let d = drawn (opened (opening Default) .conversation) p (found (account true)) in
+    Fits (d .reply) × (octet 0 (d .reply) ≡ 4) × (octet 7 (d .reply) ≡ 52 → d .next .kept ≡ account true)
+unfolding opened openRefusal drawn responseDrawn reasonOf firstReason failurePacket textOf hexOf
 expired-drawn p = which (valid (opened (opening Default) .conversation) (account true) (responseIn p))
   where
-    which : (v : Bool) → let reply = replyFor (opened (opening Default) .conversation) (firstReason v (account true)) in
-        Fits reply × (octet 0 reply ≡ 4)
-    which true = (failure-fits 255 648 0 version, failure-code 255 (textOf 648 0 version))
-    which false = (failure-fits 255 691 1 version, failure-code 255 (textOf 691 1 version))
+    c : Conversation
+    c = opened (opening Default) .conversation
 
--- so the record that was handed out does not let the new password in
+    which : (v : Bool) → let e = firstReason v (account true) in
+        Fits (replyFor c e) × (octet 0 (replyFor c e) ≡ 4) × (octet 7 (replyFor c e) ≡ 52 → afterReason c (account true) e .kept ≡ account true)
+    which true = (failure-fits 255 648 0 version, refl, λ h. refl)
+    which false = (failure-fits 255 691 1 version, refl, λ h. absurd (omega arith))
+
+-- the octet of E's second digit: 648
+four-of : (id : ℕ) → octet 7 (failurePacket id (textOf 648 0 version)) ≡ 52
+unfolding failurePacket textOf hexOf
+four-of id = refl
+
+-- a record that is handed out is the kept one
+kept-handed : (t : Bool) (a : Account) → cond t (found a) noRecord .found ≡ true → cond t (found a) noRecord .account ≡ a
+kept-handed true a h = refl
+kept-handed false a h = absurd (false≢true h)
+
+-- so what is handed out is expired, and does not let the new password in
 pub not-leaving-record : Demand3 (judging leavesRecord) → ⊥
 not-leaving-record h =
     let box = judging leavesRecord in
     let l = found (account true) in
     let p = start (opening Default) [] in
     let q = go box p (rightTry true) in
-    let all = h (opening Default) opens refl .1 (account true) 0 [] (rightTry true ∷ change l ∷ []) (rightful true) (omega arith) refl
-    (right-allowed box (keeps-to leavesRecord) p true, (change-allowed box (keeps-to leavesRecord) q true l, tt)) in
+    let all = h (opening Default) opens-default refl .1 (account true) 0 [] (rightTry true ∷ change l ∷ []) (rightful true) (omega arith) refl
+    (right-allowed box p true, (change-allowed box q true l, tt)) in
+    let s = exchange box p (right old user) (line 55 l) .lent in
+    let first = drew leavesRecord (p .conversation) s (ap (octet 0) (all .0 .0 .0) ∙ failure-code _ (textOf 648 0 version)) (omega arith) in
+    let expired = expired-drawn (s .packet) in
+    let four = ap (octet 7) (sym (reply-of (leavesRecord (p .conversation) s) (s .buffer) (omega (arith, expired .0 .1)))
+    ∙ ap replyOf (sym first) ∙ all .0 .0 .0) ∙ four-of _ in
+    let kept = ap (λ (o : Outcome). o .answer .next .kept) first ∙ expired .2 four in
     let answered = all .0 .1 .0 in
-    let changed = drew leavesRecord (q .conversation) (exchange box q newPassword (line 1118 l) .lent) (ap (octet 0) (answered .0 .0) ∙ success-code _)
-    (omega arith) in
-    let lets = subst (λ (b : Lookup). LetsIn box (b .account) new) (ap (λ (o : Outcome). o .answer .handed) changed) (answered .2) in
+    let t = exchange box q newPassword (line 1118 l) .lent in
+    let changed = ap (λ (o : Outcome). o .answer .handed) (drew leavesRecord (q .conversation) t (ap (octet 0) (answered .0 .0) ∙ success-code _)
+    (omega arith)) in
+    let handed = ap (λ (b : Lookup). b .account) changed
+    ∙ kept-handed (drawn (q .conversation) (t .packet) (t .account) .handed .found) (q .conversation .kept)
+    (sym (ap (λ (b : Lookup). b .found) changed) ∙ answered .1) ∙ kept in
+    let lets = subst (λ (b : Account). LetsIn box b new) handed (answered .2) in
     let r = later box (opening Default) [] [] in
-    let t = exchange box r (right new user) (line 55 l) .lent in
-    let draws = lets (opening Default) [] user [] (line 55 l) opens refl tt refl (new-kept box (keeps-to leavesRecord) r l) in
-    let expired = expired-drawn (t .packet) in
-    let code = code-drawn leavesRecord (r .conversation) t (expired .0) (omega arith) (ap (octet 0) (draws .0) ∙ success-code 255) (omega arith) in
-    omega (arith, code, expired .1)
+    let u = exchange box r (right new user) (line 55 l) .lent in
+    let draws = lets (opening Default) [] user [] (line 55 l) opens-default refl tt refl (new-kept box r l) in
+    let again = expired-drawn (u .packet) in
+    let code = code-drawn leavesRecord (r .conversation) u (again .0) (omega arith) (ap (octet 0) (draws .0) ∙ success-code 255) (omega arith) in
+    omega (arith, code, again .1)
 
 -- ---- retries do not fall
 
@@ -181,10 +191,6 @@ try id = record { packet = 2 ∷ id ∷ 0 ∷ 55 ∷ 49 ∷ (replicate 48 0 ++ (
 
 abbrev tries : List Lent
 tries = try 255 ∷ try 0 ∷ try 1 ∷ try 2 ∷ []
-
-opens-once : opened (opening (Count 1)) .refusal ≡ 0
-unfolding opened openRefusal
-opens-once = refl
 
 -- with r = 1, all four are judged
 four : total (nextAfter (judging neverCounts)) (judged (judging neverCounts)) (opened (opening (Count 1)) .conversation) tries ≡ 4

@@ -1,18 +1,17 @@
 -- Our box, and boxes that are ours but for one slip each. Demand 3 holds of ours (proofs/Demand3) and of none of the others (proofs/Wrong).
 -- Assumes nothing: these are definitions.
 use mathlib.Core.Bool.{cond}
+use Prim.Native.Nat.{ℕ}
 use lib.Dec.{eqb, ltb}
-use Rattle.packets.specs.Reply.{successPacket}
-use Rattle.authenticator.specs.Account.{noRecord}
-use Rattle.authenticator.specs.Conversation.{ended}
-use Rattle.authenticator.specs.Response.{Drawn}
+use Rattle.authenticator.specs.Account.{noRecord, found}
+use Rattle.authenticator.specs.Response.{Drawn, drawnFor}
 use Rattle.authenticator.specs.Step.{drawn, judgedAs, refusedAs}
 use Rattle.authenticator.specs.Steps.{Lent, Box, stepOn, refusalAt}
 use Rattle.authenticator.specs.declared.Conversation.{Conversation}
 
--- refuses everything
-abbrev pub refusing : Box
-refusing c s = refusedAs 7 c (s .buffer)
+-- refuses everything, with one number or another
+abbrev pub refusing : ℕ → Box
+refusing n c s = refusedAs n c (s .buffer)
 
 -- what a judged packet draws, and a box that refuses what ours refuses and judges the rest so
 abbrev pub Judge : Type 0
@@ -27,17 +26,17 @@ findsNone c s = drawn c (s .packet) noRecord
 
 -- accepts always
 abbrev pub accepts : Judge
-accepts c s = record { reason = 0; reply = successPacket (c .id); next = ended c; handed = noRecord }
+accepts c s = drawnFor c (s .account .account) 0
 
--- the change leaves the record: the one that was lent is handed out
+-- the change does nothing to the record: the kept one is handed out
 abbrev pub leavesRecord : Judge
 leavesRecord c s =
     let d = drawn c (s .packet) (s .account) in
-    record { reason = d .reason; reply = d .reply; next = d .next; handed = s .account }
+    record { reason = d .reason; reply = d .reply; next = d .next; handed = cond (d .handed .found) (found (c .kept)) noRecord }
 
--- judges the first Response and pretends on retries (with document 01's two, unless the opening says otherwise)
-abbrev pub pretends : Judge
-pretends c s = cond (ltb (c .retries) 2) (accepts c s) (drawn c (s .packet) (s .account))
+-- judges the first Response of a conversation that was opened with r retries, and pretends on retries
+abbrev pub pretends : ℕ → Judge
+pretends r c s = cond (ltb (c .retries) r) (accepts c s) (drawn c (s .packet) (s .account))
 
 -- retries do not fall
 abbrev pub sameRetries : Conversation → Conversation → Conversation

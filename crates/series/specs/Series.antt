@@ -13,7 +13,7 @@ use Rattle.packets.specs.Response.{responseIn}
 use Rattle.packets.specs.Reply.{successPacket, failurePacket, readChallenge, succeeded}
 use Rattle.packets.specs.declared.Asked.{Asked}
 use Rattle.authenticator.specs.Account.{found}
-use Rattle.authenticator.specs.Opening.{Opening, retriesOf, opened, openedBuffer}
+use Rattle.authenticator.specs.Opening.{Opening, retriesOf, badRoom, opened, openedBuffer}
 use Rattle.authenticator.specs.Response.{valid, version}
 use Rattle.authenticator.specs.Step.{Outcome, numberOf}
 use Rattle.authenticator.specs.Steps.{Lent, Box, replyOf, nextAfter, Refused, judged, Rightful}
@@ -106,9 +106,10 @@ pub record Within (n : ℕ) : Type 0 where
   pub not10 : n ≢ 10
   pub not12 : n ≢ 12
 
--- "The limits are kept when our peer's calls and the steps that take its packets meet none of" them.
+-- "The limits are kept when our peer's calls and the steps that take its packets meet none of" them. Of these a step has 2 alone, and only for a
+-- reply buffer that is too small: a box that answers 2 to another one, or 8, 9, 10 or 12, does not get out of the claim.
 abbrev pub Kept : Exchange → Type 0
-Kept x = Within (x .wrote .answer .refusal) × Within (numberOf (x .outcome .answer .kind))
+Kept x = Within (x .wrote .answer .refusal) × (badRoom (x .lent .buffer) ≡ true → numberOf (x .outcome .answer .kind) ≢ 2)
 
 -- ---- the claim
 
@@ -192,7 +193,7 @@ module _ (box : Box) where
 
   -- "A single claim about the series from opening to end": the Challenge is read; each packet of our peer draws what it should; "with k invalid
   -- tries the box judges exactly k + 1 packets, or k + 2 with the record expired", and the conversation has ended; of any steps at all it judges
-  -- at most r + 2. It holds of our box (proofs/Demand3), and of no box in specs/Wrong (proofs/Wrong).
+  -- at most r + 2. It holds of our box (proofs/Demand3), and of none of the wrong ones in specs/Boxes (proofs/Wrong).
   abbrev pub Demand3 : Type 0
   Demand3 =
       (o : Opening) → opened o .refusal ≡ 0 → length (o .challenge) ≡ 8

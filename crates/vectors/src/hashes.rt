@@ -48,14 +48,14 @@ fn put_password(out: &mut [u8], at: usize, octets: [u8; 512], n: usize) -> usize
 
 // unseal OLDHASH BLOCK516
 fn unseal(line: &[u8], out: &mut [u8], at: usize) -> usize {
-    let opened = credentials::open(text::sixteen(line, 1), text::sealed(line, 2));
-    let content = opened.content;
+    let unsealed = credentials::unseal(text::sixteen(line, 1), text::sealed(line, 2));
+    let content = unsealed.content;
     let start = text::put(out, at, b" = ");
     match content {
         Content::Over => text::put(out, start, b"over"),
         Content::Odd => text::put(out, start, b"odd"),
         Content::Password(n) => {
-            let octets = opened.octets;
+            let octets = unsealed.octets;
             put_password(out, start, octets, n)
         }
     }

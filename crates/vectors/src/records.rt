@@ -28,14 +28,14 @@ fn account(line: &[u8]) -> Account {
     let nt = hash(line, 1);
     let lm = hash(line, 2);
     let disabled = mark(line, 0);
-    let hours = mark(line, 1);
+    let barred = mark(line, 1);
     let nodialin = mark(line, 2);
     let expired = mark(line, 3);
     Account {
         nt,
         lm,
         disabled,
-        hours,
+        barred,
         nodialin,
         expired,
     }
@@ -67,7 +67,7 @@ fn put_mark(out: &mut [u8], at: usize, mark: bool) -> usize {
 
 fn put_marks(out: &mut [u8], at: usize, account: Account) -> usize {
     let a = put_mark(out, at, account.disabled);
-    let b = put_mark(out, a, account.hours);
+    let b = put_mark(out, a, account.barred);
     let c = put_mark(out, b, account.nodialin);
     put_mark(out, c, account.expired)
 }

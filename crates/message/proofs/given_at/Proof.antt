@@ -21,10 +21,10 @@ returns c =
     rw here (cc)
 
 returns-2 : tie.Need-returns-2
-returns-2 c = rw (c .enum-told .given .1)
+returns-2 c = rw (c .before .enum-told .given .1) (c .no-c .ensures)
 
 pub given-at-spec : {M : Type 1} → statement M
 given-at-spec =
     tie.close
     (tie.spec
-    (λ c. search needs) (λ c κs. search needs) (λ c κs. search needs) octets-of-requires (λ c. search needs) returns returns-2)
+    (λ c. search needs) (λ c κs. search needs) (λ c κs. search needs) octets-of-requires (λ c. search needs) (λ c κs. search needs) returns returns-2)

@@ -61,7 +61,7 @@ returns-2 c =
     let s = told .before .before .before in
     let m = s .args .message .now in
     let e : first fieldE (words m) ≡ none = sym (ap (λ (t : Told). t .e) (s .pre)) ∙ ap (digitsAt m) (told .enum-told2 .given .1) in
-    rw e (c .refused .ensures)
+    rw e (c .refused-with .ensures)
 
 pub judge-spec : {M : Type 1} → statement M
 judge-spec =

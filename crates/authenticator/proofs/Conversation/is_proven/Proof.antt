@@ -9,12 +9,12 @@ use Rattle.authenticator.proofs.Conversation.is_proven.Tie as tie
 returns : tie.Need-returns
 returns c =
     let h = c .before .before in
-    let first = sym (h .before .is-same-hash .ensures ∙ ap (agrees (h .before .before .before .before .before .before .before .before .before .args .fields .proof)) (h .before .before .old-under-new .ensures)) ∙ h .if1 .taken in
+    let first = sym (h .before .is-same-hash .ensures ∙ ap (agrees (h .before .before .before .before .before .before .before .before .before .args .fields .verifier)) (h .before .before .old-under-new .ensures)) ∙ h .if1 .taken in
     simp first (c .is-same-response .ensures ∙ ap (agrees (h .before .before .before .before .before .before .before .before .before .args .fields .nt)) (c .before .challenge-response .ensures))
 
 returns-2 : tie.Need-returns-2
 returns-2 c =
-    simp (sym (c .before .is-same-hash .ensures ∙ ap (agrees (c .before .before .before .before .before .before .before .before .before .args .fields .proof)) (c .before .before .old-under-new .ensures)) ∙ c .if1 .left)
+    simp (sym (c .before .is-same-hash .ensures ∙ ap (agrees (c .before .before .before .before .before .before .before .before .before .args .fields .verifier)) (c .before .before .old-under-new .ensures)) ∙ c .if1 .left)
 
 pub is-proven-spec : {M : Type 1} → statement M
 is-proven-spec =

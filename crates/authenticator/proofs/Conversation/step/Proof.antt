@@ -3,15 +3,17 @@
 use borrow.Author.Needs.{needs}
 use mathlib.Core.Path.{sym, ap, ap₂, _∙_}
 use mathlib.Core.List.{List}
+use mathlib.Core.Logic.{_≢_}
 use Prim.Native.Nat.{ℕ}
 use lib.ListN.{length}
 use Rattle.packets.specs.Frame.{headed}
+use Rattle.authenticator.specs.Refusal.{refusalOf}
 use Rattle.authenticator.specs.Response.{replyFor}
 use Rattle.authenticator.specs.Step.{Outcome, drawn}
 use Rattle.authenticator.specs.declared.Lookup.{Lookup}
 use Rattle.authenticator.specs.declared.Judgement.{Judgement}
 use Rattle.authenticator.specs.declared.Kind.the-variants.{Refused, Judged}
-use Rattle.authenticator.proofs.Steps.{judged-step, refused-step, live-and-roomy}
+use Rattle.authenticator.proofs.Steps.{judged-step, refused-step, judged-reason, refused-reason, live-and-roomy}
 use Rattle.authenticator.proofs.Replies.{drawn-fitting}
 use Rattle.authenticator.proofs.Conversation.step.Statement.{statement}
 use Rattle.authenticator.proofs.Conversation.step.Tie as tie
@@ -21,11 +23,13 @@ returns c =
     let k = c .before .before in
     let a = k .before .before .before .before .args in
     let b = a .reply .now in
-    let whole = refused-step (a .self) (a .packet .now) (a .lookup) b (λ e. c .before .if1 .taken (k .refusal .ensures ∙ e)) in (
+    let some : refusalOf (a .self) (a .packet .now) b ≢ 0 = λ e. c .before .if1 .taken (k .refusal .ensures ∙ e) in
+    let whole = refused-step (a .self) (a .packet .now) (a .lookup) b some in (
       ap₂ (λ (n : ℕ) (l : Lookup). record { kind = Refused n; next = a .self; written = 0; handed = l }) (k .refusal .ensures) (c .no-record .ensures)
           ∙ sym (ap (λ (o : Outcome). o .answer) whole),
       sym (ap (λ (o : Outcome). o .buffer) whole),
       k .refusal .ensures,
+      sym (refused-reason (a .self) (a .packet .now) (a .lookup) b some),
     )
 
 write-reply-requires : tie.Need-write-reply-requires
@@ -51,6 +55,7 @@ returns-2 c =
           ∙ sym (ap (λ (o : Outcome). o .answer) whole),
       w .write-reply .ensures .1 ∙ ap (λ (r : List ℕ). headed r b) reply ∙ sym (ap (λ (o : Outcome). o .buffer) whole),
       sym ok,
+      ap (λ (x : Judgement). x .reason) (j .judge .ensures) ∙ sym (judged-reason (a .self) p (a .lookup) b ok),
     )
 
 pub step-spec : {M : Type 1} → statement M

@@ -15,7 +15,7 @@ hash-of-last-requires c κs = subst Sound (c .before .content .given .1) (c .bef
 returns-3 : tie.Need-returns-3
 unfolding passwordIn
 returns-3 c =
-    let o = c .before .before .before .before .before .args .opened in
+    let o = c .before .before .before .before .before .args .unsealed in
     c .hash-of-last .ensures ∙ ap (λ (k : Content). hashFound (hashInside k o)) (sym (c .before .before .content .given .1))
 
 pub hash-in-spec : {M : Type 1} → statement M

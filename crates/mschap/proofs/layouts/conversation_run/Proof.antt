@@ -23,7 +23,7 @@ returns c =
     let s₂ = next (first 4 refl (c₁ .copy-at .ensures)) (v .challenge) 8 (eight start) (c₂ .copy-at2 .ensures) in
     let s₃ = next s₂ (r .account-run .result) 38 n (c .before .copy-at3 .ensures) in
     laid-whole s₃ (length-replicate {A = ℕ} 50 0)
-    ∙ conversation-pieces v (r .before .before .phase-code .ensures) (r .before .mark .ensures) (r .account-run .ensures)
+    ∙ conversation-pieces v (r .before .before .awaited-code .ensures) (r .before .mark .ensures) (r .account-run .ensures)
 
 pub conversation-run-spec : {M : Type 1} → statement M
 conversation-run-spec =

@@ -13,9 +13,9 @@ returns c =
     let c₁ = c .before .before .before .before .before .before .before in
     let a = c₁ .before .before .before .before .args in
     let block : length (a .t3) ≡ 516 = search needs in
-    let proof : length (a .t4) ≡ 16 = search needs in (
+    let verifier : length (a .t4) ≡ 16 = search needs in (
       writing.join (a .at) (a .t3) (a .t4) (a .out .now) block (c₁ .copy-at .ensures) (c .before .before .copy-at2 .ensures),
-      omega (arith, block, proof, length-append (a .t3) (a .t4)),
+      omega (arith, block, verifier, length-append (a .t3) (a .t4)),
     )
 
 pub put-pair-spec : {M : Type 1} → statement M

@@ -8,9 +8,9 @@ use Rattle.packets.proofs.changes.read_change.Tie as tie
 returns : tie.Need-returns
 returns c =
     change-same
-    (c .before .before .before .before .before .before .block-at .ensures) (c .before .before .before .before .before .proof-at .ensures)
-    (c .before .before .before .before .block-at2 .ensures) (c .before .before .before .proof-at2 .ensures)
-    (c .before .before .answer-at .ensures) (c .before .answer-at2 .ensures) (c .flags .ensures)
+    (c .before .before .before .before .before .before .block-at .ensures) (c .before .before .before .before .before .sixteen-at .ensures)
+    (c .before .before .before .before .block-at2 .ensures) (c .before .before .before .sixteen-at2 .ensures)
+    (c .before .before .response-at .ensures) (c .before .response-at2 .ensures) (c .flags .ensures)
 
 pub read-change-spec : {M : Type 1} → statement M
 read-change-spec =

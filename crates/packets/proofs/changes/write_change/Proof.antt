@@ -26,12 +26,12 @@ returns-2 c =
     let f = a .fields in
     let last = f .lm ++ (f .nt ++ toBe 2 (f .flags)) in
     let s₁ = writing.first 4 (ap length (h .head .ensures)) (c₁ .copy-at .ensures) in
-    let s₂ = writing.next s₁ (f .block ++ f .proof) 532 (c₂ .put-pair .ensures .1) (c₂ .put-pair .ensures .0) in
-    let s₃ = writing.next s₂ (f .lmblock ++ f .lmproof) 532 (c₃ .put-pair2 .ensures .1) (c₃ .put-pair2 .ensures .0) in
+    let s₂ = writing.next s₁ (f .block ++ f .verifier) 532 (c₂ .put-pair .ensures .1) (c₂ .put-pair .ensures .0) in
+    let s₃ = writing.next s₂ (f .lmblock ++ f .lmverifier) 532 (c₃ .put-pair2 .ensures .1) (c₃ .put-pair2 .ensures .0) in
     let s₄ = writing.next s₃ last 50 (rest .ensures .1) (rest .ensures .0) in
-    let order = writing.change-order (h .head .result) (f .block) (f .proof) (f .lmblock) (f .lmproof) last in
+    let order = writing.change-order (h .head .result) (f .block) (f .verifier) (f .lmblock) (f .lmverifier) last in
     let room : 1118 ≤ length (a .out .now) = h .before .if1 .left in
-    let done = writing.framed-laid 6 (a .id) (f .block ++ (f .proof ++ (f .lmblock ++ (f .lmproof ++ last)))) s₄ (h .head .ensures) order room in
+    let done = writing.framed-laid 6 (a .id) (f .block ++ (f .verifier ++ (f .lmblock ++ (f .lmverifier ++ last)))) s₄ (h .head .ensures) order room in
     writing.change-written (a .id) f (a .out .now) room (done .0) (done .1 .1)
 
 pub write-change-spec : {M : Type 1} → statement M

@@ -7,11 +7,10 @@ use borrow.Author.Tests.{eq-eqb, ne-eqb}
 use borrow.Author.Needs.{needs}
 use Rattle.octets.specs.Parts.{part}
 use Rattle.message.specs.declared.Verdict.the-variants.{Success}
-use Rattle.message.specs.Message.{numberOf, readMessage}
-use Rattle.message.specs.declared.Reading.{Reading}
+use Rattle.message.specs.Message.{readMessage}
 use Rattle.packets.specs.Reply.{readReply}
 use Rattle.packets.specs.Frame.{octet}
-use Rattle.packets.proofs.Refusals.{reply-refusal}
+use Rattle.packets.proofs.Refusals.{reply-told}
 use Rattle.packets.proofs.replies.read_reply.Statement.{statement}
 use Rattle.packets.proofs.replies.read_reply.Tie as tie
 
@@ -20,23 +19,23 @@ unfolding readReply
 returns c =
     let a = c .before .before .before .before .args in
     let p = a .packet .now in
-    let e : c .refused .result ≡ readReply (a .last) p = simp (
-      c .refused .ensures,
+    let e : c .refused-with .result ≡ readReply (a .last) p = simp (
+      c .refused-with .ensures,
       sym (c .before .before .bad-frame .ensures) ∙ c .before .if1 .taken,
     ) in
-    (e, ap (λ (r : Reading). numberOf (r .verdict)) e ∙ reply-refusal (a .last) p)
+    reply-told (a .last) p e
 
 returns-2 : tie.Need-returns-2
 unfolding readReply
 returns-2 c =
     let a = c .before .before .before .before .before .before .args in
     let p = a .packet .now in
-    let e : c .refused2 .result ≡ readReply (a .last) p = simp (
-      c .refused2 .ensures,
+    let e : c .refused-with2 .result ≡ readReply (a .last) p = simp (
+      c .refused-with2 .ensures,
       sym (c .before .before .before .before .bad-frame .ensures) ∙ c .before .before .before .if1 .left,
       ne-eqb (octet 1 p) (a .last) (omega arith),
     ) in
-    (e, ap (λ (r : Reading). numberOf (r .verdict)) e ∙ reply-refusal (a .last) p)
+    reply-told (a .last) p e
 
 returns-3 : tie.Need-returns-3
 unfolding readReply
@@ -49,7 +48,7 @@ returns-3 c =
       eq-eqb (octet 1 p) (a .last) (omega arith),
       eq-eqb (octet 0 p) 3 (omega arith),
     ) in
-    (e, ap (λ (r : Reading). numberOf (r .verdict)) e ∙ reply-refusal (a .last) p)
+    reply-told (a .last) p e
 
 returns-4 : tie.Need-returns-4
 unfolding readReply
@@ -64,21 +63,21 @@ returns-4 c =
       ne-eqb (octet 0 p) 3 (omega arith),
       eq-eqb (octet 0 p) 4 (omega arith),
     )) in
-    (e, ap (λ (r : Reading). numberOf (r .verdict)) e ∙ reply-refusal (a .last) p)
+    reply-told (a .last) p e
 
 returns-5 : tie.Need-returns-5
 unfolding readReply
 returns-5 c =
     let a = c .before .before .before .before .before .before .before .before .before .args in
     let p = a .packet .now in
-    let e : c .refused3 .result ≡ readReply (a .last) p = simp (
-      c .refused3 .ensures,
+    let e : c .refused-with3 .result ≡ readReply (a .last) p = simp (
+      c .refused-with3 .ensures,
       sym (c .before .before .before .before .before .before .before .bad-frame .ensures) ∙ c .before .before .before .before .before .before .if1 .left,
       eq-eqb (octet 1 p) (a .last) (omega arith),
       ne-eqb (octet 0 p) 3 (omega arith),
       ne-eqb (octet 0 p) 4 (omega arith),
     ) in
-    (e, ap (λ (r : Reading). numberOf (r .verdict)) e ∙ reply-refusal (a .last) p)
+    reply-told (a .last) p e
 
 pub read-reply-spec : {M : Type 1} → statement M
 read-reply-spec =

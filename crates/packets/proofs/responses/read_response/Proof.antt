@@ -6,7 +6,7 @@ use Rattle.packets.proofs.responses.read_response.Statement.{statement}
 use Rattle.packets.proofs.responses.read_response.Tie as tie
 
 returns : tie.Need-returns
-returns c = response-same (c .before .before .answer-at .ensures) (c .before .answer-at2 .ensures) (c .octet .ensures)
+returns c = response-same (c .before .before .response-at .ensures) (c .before .response-at2 .ensures) (c .octet .ensures)
 
 pub read-response-spec : {M : Type 1} → statement M
 read-response-spec =

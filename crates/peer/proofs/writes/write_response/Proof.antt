@@ -4,7 +4,7 @@ use mathlib.Core.Path.{ap, _∙_}
 use Rattle.credentials.specs.Credentials.{ntHashOf, badNtPassword}
 use Rattle.packets.specs.Response.{responseWritten, responseOut}
 use Rattle.packets.specs.declared.Response.{Response}
-use Rattle.peer.specs.Write.{answerFields}
+use Rattle.peer.specs.Write.{responseFieldsOf}
 use Rattle.peer.proofs.Written.{bad-hash, good-hash, response-password, response-written}
 use borrow.Author.Needs.{needs}
 use Rattle.peer.proofs.writes.write_response.Statement.{statement}
@@ -23,7 +23,7 @@ returns-2 c =
     let a = k .before .before .before .before .before .before .args in
     let t = a .turn in
     let good = good-hash (badNtPassword (a .password .now)) (ntHashOf (a .password .now)) (k .before .before .nt-hash .ensures) (k .if1 .left) in
-    let fields = c .before .before .before .before .response-fields .ensures ∙ ap (answerFields (t .challenge)) (good .1) in
+    let fields = c .before .before .before .before .response-fields .ensures ∙ ap (responseFieldsOf (t .challenge)) (good .1) in
     let done = response-written t (a .password .now) (a .name .now) (a .out .now) (good .0) in
     let wrote = c .before .before .write-response .ensures in (
       wrote .0 ∙ ap (λ (f : Response). responseWritten (t .id) f (a .name .now) (a .out .now)) fields ∙ done .0,
