@@ -2,7 +2,7 @@
 -- Assumes nothing.
 use mathlib.Core.Path.{_≡_, refl, sym, ap, ap₂, _∙_}
 use mathlib.Core.Bool.{Bool, true, false, cond, not, _||_, true≢false}
-use mathlib.Core.List.{List, _++_, map, append-assoc}
+use mathlib.Core.List.{List, _++_, map}
 use mathlib.Core.Option.{none, some}
 use Prim.Native.Nat.{ℕ, _+_, _-_, _%_, _≤_}
 use native.Mathlib.Nat.{mod-eq-of-lt}
@@ -10,7 +10,7 @@ use native.Mathlib.Omega.{arith}
 use borrow.Author.Tests.{le-ltb, ne-eqb, ltb-false, eqb-false}
 use lib.Dec.{eqb, ltb}
 use lib.ListN.{length, take, drop, replicate, length-append}
-use lib.Seq.{length-take-le, take-all, drop-at, take-at}
+use lib.Seq.{take-all, drop-at, take-at}
 use Rattle.octets.specs.Parts.{part, fixed}
 use Rattle.octets.specs.Numbers.{fromLe, toLe}
 use Rattle.octets.proofs.Parts.{over-fills, length-fixed}
@@ -24,6 +24,7 @@ use Rattle.credentials.specs.declared.Content.the-variants.{Over, Odd, P
 use Rattle.credentials.specs.declared.Unsealed.{Unsealed}
 use Rattle.credentials.specs.declared.Sealed.{Sealed}
 use Rattle.credentials.specs.Credentials.{ntHashOf, badNtPassword, lmKeys, upper, responseOf, oldUnderNew, plainBlock, sealedBlock, badFiller, sealRefusal, sealedAs, lengthIn, contentFor, lengthTold, passwordLength, Sound, unsealedAs, passwordIn}
+use Rattle.credentials.proofs.Plain.{front, front-length, body-length, plain-parts, length-plain}
 
 -- ---- lengths
 
@@ -49,46 +50,29 @@ unfolding oldUnderNew
 length-old-under-new old new = two-blocks _ _ _ _
 
 module _ (filler password : List ℕ) (room : length filler ≡ 512) (fits : length password ≤ 512) where
-  abbrev front : List ℕ
-  front = take (512 - length password) filler
-
-  front-length : length front ≡ 512 - length password
-  front-length = length-take-le (512 - length password) filler (omega arith)
-
-  -- the 512 octets before the length
-  body-length : length (front ++ password) ≡ 512
-  body-length = length-append front password ∙ omega (arith, front-length)
-
-  plain-parts : plainBlock filler password ≡ (front ++ password) ++ toLe 4 (length password)
-  unfolding plainBlock
-  plain-parts = sym (append-assoc front password (toLe 4 (length password)))
-
-  length-plain : length (plainBlock filler password) ≡ 516
-  length-plain = ap length plain-parts ∙ length-append (front ++ password) (toLe 4 (length password)) ∙ omega (arith, body-length)
-
   -- ---- opening what was sealed
 
   length-read : lengthIn (plainBlock filler password) ≡ length password
   length-read =
       let n : ℕ = length password in
-      ap (λ (x : List ℕ). fromLe (take 4 (drop 512 x))) plain-parts
-      ∙ ap (λ (x : List ℕ). fromLe (take 4 x)) (drop-at (front ++ password) (toLe 4 n) 512 body-length)
+      ap (λ (x : List ℕ). fromLe (take 4 (drop 512 x))) (plain-parts filler password room fits)
+      ∙ ap (λ (x : List ℕ). fromLe (take 4 x)) (drop-at (front filler password ++ password) (toLe 4 n) 512 (body-length filler password room fits))
       ∙ ap fromLe (take-all 4 (toLe 4 n) (omega (arith, length-toLe 4 n)))
       ∙ fromLe-toLe 4 n ∙ mod-eq-of-lt (omega arith)
 
-  body-read : fixed 512 (plainBlock filler password) ≡ front ++ password
+  body-read : fixed 512 (plainBlock filler password) ≡ front filler password ++ password
   body-read =
-      over-fills (plainBlock filler password) (replicate 512 0) (omega (arith, length-plain))
-      ∙ ap (take 512) plain-parts ∙ take-at (front ++ password) (toLe 4 (length password)) 512 body-length
+      over-fills (plainBlock filler password) (replicate 512 0) (omega (arith, length-plain filler password room fits))
+      ∙ ap (take 512) (plain-parts filler password room fits) ∙ take-at (front filler password ++ password) (toLe 4 (length password)) 512 (body-length filler password room fits)
 
   unsealed-plain : (old : List ℕ) → crypted old (sealedBlock old filler password) ≡ plainBlock filler password
   unfolding sealedBlock
   unsealed-plain old = crypted-twice old (plainBlock filler password)
 
   pub length-sealed : (old : List ℕ) → length (sealedBlock old filler password) ≡ 516
-  length-sealed old = sym (length-crypted old (sealedBlock old filler password)) ∙ ap length (unsealed-plain old) ∙ length-plain
+  length-sealed old = sym (length-crypted old (sealedBlock old filler password)) ∙ ap length (unsealed-plain old) ∙ length-plain filler password room fits
 
-  pub unseal-sealed : (old : List ℕ) → unsealedAs old (sealedBlock old filler password) ≡ record { content = contentFor (length password); octets = front ++ password }
+  pub unseal-sealed : (old : List ℕ) → unsealedAs old (sealedBlock old filler password) ≡ record { content = contentFor (length password); octets = front filler password ++ password }
   unfolding unsealedAs
   unseal-sealed old =
       ap (λ (x : List ℕ). record { content = contentFor (lengthIn x); octets = fixed 512 x }) (unsealed-plain old)
@@ -99,7 +83,7 @@ module _ (filler password : List ℕ) (room : length filler ≡ 512) (fits : len
   unfolding passwordIn
   password-sealed old =
       ap (λ (x : Unsealed). part (512 - length password) (length password) (x .octets)) (unseal-sealed old)
-      ∙ ap (take (length password)) (drop-at front password (512 - length password) front-length)
+      ∙ ap (take (length password)) (drop-at (front filler password) password (512 - length password) (front-length filler password room fits))
       ∙ take-all (length password) password (omega arith)
 
 -- ---- what a length says

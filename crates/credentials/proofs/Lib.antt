@@ -1,3 +1,4 @@
 pub mod Padded
+pub mod Plain
 pub mod Laws
 mod Worked

@@ -7,7 +7,6 @@ pub mod Swaps
 pub mod Round
 pub mod Keys
 pub mod RoundTrip
-pub mod Three
 pub mod Sizes
 pub mod Parity
 pub mod Worked

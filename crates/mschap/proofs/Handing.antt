@@ -1,24 +1,12 @@
--- Laws of runs: what is taken in of a run of its size, and what `hand` leaves.
+-- What `hand` answers and leaves.
 -- Assumes nothing.
 use mathlib.Core.Path.{_≡_, sym, ap, ap₂, _∙_}
 use mathlib.Core.Bool.{Bool, _&&_}
 use mathlib.Core.List.{List}
 use Prim.Native.Nat.{ℕ}
-use native.Mathlib.Omega.{arith}
 use borrow.Author.Tests.{eq-eqb}
 use lib.ListN.{length}
-use lib.Seq.{take-all}
-use Rattle.octets.specs.Parts.{part, over, fixed}
-use Rattle.octets.proofs.Parts.{over-fills, fixed-same}
 use Rattle.mschap.specs.Call.{sized, numbered, left}
-
--- a copy over a run of its own size
-pub filled : (run out : List ℕ) → length out ≡ length run → over run out ≡ run
-filled run out e = over-fills run out (omega arith) ∙ take-all (length out) run (omega arith)
-
--- a run of n octets, taken in whole
-pub whole : (n : ℕ) (run : List ℕ) → length run ≡ n → fixed n (part 0 n run) ≡ run
-whole n run e = ap (fixed n) (take-all n run (omega arith)) ∙ fixed-same n run e
 
 -- what `hand` answers and leaves, by the size and the value of what was handed
 pub handed : (out : List ℕ) {n refusal number r : ℕ} {run value after : List ℕ} → length run ≡ n → run ≡ value → refusal ≡ number

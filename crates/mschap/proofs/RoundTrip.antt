@@ -21,7 +21,7 @@ use Rattle.authenticator.specs.declared.Phase.the-variants.{Response, Change, E
 use Rattle.peer.specs.declared.Turn.{Turn}
 use Rattle.peer.specs.declared.Sent.{Sent}
 use Rattle.mschap.specs.Layout as layout
-use Rattle.mschap.proofs.Handing.{whole}
+use Rattle.octets.proofs.Parts.{fixed-whole}
 
 -- ---- the sizes of a value's arrays, which the code's types fix
 
@@ -43,7 +43,7 @@ hash-same : {p p' : Bool} {o o' : List ℕ} → p ≡ p' → o ≡ o' → _≡_ 
 hash-same e f = cc
 
 pub hash-back : (h : Hash) → length (h .octets) ≡ 16 → layout.hashIn (layout.hashRun h) ≡ h
-hash-back h e = hash-same (mark-back (h .present)) (whole 16 (h .octets) e)
+hash-back h e = hash-same (mark-back (h .present)) (fixed-whole 16 (h .octets) e)
 
 pub length-account : (a : Account) → SizedAccount a → length (layout.accountRun a) ≡ 38
 unfolding layout.accountRun
@@ -155,10 +155,10 @@ turn-same : {c c' : List ℕ} (id : ℕ) → c ≡ c' → _≡_ {A = Turn} (reco
 turn-same id e = cc
 
 pub turn-back : (t : Turn) → length (t .challenge) ≡ 8 → layout.turnIn (layout.turnRun t) ≡ t
-turn-back t e = turn-same (t .id) (whole 8 (t .challenge) e)
+turn-back t e = turn-same (t .id) (fixed-whole 8 (t .challenge) e)
 
 sent-same : {c c' : List ℕ} (id : ℕ) → c ≡ c' → _≡_ {A = Sent} (record { id = id; challenge = c }) (record { id = id; challenge = c' })
 sent-same id e = cc
 
 pub sent-back : (s : Sent) → length (s .challenge) ≡ 8 → layout.sentIn (layout.sentRun s) ≡ s
-sent-back s e = sent-same (s .id) (whole 8 (s .challenge) e)
+sent-back s e = sent-same (s .id) (fixed-whole 8 (s .challenge) e)

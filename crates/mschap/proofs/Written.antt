@@ -1,20 +1,14 @@
 -- What the writers of the layouts leave: the pieces of a run, laid one behind the other over an array of its size, are the run.
 -- Assumes nothing.
-use mathlib.Core.Path.{_≡_, sym, ap₂, _∙_}
+use mathlib.Core.Path.{_≡_, ap₂, _∙_}
 use mathlib.Core.List.{List, [], _∷_, _++_, append-assoc}
 use Prim.Native.Nat.{ℕ}
-use lib.ListN.{length}
-use Rattle.packets.proofs.Writing.{Laid}
 use Rattle.authenticator.specs.Conversation.{awaitedCode}
 use Rattle.authenticator.specs.declared.Account.{Account}
 use Rattle.authenticator.specs.declared.Conversation.{Conversation}
 use Rattle.octets.specs.Numbers.{toBe}
 use Rattle.message.specs.declared.Failed.{Failed}
 use Rattle.mschap.specs.Layout.{mark, hashRun, accountRun, conversationRun, callNumber, failedRun}
-use Rattle.mschap.proofs.Handing.{filled}
-
-pub laid-whole : {l xs b : List ℕ} {n : ℕ} → Laid l xs n b → length l ≡ n → b ≡ xs
-laid-whole {l} {xs} s e = s .same ∙ filled xs l (e ∙ sym (s .long))
 
 -- the pieces are those of the layout
 pub account-pieces : (a : Account) {nt lm : List ℕ} {d h n e : ℕ} → nt ≡ hashRun (a .nt) → lm ≡ hashRun (a .lm) → d ≡ mark (a .disabled) → h ≡ mark (a .barred)

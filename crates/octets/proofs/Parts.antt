@@ -113,6 +113,10 @@ length-part a n l h = length-take-le n (drop a l) (omega (arith, length-drop a l
 pub fixed-part : (a n : ℕ) (l : List ℕ) → a + n ≤ length l → fixed n (part a n l) ≡ part a n l
 fixed-part a n l h = fixed-same n (part a n l) (length-part a n l h)
 
+-- a list of n octets, taken whole
+pub fixed-whole : (n : ℕ) (l : List ℕ) → length l ≡ n → fixed n (part 0 n l) ≡ l
+fixed-whole n l e = ap (fixed n) (take-all n l (omega arith)) ∙ fixed-same n l e
+
 over-nothing : (l : List ℕ) → over [] l ≡ l
 unfolding over
 over-nothing l = refl

@@ -26,8 +26,8 @@ use Rattle.packets.proofs.Framing.{frame-good, field}
 use Rattle.packets.proofs.Writing.{Sized, length-answers, length-fields}
 
 -- a field of fixed length
-fixed-part : (k : ℕ) (l x : List ℕ) → l ≡ x → length x ≡ k → fixed k l ≡ x
-fixed-part k l x e h = ap (fixed k) e ∙ fixed-same k x h
+fixed-field : (k : ℕ) (l x : List ℕ) → l ≡ x → length x ≡ k → fixed k l ≡ x
+fixed-field k l x e h = ap (fixed k) e ∙ fixed-same k x h
 
 -- the octet with which the rest begins
 octet-at : (a : ℕ) (p : List ℕ) (x : ℕ) (rest : List ℕ) → drop a p ≡ x ∷ rest → octet a p ≡ x
@@ -65,7 +65,7 @@ response-back id f name t lm nt least most =
       frame = g .good;
       code = refl;
       id = refl;
-      fields = response-same (fixed-part 24 _ (f .lm) (l .0) lm) (fixed-part 24 _ (f .nt) (n .0) nt) flag;
+      fields = response-same (fixed-field 24 _ (f .lm) (l .0) lm) (fixed-field 24 _ (f .nt) (n .0) nt) flag;
       name = ap₂ (λ (i : ℕ) (x : List ℕ). take i x) named (k .1) ∙ take-at name t (length name) refl;
       size = size;
       fit = λ h. simp (size, le-ltb 1 (octet 53 p) (omega arith));
@@ -105,9 +105,9 @@ change-back id f t s small =
       id = refl;
       fields =
           change-same
-          (fixed-part 516 _ (f .block) (x₁ .0) (s .block)) (fixed-part 16 _ (f .verifier) (x₂ .0) (s .verifier))
-          (fixed-part 516 _ (f .lmblock) (x₃ .0) (s .lmblock)) (fixed-part 16 _ (f .lmverifier) (x₄ .0) (s .lmverifier))
-          (fixed-part 24 _ (f .lm) (x₅ .0) (s .lm)) (fixed-part 24 _ (f .nt) (x₆ .0) (s .nt)) flags;
+          (fixed-field 516 _ (f .block) (x₁ .0) (s .block)) (fixed-field 16 _ (f .verifier) (x₂ .0) (s .verifier))
+          (fixed-field 516 _ (f .lmblock) (x₃ .0) (s .lmblock)) (fixed-field 16 _ (f .lmverifier) (x₄ .0) (s .lmverifier))
+          (fixed-field 24 _ (f .lm) (x₅ .0) (s .lm)) (fixed-field 24 _ (f .nt) (x₆ .0) (s .nt)) flags;
       size = size;
       fit = λ h. simp (size, le-ltb 3 (changeIn p .flags) (omega arith));
     }
@@ -120,7 +120,7 @@ challenge-back id c t e =
     let g = frame-good 1 id (length c ∷ c) t (omega arith) in
     let p = framed 1 id (length c ∷ c) ++ t in
     let size : lengthOf p ≡ 13 = g .long ∙ omega arith in
-    simp (g .good, le-ltb (lengthOf p) 13 (omega arith), eq-eqb (length c) 8 e) (asked-same refl refl (fixed-part 8 _ c (take-at c t 8 e) e))
+    simp (g .good, le-ltb (lengthOf p) 13 (omega arith), eq-eqb (length c) 8 e) (asked-same refl refl (fixed-field 8 _ c (take-at c t 8 e) e))
 
 pub success-back : (id : ℕ) (t : List ℕ) → readReply id (successPacket id ++ t) ≡ succeeded
 unfolding successPacket readReply

@@ -1,19 +1,19 @@
 -- What the writers leave: the pieces of a packet, laid one behind the other over the front of the lent buffer, are the packet there. Lengths of
 -- the packets.
 -- Assumes nothing.
-use mathlib.Core.Path.{_≡_, refl, sym, ap, ap₂, _∙_}
+use mathlib.Core.Path.{_≡_, refl, sym, ap, _∙_}
 use mathlib.Core.Bool.{Bool, true, false, _||_, false≢true}
 use mathlib.Core.List.{List, [], _∷_, _++_, append-assoc}
 use Prim.Native.Nat.{ℕ, _+_, _≤_, _<_}
-use native.Mathlib.Nat.{zero-add}
 use native.Mathlib.Omega.{arith}
 use borrow.Author.Tests.{le-leb, lt-leb, lt-ltb, le-ltb, ltb-false}
 use lib.Dec.{ltb}
 use lib.ListN.{length, take, drop, length-append}
 use lib.Seq.{take-append-seam}
 use Rattle.octets.specs.Numbers.{toBe}
-use Rattle.octets.specs.Parts.{over, overAt}
-use Rattle.octets.proofs.Parts.{over-fits, over-join}
+use Rattle.octets.specs.Parts.{over}
+use Rattle.octets.proofs.Parts.{over-fits}
+use Rattle.octets.proofs.Laid.{Laid}
 use Rattle.packets.specs.Frame.{framed, headed, headedLength}
 use Rattle.packets.specs.Response.{responsePacket, badName, responseWriteRefusal, responseWritten, responseOut}
 use Rattle.packets.specs.Change.{changePacket, changeWriteRefusal, changeWritten, changeOut}
@@ -79,26 +79,6 @@ pub taken : (packet out : List ℕ) → length packet ≤ length out → take (l
 taken packet out h = ap (take (length packet)) (fits packet out h .1) ∙ take-append-seam packet (drop (length packet) out)
 
 -- ---- pieces
-
--- two pieces, laid one behind the other from the place at on
-pub join : (at : ℕ) (xs ys l : List ℕ) {b c : List ℕ} {k : ℕ} → length xs ≡ k → b ≡ overAt at xs l → c ≡ overAt (at + k) ys b
-    → c ≡ overAt at (xs ++ ys) l
-join at xs ys l e f g = g ∙ ap₂ (λ (n : ℕ) (m : List ℕ). overAt (at + n) ys m) (sym e) f ∙ over-join at xs ys l
-
--- xs, of n octets, lies over the front of l
-pub record Laid (l xs : List ℕ) (n : ℕ) (b : List ℕ) : Type 0 where
-  pub long : length xs ≡ n
-  pub same : b ≡ overAt 0 xs l
-
-pub first : {l xs b : List ℕ} (n : ℕ) → length xs ≡ n → b ≡ overAt 0 xs l → Laid l xs n b
-first n e f = record { long = e; same = f }
-
-pub next : {l xs b c : List ℕ} {n : ℕ} → Laid l xs n b → (ys : List ℕ) (k : ℕ) → length ys ≡ k → c ≡ overAt n ys b → Laid l (xs ++ ys) (n + k) c
-next {l} {xs} {b} {c} {n} s ys k e f =
-    record {
-      long = length-append xs ys ∙ ap₂ (λ (i j : ℕ). i + j) (s .long) e;
-      same = join 0 xs ys l (s .long) (s .same) (f ∙ ap (λ (i : ℕ). overAt i ys b) (sym (zero-add n)));
-    }
 
 pub response-order : (h lm nt name : List ℕ) (x y : ℕ)
     → ((((h ++ (x ∷ [])) ++ lm) ++ nt) ++ (y ∷ [])) ++ name ≡ h ++ (x ∷ (lm ++ (nt ++ (y ∷ name))))

@@ -1,7 +1,7 @@
 -- `credentials::plain_block` meets its contract.
 -- Assumes nothing.
 use borrow.Author.Needs.{needs}
-use Rattle.credentials.proofs.Padded.{block-filled}
+use Rattle.credentials.proofs.Plain.{block-filled}
 use Rattle.credentials.proofs.plain_block.Statement.{statement}
 use Rattle.credentials.proofs.plain_block.Tie as tie
 

@@ -1,10 +1,11 @@
 -- `des::joined` meets its contract.
 -- Assumes nothing.
 use borrow.Author.Needs.{needs}
-use mathlib.Core.Path.{_≡_, ap, _∙_}
-use lib.ListN.{length}
-use Rattle.octets.specs.Parts.{overAt}
-use Rattle.des.proofs.Three.{three-put}
+use mathlib.Core.Path.{_≡_, _∙_}
+use mathlib.Core.List.{append-assoc}
+use Prim.Native.Nat.{ℕ}
+use lib.ListN.{length, length-replicate}
+use Rattle.octets.proofs.Laid as laid
 use Rattle.des.proofs.joined.Statement.{statement}
 use Rattle.des.proofs.joined.Tie as tie
 
@@ -18,9 +19,10 @@ returns c =
     let first = second .before .before .before .before in
     let s = first .before .before .before in
     let n = eight s in
-    third .copy-at3 .ensures
-    ∙ ap (overAt 16 (s .args .t3)) (second .copy-at2 .ensures ∙ ap (overAt 8 (s .args .t2)) (first .copy-at .ensures))
-    ∙ three-put (s .args .t1) (s .args .t2) (s .args .t3) (n .0) (n .1) (n .2)
+    let s₁ = laid.first 8 (n .0) (first .copy-at .ensures) in
+    let s₂ = laid.next s₁ (s .args .t2) 8 (n .1) (second .copy-at2 .ensures) in
+    let s₃ = laid.next s₂ (s .args .t3) 8 (n .2) (third .copy-at3 .ensures) in
+    laid.laid-whole s₃ (length-replicate {A = ℕ} 24 0) ∙ append-assoc (s .args .t1) (s .args .t2) (s .args .t3)
 
 pub joined-spec : {M : Type 1} → statement M
 joined-spec =

@@ -5,7 +5,8 @@ use borrow.Author.Needs.{needs}
 use borrow.Author.Tests.{eq-eqb, ne-eqb}
 use lib.ListN.{length}
 use Rattle.credentials.specs.Credentials.{responseOf}
-use Rattle.mschap.proofs.Handing.{whole, handed-behind}
+use Rattle.octets.proofs.Parts.{fixed-whole}
+use Rattle.mschap.proofs.Handing.{handed-behind}
 use Rattle.mschap.proofs.ciphers.mschap_challenge_response.Statement.{statement}
 use Rattle.mschap.proofs.ciphers.mschap_challenge_response.Tie as tie
 
@@ -22,8 +23,8 @@ returns-3 c =
     let h = r .before .before .before in
     let a = h .before .before .before .before .before .args in
     let n : length (r .challenge-response .result) ≡ 24 = search needs in
-    let x = r .before .before .sixteen-at .ensures ∙ whole 16 (a .hash .now) (h .before .if1 .left) in
-    let y = r .before .eight-at .ensures ∙ whole 8 (a .challenge .now) (h .if2 .left) in
+    let x = r .before .before .sixteen-at .ensures ∙ fixed-whole 16 (a .hash .now) (h .before .if1 .left) in
+    let y = r .before .eight-at .ensures ∙ fixed-whole 8 (a .challenge .now) (h .if2 .left) in
     handed-behind (a .hash .now) (a .challenge .now) (a .response .now) (h .before .if1 .left) (h .if2 .left) n (r .challenge-response .ensures ∙ ap₂ responseOf x y) (k .hand .ensures)
 
 pub mschap-challenge-response-spec : {M : Type 1} → statement M

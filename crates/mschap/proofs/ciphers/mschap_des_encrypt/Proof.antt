@@ -5,7 +5,8 @@ use borrow.Author.Needs.{needs}
 use borrow.Author.Tests.{eq-eqb, ne-eqb}
 use lib.ListN.{length}
 use Rattle.des.specs.Des.{desEncrypt}
-use Rattle.mschap.proofs.Handing.{whole, handed-behind}
+use Rattle.octets.proofs.Parts.{fixed-whole}
+use Rattle.mschap.proofs.Handing.{handed-behind}
 use Rattle.mschap.proofs.ciphers.mschap_des_encrypt.Statement.{statement}
 use Rattle.mschap.proofs.ciphers.mschap_des_encrypt.Tie as tie
 
@@ -22,8 +23,8 @@ returns-3 c =
     let h = r .before .before .before in
     let a = h .before .before .before .before .before .args in
     let n : length (r .encrypt .result) ≡ 8 = search needs in
-    let x = r .before .before .seven-at .ensures ∙ whole 7 (a .key .now) (h .before .if1 .left) in
-    let y = r .before .eight-at .ensures ∙ whole 8 (a .block .now) (h .if2 .left) in
+    let x = r .before .before .seven-at .ensures ∙ fixed-whole 7 (a .key .now) (h .before .if1 .left) in
+    let y = r .before .eight-at .ensures ∙ fixed-whole 8 (a .block .now) (h .if2 .left) in
     handed-behind (a .key .now) (a .block .now) (a .out .now) (h .before .if1 .left) (h .if2 .left) n (r .encrypt .ensures ∙ ap₂ desEncrypt x y) (k .hand .ensures)
 
 pub mschap-des-encrypt-spec : {M : Type 1} → statement M

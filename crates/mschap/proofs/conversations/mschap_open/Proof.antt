@@ -6,7 +6,7 @@ use lib.ListN.{length}
 use borrow.Author.Tests.{eq-eqb, ne-eqb, not-true, not-false}
 use Rattle.authenticator.specs.Opening.{opened, openedBuffer}
 use Rattle.mschap.specs.Talk.{openingFor, openNumber}
-use Rattle.mschap.proofs.Handing.{whole}
+use Rattle.octets.proofs.Parts.{fixed-whole}
 use Rattle.mschap.proofs.Talking.{opening-same, open-called}
 use Rattle.mschap.proofs.conversations.mschap_open.Statement.{statement}
 use Rattle.mschap.proofs.conversations.mschap_open.Tie as tie
@@ -35,7 +35,7 @@ returns-4 c =
     let choice = h .before .before in
     let a = choice .before .before .before .before .before .args in
     let eight = choice .before .if1 .left in
-    let lent = opening-same (a .id) (a .reply .now) (t .before .before .eight-at .ensures ∙ whole 8 (a .challenge .now) eight) (t .before .retries-for .ensures)
+    let lent = opening-same (a .id) (a .reply .now) (t .before .before .eight-at .ensures ∙ fixed-whole 8 (a .challenge .now) eight) (t .before .retries-for .ensures)
     (t .lm-for .ensures) in
     let n : length (r .conversation-run .result) ≡ 50 = search needs in
     open-called (openingFor (a .id) (a .challenge .now) (a .retries) (a .lm) (a .reply .now)) (a .lm) (a .conversation .now) eight

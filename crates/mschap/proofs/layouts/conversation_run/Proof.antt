@@ -4,8 +4,8 @@ use mathlib.Core.Path.{_≡_, refl, _∙_}
 use Prim.Native.Nat.{ℕ}
 use borrow.Author.Needs.{needs}
 use lib.ListN.{length, length-replicate}
-use Rattle.packets.proofs.Writing.{first, next}
-use Rattle.mschap.proofs.Written.{laid-whole, conversation-pieces}
+use Rattle.octets.proofs.Laid.{first, next, laid-whole}
+use Rattle.mschap.proofs.Written.{conversation-pieces}
 use Rattle.mschap.proofs.layouts.conversation_run.Statement.{statement}
 use Rattle.mschap.proofs.layouts.conversation_run.Tie as tie
 

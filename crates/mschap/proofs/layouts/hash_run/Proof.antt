@@ -5,8 +5,7 @@ use mathlib.Core.List.{_∷_}
 use Prim.Native.Nat.{ℕ}
 use borrow.Author.Needs.{needs}
 use lib.ListN.{length, length-replicate}
-use Rattle.packets.proofs.Writing.{first, next}
-use Rattle.mschap.proofs.Written.{laid-whole}
+use Rattle.octets.proofs.Laid.{first, next, laid-whole}
 use Rattle.mschap.proofs.layouts.hash_run.Statement.{statement}
 use Rattle.mschap.proofs.layouts.hash_run.Tie as tie
 

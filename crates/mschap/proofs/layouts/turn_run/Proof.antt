@@ -4,8 +4,7 @@ use mathlib.Core.Path.{_≡_, refl}
 use Prim.Native.Nat.{ℕ}
 use borrow.Author.Needs.{needs}
 use lib.ListN.{length, length-replicate}
-use Rattle.packets.proofs.Writing.{first, next}
-use Rattle.mschap.proofs.Written.{laid-whole}
+use Rattle.octets.proofs.Laid.{first, next, laid-whole}
 use Rattle.mschap.proofs.layouts.turn_run.Statement.{statement}
 use Rattle.mschap.proofs.layouts.turn_run.Tie as tie
 

@@ -4,8 +4,8 @@ use mathlib.Core.Path.{refl, ap, _∙_}
 use Prim.Native.Nat.{ℕ}
 use borrow.Author.Needs.{needs}
 use lib.ListN.{length, length-replicate}
-use Rattle.packets.proofs.Writing.{first, next}
-use Rattle.mschap.proofs.Written.{laid-whole, failed-pieces}
+use Rattle.octets.proofs.Laid.{first, next, laid-whole}
+use Rattle.mschap.proofs.Written.{failed-pieces}
 use Rattle.mschap.proofs.readings.failed_run.Statement.{statement}
 use Rattle.mschap.proofs.readings.failed_run.Tie as tie
 

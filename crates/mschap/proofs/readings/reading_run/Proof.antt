@@ -5,9 +5,8 @@ use mathlib.Core.List.{List, _++_}
 use Prim.Native.Nat.{ℕ}
 use borrow.Author.Needs.{needs}
 use lib.ListN.{length, length-replicate}
-use Rattle.packets.proofs.Writing.{first, next}
+use Rattle.octets.proofs.Laid.{first, next, laid-whole}
 use Rattle.mschap.specs.Layout.{readingRun}
-use Rattle.mschap.proofs.Written.{laid-whole}
 use Rattle.mschap.proofs.readings.reading_run.Statement.{statement}
 use Rattle.mschap.proofs.readings.reading_run.Tie as tie
 

@@ -3,7 +3,7 @@
 use mathlib.Core.Path.{refl, _∙_}
 use borrow.Author.Needs.{needs}
 use borrow.Author.Tests.{eq-eqb, ne-eqb}
-use Rattle.mschap.proofs.Handing.{filled}
+use Rattle.octets.proofs.Laid.{filled}
 use Rattle.mschap.proofs.runs.hand.Statement.{statement}
 use Rattle.mschap.proofs.runs.hand.Tie as tie
 

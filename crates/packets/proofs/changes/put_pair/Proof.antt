@@ -4,7 +4,7 @@ use mathlib.Core.Path.{_≡_}
 use native.Mathlib.Omega.{arith}
 use borrow.Author.Needs.{needs}
 use lib.ListN.{length, length-append}
-use Rattle.packets.proofs.Writing as writing
+use Rattle.octets.proofs.Laid as laid
 use Rattle.packets.proofs.changes.put_pair.Statement.{statement}
 use Rattle.packets.proofs.changes.put_pair.Tie as tie
 
@@ -14,7 +14,7 @@ returns c =
     let a = c₁ .before .before .before .before .args in
     let block : length (a .t3) ≡ 516 = search needs in
     let verifier : length (a .t4) ≡ 16 = search needs in (
-      writing.join (a .at) (a .t3) (a .t4) (a .out .now) block (c₁ .copy-at .ensures) (c .before .before .copy-at2 .ensures),
+      laid.join (a .at) (a .t3) (a .t4) (a .out .now) block (c₁ .copy-at .ensures) (c .before .before .copy-at2 .ensures),
       omega (arith, block, verifier, length-append (a .t3) (a .t4)),
     )
 

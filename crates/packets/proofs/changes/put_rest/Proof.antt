@@ -8,7 +8,7 @@ use borrow.Author.Needs.{needs}
 use lib.ListN.{length, length-append}
 use Rattle.octets.specs.Parts.{overAt}
 use Rattle.octets.specs.Numbers.{toBe}
-use Rattle.packets.proofs.Writing as writing
+use Rattle.octets.proofs.Laid as laid
 use Rattle.packets.proofs.changes.put_rest.Statement.{statement}
 use Rattle.packets.proofs.changes.put_rest.Tie as tie
 
@@ -26,9 +26,9 @@ returns c =
     let start = c₁ .before .before .before .before .before in
     let a = start .args in
     let l = a .out .now in
-    let both = writing.join 1068 (a .t2) (a .t3) l (lm start) (c₁ .copy-at .ensures) (c₂ .copy-at2 .ensures) in
+    let both = laid.join 1068 (a .t2) (a .t3) l (lm start) (c₁ .copy-at .ensures) (c₂ .copy-at2 .ensures) in
     let pair : length (a .t2 ++ a .t3) ≡ 48 = omega (arith, lm start, nt start, length-append (a .t2) (a .t3)) in
-    let all = writing.join 1068 (a .t2 ++ a .t3) (f .result) l pair both (c .before .before .copy-at3 .ensures) in
+    let all = laid.join 1068 (a .t2 ++ a .t3) (f .result) l pair both (c .before .before .copy-at3 .ensures) in
     let order = append-assoc (a .t2) (a .t3) (f .result) ∙ ap (λ (x : List ℕ). a .t2 ++ (a .t3 ++ x)) (f .ensures) in (
       all ∙ ap (λ (x : List ℕ). overAt 1068 x l) order,
       omega (arith, lm start, nt start, length-append (a .t2) (a .t3 ++ toBe 2 (a .flags)), length-append (a .t3) (toBe 2 (a .flags))),

@@ -7,6 +7,7 @@ use borrow.Author.Needs.{needs}
 use lib.ListN.{length}
 use Rattle.octets.specs.Numbers.{toBe}
 use Rattle.packets.specs.Change.{changePacket}
+use Rattle.octets.proofs.Laid as laid
 use Rattle.packets.proofs.Writing as writing
 use Rattle.packets.proofs.changes.write_change.Statement.{statement}
 use Rattle.packets.proofs.changes.write_change.Tie as tie
@@ -25,10 +26,10 @@ returns-2 c =
     let a = h .before .before .before .args in
     let f = a .fields in
     let last = f .lm ++ (f .nt ++ toBe 2 (f .flags)) in
-    let s₁ = writing.first 4 (ap length (h .head .ensures)) (c₁ .copy-at .ensures) in
-    let s₂ = writing.next s₁ (f .block ++ f .verifier) 532 (c₂ .put-pair .ensures .1) (c₂ .put-pair .ensures .0) in
-    let s₃ = writing.next s₂ (f .lmblock ++ f .lmverifier) 532 (c₃ .put-pair2 .ensures .1) (c₃ .put-pair2 .ensures .0) in
-    let s₄ = writing.next s₃ last 50 (rest .ensures .1) (rest .ensures .0) in
+    let s₁ = laid.first 4 (ap length (h .head .ensures)) (c₁ .copy-at .ensures) in
+    let s₂ = laid.next s₁ (f .block ++ f .verifier) 532 (c₂ .put-pair .ensures .1) (c₂ .put-pair .ensures .0) in
+    let s₃ = laid.next s₂ (f .lmblock ++ f .lmverifier) 532 (c₃ .put-pair2 .ensures .1) (c₃ .put-pair2 .ensures .0) in
+    let s₄ = laid.next s₃ last 50 (rest .ensures .1) (rest .ensures .0) in
     let order = writing.change-order (h .head .result) (f .block) (f .verifier) (f .lmblock) (f .lmverifier) last in
     let room : 1118 ≤ length (a .out .now) = h .before .if1 .left in
     let done = writing.framed-laid 6 (a .id) (f .block ++ (f .verifier ++ (f .lmblock ++ (f .lmverifier ++ last)))) s₄ (h .head .ensures) order room in

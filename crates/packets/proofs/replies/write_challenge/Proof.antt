@@ -7,6 +7,7 @@ use native.Mathlib.Omega.{arith}
 use borrow.Author.Needs.{needs}
 use lib.ListN.{length}
 use Rattle.packets.specs.Reply.{challengePacket}
+use Rattle.octets.proofs.Laid as laid
 use Rattle.packets.proofs.Writing as writing
 use Rattle.packets.proofs.replies.write_challenge.Statement.{statement}
 use Rattle.packets.proofs.replies.write_challenge.Tie as tie
@@ -27,9 +28,9 @@ returns-2 c =
     let h = c₁ .before .before .before .head in
     let start = c₁ .before .before .before .before .before .before in
     let a = start .args in
-    let s₁ = writing.first 4 (ap length (h .ensures)) (c₁ .copy-at .ensures) in
-    let s₂ = writing.next s₁ (8 ∷ []) 1 refl (c₂ .copy-at2 .ensures) in
-    let s₃ = writing.next s₂ (a .t2) 8 (eight start) (c .before .before .copy-at3 .ensures) in
+    let s₁ = laid.first 4 (ap length (h .ensures)) (c₁ .copy-at .ensures) in
+    let s₂ = laid.next s₁ (8 ∷ []) 1 refl (c₂ .copy-at2 .ensures) in
+    let s₃ = laid.next s₂ (a .t2) 8 (eight start) (c .before .before .copy-at3 .ensures) in
     let order = append-assoc (h .result) (8 ∷ []) (a .t2) ∙ ap (λ (n : ℕ). h .result ++ (n ∷ a .t2)) (sym (eight start)) in
     writing.framed-laid 1 (a .id) (length (a .t2) ∷ a .t2) s₃ (h .ensures) order (omega arith) .1
 

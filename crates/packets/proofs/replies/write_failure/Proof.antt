@@ -9,6 +9,7 @@ use lib.ListN.{length}
 use Rattle.message.proofs.Laws.{length-text}
 use Rattle.message.specs.Message.{textOf}
 use Rattle.packets.specs.Reply.{failurePacket}
+use Rattle.octets.proofs.Laid as laid
 use Rattle.packets.proofs.Writing as writing
 use Rattle.packets.proofs.replies.write_failure.Statement.{statement}
 use Rattle.packets.proofs.replies.write_failure.Tie as tie
@@ -25,8 +26,8 @@ returns-2 c =
     let a = c .before .before .before .before .before .before .before .before .before .before .before .before .before .before .args in
     let h = c .before .before .before .before .before .before .before .before .before .before .before .head in
     let t = c .before .before .before .before .before .before .before .before .before .before .text in
-    let s₁ = writing.first 4 (ap length (h .ensures)) (c .before .before .before .before .before .before .before .copy-at .ensures) in
-    let s₂ = writing.next s₁ (t .result) 13 (ap length (t .ensures) ∙ length-text (a .e) (a .r) (a .v)) (c .before .before .copy-at2 .ensures) in
+    let s₁ = laid.first 4 (ap length (h .ensures)) (c .before .before .before .before .before .before .before .copy-at .ensures) in
+    let s₂ = laid.next s₁ (t .result) 13 (ap length (t .ensures) ∙ length-text (a .e) (a .r) (a .v)) (c .before .before .copy-at2 .ensures) in
     writing.framed-laid 4 (a .id) (textOf (a .e) (a .r) (a .v)) s₂ (h .ensures) (ap (λ (t : List ℕ). h .result ++ t) (t .ensures)) (omega arith) .1
 
 pub write-failure-spec : {M : Type 1} → statement M

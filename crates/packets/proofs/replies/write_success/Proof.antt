@@ -6,6 +6,7 @@ use native.Mathlib.Omega.{arith}
 use borrow.Author.Needs.{needs}
 use lib.ListN.{length}
 use Rattle.packets.specs.Reply.{successPacket}
+use Rattle.octets.proofs.Laid as laid
 use Rattle.packets.proofs.Writing as writing
 use Rattle.packets.proofs.replies.write_success.Statement.{statement}
 use Rattle.packets.proofs.replies.write_success.Tie as tie
@@ -18,7 +19,7 @@ unfolding successPacket
 returns-2 c =
     let a = c .before .before .before .before .before .before .before .before .args in
     let head = c .before .before .before .before .before .head .ensures in
-    writing.framed-laid 3 (a .id) [] (writing.first 4 (ap length head) (c .before .before .copy-at .ensures)) head (sym (append-nil _))
+    writing.framed-laid 3 (a .id) [] (laid.first 4 (ap length head) (c .before .before .copy-at .ensures)) head (sym (append-nil _))
     (omega arith) .1
 
 pub write-success-spec : {M : Type 1} → statement M

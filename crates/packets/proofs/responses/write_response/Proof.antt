@@ -7,6 +7,7 @@ use native.Mathlib.Omega.{arith}
 use borrow.Author.Needs.{needs}
 use lib.ListN.{length}
 use Rattle.packets.specs.Response.{responsePacket}
+use Rattle.octets.proofs.Laid as laid
 use Rattle.packets.proofs.Writing as writing
 use Rattle.packets.proofs.responses.write_response.Statement.{statement}
 use Rattle.packets.proofs.responses.write_response.Tie as tie
@@ -45,12 +46,12 @@ returns-3 c =
     let a = start .args in
     let f = a .fields in
     let name = a .name .now in
-    let s₁ = writing.first 4 (ap length (h .head .ensures)) (c₁ .copy-at .ensures) in
-    let s₂ = writing.next s₁ (49 ∷ []) 1 refl (c₂ .copy-at2 .ensures) in
-    let s₃ = writing.next s₂ (f .lm) 24 (lm start) (c₃ .copy-at3 .ensures) in
-    let s₄ = writing.next s₃ (f .nt) 24 (nt start) (c₄ .copy-at4 .ensures) in
-    let s₅ = writing.next s₄ (f .flag ∷ []) 1 refl (c .before .before .before .before .before .before .copy-at5 .ensures) in
-    let s₆ = writing.next s₅ name (length name) refl (c .before .before .copy-at6 .ensures) in
+    let s₁ = laid.first 4 (ap length (h .head .ensures)) (c₁ .copy-at .ensures) in
+    let s₂ = laid.next s₁ (49 ∷ []) 1 refl (c₂ .copy-at2 .ensures) in
+    let s₃ = laid.next s₂ (f .lm) 24 (lm start) (c₃ .copy-at3 .ensures) in
+    let s₄ = laid.next s₃ (f .nt) 24 (nt start) (c₄ .copy-at4 .ensures) in
+    let s₅ = laid.next s₄ (f .flag ∷ []) 1 refl (c .before .before .before .before .before .before .copy-at5 .ensures) in
+    let s₆ = laid.next s₅ name (length name) refl (c .before .before .copy-at6 .ensures) in
     let order = writing.response-order (h .head .result) (f .lm) (f .nt) name 49 (f .flag) in
     let room : 54 + length name ≤ length (a .out .now) = h .before .if2 .left in
     let done = writing.framed-laid 2 (a .id) (49 ∷ (f .lm ++ (f .nt ++ (f .flag ∷ name)))) s₆ (h .head .ensures) order room in
