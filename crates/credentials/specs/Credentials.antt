@@ -25,9 +25,13 @@ use Rattle.credentials.specs.declared.Sealed.{Sealed}
 unfoldable pub ntHashOf : List ℕ → List ℕ
 ntHashOf password = md4Of password
 
--- refusal 8: an NT password is odd or over 512 octets
+-- the length of no NT password: odd or over 512 octets
+abbrev pub badLength : ℕ → Bool
+badLength n = ltb 512 n || eqb (n % 2) 1
+
+-- refusal 8
 abbrev pub badNtPassword : List ℕ → Bool
-badNtPassword password = ltb 512 (length password) || eqb (length password % 2) 1
+badNtPassword password = badLength (length password)
 
 -- A.2, LmPasswordHash(): a to z become A to Z, other octets stay
 abbrev pub upper : ℕ → ℕ
@@ -101,9 +105,9 @@ lengthTold Over = none
 lengthTold Odd = none
 lengthTold (Password n) = some n
 
--- a length of at most 512, even
+-- the length of a password, or none
 unfoldable pub passwordLength : ℕ → Option ℕ
-passwordLength n = cond (ltb 512 n || eqb (n % 2) 1) none (some n)
+passwordLength n = cond (badLength n) none (some n)
 
 -- a password's length as an opened block gives it
 abbrev pub Sound : Content → Type 0

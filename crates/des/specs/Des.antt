@@ -64,7 +64,7 @@ keysFrom (s ∷ ss) c d = permute 56 pc2 (rotate s c * 2 ^ 28 + rotate s d) ∷ 
 unfoldable pub roundKeys : ℕ → List ℕ
 roundKeys key = keysFrom shifts (permute 64 pc1 key / 2 ^ 28) (permute 64 pc1 key % 2 ^ 28)
 
--- ---- keys of seven octets: the 56 bits of a key that are not parity ("Enciphering": bits 8, 16, .., 64 are for parity)
+-- ---- keys of seven octets: the 56 bits of a key that are not parity (appendix 1, KS: bits 8, 16, .., 64 are for parity)
 
 -- an octet without its last bit
 abbrev pub half : ℕ → ℕ

@@ -125,11 +125,17 @@ refusedWith n = record { verdict = Refused n; c = noC }
 abbrev pub failedWith : ℕ → ℕ → ℕ → Given → Reading
 failedWith e r v c = record { verdict = Failure (record { e = e; r = r; v = v; call = calledFor e r v }); c = c }
 
+-- R missing is 0, V missing is 1
+abbrev pub valueR : List (List ℕ) → ℕ
+valueR ws = numberOr 2 0 (first fieldR ws)
+
+abbrev pub valueV : List (List ℕ) → ℕ
+valueV ws = numberOr 10 1 (first fieldV ws)
+
 -- by the digits of E: without E, refusal 11
 abbrev pub readFields : List (List ℕ) → Option (List ℕ) → Reading
 readFields ws none = refusedWith 11
-readFields ws (some e) =
-    failedWith (numberFrom 10 0 e) (numberOr 2 0 (first fieldR ws)) (numberOr 10 1 (first fieldV ws)) (givenAs (first fieldC ws))
+readFields ws (some e) = failedWith (numberFrom 10 0 e) (valueR ws) (valueV ws) (givenAs (first fieldC ws))
 
 -- what the message m says; over 256 octets, refusal 11
 unfoldable pub readMessage : List ℕ → Reading
@@ -143,10 +149,10 @@ isNone (some ds) = false
 unfoldable pub messageRefusal : List ℕ → ℕ
 messageRefusal m = cond (ltb 256 (length m) || isNone (first fieldE (words m))) 11 0
 
--- E, R (0 where it is missing) and V (1 where it is missing) of a message that is not refused
+-- E, R and V of a message that is not refused
 abbrev pub fieldValues : List (List ℕ) → Option (List ℕ) → List ℕ
 fieldValues ws none = []
-fieldValues ws (some e) = numberFrom 10 0 e ∷ numberOr 2 0 (first fieldR ws) ∷ numberOr 10 1 (first fieldV ws) ∷ []
+fieldValues ws (some e) = numberFrom 10 0 e ∷ valueR ws ∷ valueV ws ∷ []
 
 unfoldable pub messageValues : List ℕ → List ℕ
 messageValues m = cond (ltb 256 (length m)) [] (fieldValues (words m) (first fieldE (words m)))

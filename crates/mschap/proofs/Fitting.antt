@@ -30,7 +30,7 @@ use Rattle.authenticator.specs.declared.Opened as openings
 use Rattle.authenticator.specs.declared.Phase.{Phase}
 use Rattle.authenticator.specs.declared.Phase.the-variants.{Response, Change, Ended}
 use Rattle.mschap.specs.Layout.{conversationRun, conversationIn, recordRun, recordIn, isConversation, isRecord}
-use Rattle.mschap.specs.Talk.{openingFor, stepOf}
+use Rattle.mschap.specs.Conversations.{openingFor, stepOf}
 use Rattle.octets.specs.Parts.{part}
 use Rattle.mschap.proofs.RoundTrip.{SizedAccount, SizedConversation, account-sized, conversation-sized, conversation-fits, record-fits}
 

@@ -18,7 +18,7 @@ use Rattle.authenticator.specs.declared.Conversation.{Conversation}
 use Rattle.authenticator.specs.declared.Lookup.{Lookup}
 use Rattle.mschap.specs.Call.{sized, numbered, left}
 use Rattle.mschap.specs.Layout.{conversationRun, recordRun, isConversation, isRecord}
-use Rattle.mschap.specs.Talk.{isLmChoice, openNumber, Opens, stepNumber}
+use Rattle.mschap.specs.Conversations.{isLmChoice, openNumber, Opens, stepNumber}
 use Rattle.mschap.proofs.Handing.{handed}
 use Rattle.mschap.proofs.RoundTrip.{length-fitting}
 

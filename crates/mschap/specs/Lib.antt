@@ -1,4 +1,4 @@
 pub mod Call
 pub mod Layout
-pub mod Talk
-pub mod Turns
+pub mod Conversations
+pub mod Peers

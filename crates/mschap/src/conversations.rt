@@ -12,7 +12,7 @@ use authenticator::LmChoice;
 use authenticator::Retries;
 ghost use mathlib.Core.Path.{_≡_};
 ghost use Rattle.authenticator.specs.Step.{numberOf};
-ghost use Rattle.mschap.specs.Talk.{retriesFor, lmFor, isLmChoice, openingFor, Opens, Steps};
+ghost use Rattle.mschap.specs.Conversations.{retriesFor, lmFor, isLmChoice, openingFor, Opens, Steps};
 
 fn retries_for(n: u8) -> Retries
     ensures { λ r. ⌜ r ≡ retriesFor n ⌝ }

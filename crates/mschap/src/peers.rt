@@ -13,7 +13,7 @@ ghost use Rattle.packets.specs.Reply.{readChallenge, readReply};
 ghost use Rattle.peer.specs.Turn.{firstTurn};
 ghost use Rattle.mschap.specs.Call.{sized, numbered, left};
 ghost use Rattle.mschap.specs.Layout.{turnRun, readingRun};
-ghost use Rattle.mschap.specs.Turns.{replyTo, turnAfter, responseFrom, changeFrom};
+ghost use Rattle.mschap.specs.Peers.{replyTo, turnAfter, responseFrom, changeFrom};
 
 // The turn that a Challenge asks for. 3: the frame. 11: another kind, cut short, or of a size other than 8.
 #[no_mangle]

@@ -3,7 +3,7 @@
 use mathlib.Core.List.{List}
 use mathlib.Core.Path.{_≡_, refl}
 use Prim.Native.Nat.{ℕ}
-use Rattle.peer.specs.Talk.{Peer, reads, receiving}
+use Rattle.peer.specs.Peer.{Peer, reads, receiving}
 
 pub same-reading : (q : Peer) (earlier reply : List ℕ) → reads (receiving q earlier) reply ≡ reads q reply
 same-reading q earlier reply = refl

@@ -1,3 +1,3 @@
 pub mod Turn
 pub mod Write
-pub mod Talk
+pub mod Peer

@@ -31,10 +31,10 @@ use Rattle.peer.specs.Write.{Wrote, responseFor, writeResponse, writeChange}
 use Rattle.peer.specs.declared.Turn.{Turn}
 use Rattle.peer.proofs.Left.{response-limits, name-fits, response-left, change-limits, new-fits, filler-full, change-left}
 use Rattle.series.specs.Course.{end, Along}
-use Rattle.series.specs.Series.{invalid, right, renewal, Line, Step, ours, other, Kind, Invalid, Right, Renewal, kindsOf, plan, Place, start, reaching, Exchange, exchange, go, judgedAt, Kept, Allowed, Draws, DrawsFailure, DrawsSuccess, LetsIn, Answered, Claimed, Demand3}
+use Rattle.series.specs.Series.{invalid, right, renewal, Lending, Step, ours, other, Kind, Invalid, Right, Renewal, kindsOf, plan, State, start, reaching, Exchange, exchange, next, judgedAt, Kept, Allowed, Draws, DrawsFailure, DrawsSuccess, LetsIn, Answered, Claimed, Demand3}
 use Rattle.series.specs.Boxes.{ourBox}
 use Rattle.series.proofs.RoundTrips.{challenge-read}
-use Rattle.series.proofs.Talk.{Talk, whole, within}
+use Rattle.series.proofs.Invariant.{Invariant, whole, within}
 use Rattle.series.proofs.Exchanged.{Exchanged, exchanged}
 use Rattle.series.proofs.Taken.{InStep, invalid-taken, right-taken, change-taken}
 use Rattle.series.proofs.Ready.{FitIn, fit-plan, opened-in-step, retried-in-step, ended-in-step, drawnRight, readRight, right-fits, right-in-step, right-fit}
@@ -46,7 +46,7 @@ not-valid false v h = refl
 
 -- ---- our peer's packets, within the limits
 
-module _ (p : Place) (h : InStep (p .conversation) (p .peer .turn)) where
+module _ (p : State) (h : InStep (p .conversation) (p .peer .turn)) where
   abbrev turn : Turn
   turn = p .peer .turn
 
@@ -63,7 +63,7 @@ module _ (p : Place) (h : InStep (p .conversation) (p .peer .turn)) where
   read-success behind = read-by (successPacket (p .conversation .id)) behind succeeded (success-back (p .conversation .id) behind)
 
   -- a try
-  module _ (password name : List ℕ) (l : Line) (kept : Kept (exchange stepOn p (right password name) l)) (ph : p .conversation .phase ≡ Response) where
+  module _ (password name : List ℕ) (l : Lending) (kept : Kept (exchange stepOn p (right password name) l)) (ph : p .conversation .phase ≡ Response) where
     abbrev wrote : Wrote
     wrote = writeResponse turn password name (l .out)
 
@@ -73,8 +73,8 @@ module _ (p : Place) (h : InStep (p .conversation) (p .peer .turn)) where
     try-room : 17 ≤ length (l .buffer)
     try-room = roomy (p .conversation) (reaching wrote l) (ap isEnded ph) (kept .1)
 
-    try-left : reaching wrote l .packet ≡ responseFor turn password name ++ l .after
-    try-left = ap (λ (x : List ℕ). x ++ l .after) (response-left turn password name (l .out) try-written)
+    try-left : reaching wrote l .packet ≡ responseFor turn password name ++ l .packetPadding
+    try-left = ap (λ (x : List ℕ). x ++ l .packetPadding) (response-left turn password name (l .out) try-written)
 
     try-name : (1 ≤ length name) × (length name ≤ 256)
     try-name = name-fits turn password name (l .out) try-written
@@ -84,24 +84,24 @@ module _ (p : Place) (h : InStep (p .conversation) (p .peer .turn)) where
     invalid-exchanged v pos =
         exchanged p wrote l (again (p .conversation)) (failedWith 691 1 2 noC) try-written try-room (failure-fits (p .conversation .id) 691 1 2)
         (ap (λ (x : List ℕ). step (p .conversation) x (l .account) (l .buffer)) try-left
-        ∙ invalid-taken (p .conversation) turn h ph password name (l .after) (l .buffer) try-room try-name (l .account)
+        ∙ invalid-taken (p .conversation) turn h ph password name (l .packetPadding) (l .buffer) try-room try-name (l .account)
         (ap (λ (x : List ℕ). l .account .found && valid (p .conversation) (l .account .account) (responseIn x)) (sym try-left) ∙ v) pos)
-        (read-failure 691 1 (l .behind) (omega arith) (omega arith))
+        (read-failure 691 1 (l .replyPadding) (omega arith) (omega arith))
 
     right-exchanged : (a : Account) → Rightful a → ntHashOf password ≡ a .nt .octets → l .account ≡ found a
         → Exchanged p wrote l (drawnRight (a .expired) (p .conversation) a) (readRight (a .expired))
     right-exchanged a g hash lent =
         exchanged p wrote l (drawnRight (a .expired) (p .conversation) a) (readRight (a .expired)) try-written try-room (right-fits (a .expired) (p .conversation) a)
         (ap₂ (λ (x : List ℕ) (y : Lookup). step (p .conversation) x y (l .buffer)) try-left lent
-        ∙ right-taken (p .conversation) turn h ph password name (l .after) (l .buffer) try-room try-name a g hash)
+        ∙ right-taken (p .conversation) turn h ph password name (l .packetPadding) (l .buffer) try-room try-name a g hash)
         (heard (a .expired))
       where
-        heard : (x : Bool) → readReply (turn .id) (drawnRight x (p .conversation) a .reply ++ l .behind) ≡ readRight x
-        heard true = read-failure 648 0 (l .behind) (omega arith) (omega arith)
-        heard false = read-success (l .behind)
+        heard : (x : Bool) → readReply (turn .id) (drawnRight x (p .conversation) a .reply ++ l .replyPadding) ≡ readRight x
+        heard true = read-failure 648 0 (l .replyPadding) (omega arith) (omega arith)
+        heard false = read-success (l .replyPadding)
 
   -- the change
-  module _ (old new filler : List ℕ) (l : Line) (kept : Kept (exchange stepOn p (renewal old new filler) l)) (ph : p .conversation .phase ≡ Change) where
+  module _ (old new filler : List ℕ) (l : Lending) (kept : Kept (exchange stepOn p (renewal old new filler) l)) (ph : p .conversation .phase ≡ Change) where
     abbrev changeWrote : Wrote
     changeWrote = writeChange turn old new filler (l .out)
 
@@ -114,14 +114,14 @@ module _ (p : Place) (h : InStep (p .conversation) (p .peer .turn)) where
     module _ (there : p .conversation .kept .nt .present ≡ true) (hash : ntHashOf old ≡ p .conversation .kept .nt .octets) where
       change-outcome : stepOn (p .conversation) (reaching changeWrote l) ≡ judgedAs (changed (p .conversation) (ntHashOf new)) (l .buffer)
       change-outcome =
-          ap (λ (x : List ℕ). step (p .conversation) (x ++ l .after) (l .account) (l .buffer)) (change-left turn old new filler (l .out) change-written)
-          ∙ change-taken (p .conversation) turn h ph old new filler (l .after) (l .buffer) change-room
+          ap (λ (x : List ℕ). step (p .conversation) (x ++ l .packetPadding) (l .account) (l .buffer)) (change-left turn old new filler (l .out) change-written)
+          ∙ change-taken (p .conversation) turn h ph old new filler (l .packetPadding) (l .buffer) change-room
           (filler-full turn old new filler (l .out) change-written) (new-fits turn old new filler (l .out) change-written) there hash (l .account)
 
       change-exchanged : Exchanged p changeWrote l (changed (p .conversation) (ntHashOf new)) succeeded
       change-exchanged =
           exchanged p changeWrote l (changed (p .conversation) (ntHashOf new)) succeeded change-written change-room (success-fits (p .conversation .id)) change-outcome
-          (read-success (l .behind))
+          (read-success (l .replyPadding))
 
 -- ---- a later conversation
 
@@ -133,7 +133,7 @@ lets-in : (a : Account) (password : List ℕ) → Rightful a → a .expired ≡ 
 lets-in a password g fresh hash o behind name ss l ok eight quiet lent kept =
     let first = opened o .conversation in
     let back = through first ss quiet in
-    let p : Place = record { conversation = end (nextAfter stepOn) first ss; peer = start o behind .peer } in
+    let p : State = record { conversation = end (nextAfter stepOn) first ss; peer = start o behind .peer } in
     let i : InStep (p .conversation) (p .peer .turn) = subst (λ (c : Conversation). InStep c (start o behind .peer .turn)) (sym back) (opened-in-step o ok eight behind) in
     let ph : p .conversation .phase ≡ Response = ap (λ (c : Conversation). c .phase) (back ∙ opened-first o ok) in
     let d = right-exchanged p i password name l kept ph a g hash lent .draws in
@@ -142,7 +142,7 @@ lets-in a password g fresh hash o behind name ss l ok eight quiet lent kept =
 
 -- ---- each step
 
-abbrev Ready : Account → List Kind → Place → Type 0
+abbrev Ready : Account → List Kind → State → Type 0
 Ready a due p = FitIn a due (p .conversation) × InStep (p .conversation) (p .peer .turn)
 
 right-answered : (x : Bool) (e : Exchange) (c : Conversation) (a : Account) → Draws e (drawnRight x c a .reply) (readRight x)
@@ -151,8 +151,8 @@ right-answered true e c a h = h
 right-answered false e c a h = h
 
 module _ (a : Account) (g : Rightful a) where
-  law : (due : List Kind) (p : Place) (m : Step) → Ready a (kindsOf m ++ due) p → Allowed stepOn a p m
-      → Claimed stepOn a p m × (judgedAt stepOn p m ≡ length (kindsOf m)) × Ready a due (go stepOn p m)
+  law : (due : List Kind) (p : State) (m : Step) → Ready a (kindsOf m ++ due) p → Allowed stepOn a p m
+      → Claimed stepOn a p m × (judgedAt stepOn p m ≡ length (kindsOf m)) × Ready a due (next stepOn p m)
   law due p (other s) (f, i) h =
       (tt, judged-none (p .conversation) s h, subst (λ (c : Conversation). FitIn a due c × InStep c (p .peer .turn)) (sym (refused-same (p .conversation) s h)) (f, i))
   law due p (ours (invalid password name) l) (f, i) h =
@@ -183,8 +183,8 @@ module _ (a : Account) (g : Rightful a) where
         subst (Ready a due) (sym (x .leads)) (f .2, ended-in-step (p .conversation) (p .peer .turn) i),
       )
 
-  talk : Talk (go stepOn) kindsOf (judgedAt stepOn) (Allowed stepOn a) (Claimed stepOn a)
-  talk = record { Ready = Ready a; law = law }
+  invariant : Invariant (next stepOn) kindsOf (judgedAt stepOn) (Allowed stepOn a) (Claimed stepOn a)
+  invariant = record { Ready = Ready a; law = law }
 
 -- ---- the whole
 
@@ -198,13 +198,13 @@ count k x =
     last false = refl
 
 pub demand3 : Demand3 ourBox
-unfolding talk
+unfolding invariant
 demand3 o ok eight = (
   (λ behind. challenge-read o ok eight behind),
   (λ a k behind ms g few due h.
       let fit = subst (FitIn a (plan k (a .expired))) (sym (opened-first o ok)) (fit-plan k a (retriesOf (o .retries)) blank few) in
       let ready = subst (λ (ks : List Kind). Ready a ks (start o behind)) (sym due) (fit, opened-in-step o ok eight behind) in
-      let all = whole (talk a g) (start o behind) ms ready h in
+      let all = whole (invariant a g) (start o behind) ms ready h in
       (all .0, all .1 ∙ ap length due ∙ count k (a .expired), all .2 .0)),
   (λ ss.
       let most = within (nextAfter stepOn) (judged stepOn) leftIn judged-less (opened o .conversation) ss in

@@ -18,33 +18,33 @@ use Rattle.authenticator.proofs.Steps.{reply-of}
 use Rattle.authenticator.proofs.Written.{Fits}
 use Rattle.peer.specs.Turn.{sentFor, nextTurn}
 use Rattle.peer.specs.Write.{Wrote}
-use Rattle.peer.specs.Talk.{sending, receiving}
+use Rattle.peer.specs.Peer.{sending, receiving}
 use Rattle.peer.specs.declared.Sent.{Sent}
-use Rattle.series.specs.Series.{Line, Place, reaching, carried, Draws}
+use Rattle.series.specs.Series.{Lending, State, reaching, carried, Draws}
 
 place-same : {b b' : Conversation} {s s' : Sent} {r r' : Reading} → b ≡ b' → s ≡ s' → r ≡ r'
-    → _≡_ {A = Place} (record { conversation = b; peer = record { sent = s; turn = nextTurn s r } })
+    → _≡_ {A = State} (record { conversation = b; peer = record { sent = s; turn = nextTurn s r } })
     (record { conversation = b'; peer = record { sent = s'; turn = nextTurn s' r' } })
 place-same e f g = cc
 
-pub record Exchanged (p : Place) (w : Wrote) (l : Line) (d : Drawn) (reading : Reading) : Type 0 where
+pub record Exchanged (p : State) (w : Wrote) (l : Lending) (d : Drawn) (reading : Reading) : Type 0 where
   pub draws : Draws (carried stepOn p w l) (d .reply) reading
   pub judges : judged stepOn (p .conversation) (reaching w l) ≡ 1
-  pub leads : _≡_ {A = Place}
+  pub leads : _≡_ {A = State}
       (record { conversation = carried stepOn p w l .outcome .answer .next; peer = receiving (carried stepOn p w l .peer) (carried stepOn p w l .reply) })
       (record { conversation = d .next; peer = record { sent = sentFor (p .peer .turn); turn = nextTurn (sentFor (p .peer .turn)) reading } })
 
-module _ (p : Place) (w : Wrote) (l : Line) (d : Drawn) (reading : Reading) (zero : w .answer .refusal ≡ 0) (room : 17 ≤ length (l .buffer))
+module _ (p : State) (w : Wrote) (l : Lending) (d : Drawn) (reading : Reading) (zero : w .answer .refusal ≡ 0) (room : 17 ≤ length (l .buffer))
     (fits : Fits (d .reply)) (took : stepOn (p .conversation) (reaching w l) ≡ judgedAs d (l .buffer))
-    (heard : readReply (p .peer .turn .id) (d .reply ++ l .behind) ≡ reading) where
+    (heard : readReply (p .peer .turn .id) (d .reply ++ l .replyPadding) ≡ reading) where
   sent-same : sending (p .peer) (w .answer) .sent ≡ sentFor (p .peer .turn)
   sent-same = ap (λ (n : ℕ). cond (eqb n 0) (sentFor (p .peer .turn)) (p .peer .sent)) zero
 
   reply-same : replyOf (stepOn (p .conversation) (reaching w l)) ≡ d .reply
   reply-same = ap replyOf took ∙ reply-of d (l .buffer) (omega arith)
 
-  read-same : readReply (sending (p .peer) (w .answer) .sent .id) (replyOf (stepOn (p .conversation) (reaching w l)) ++ l .behind) ≡ reading
-  read-same = ap₂ (λ (s : Sent) (r : List ℕ). readReply (s .id) (r ++ l .behind)) sent-same reply-same ∙ heard
+  read-same : readReply (sending (p .peer) (w .answer) .sent .id) (replyOf (stepOn (p .conversation) (reaching w l)) ++ l .replyPadding) ≡ reading
+  read-same = ap₂ (λ (s : Sent) (r : List ℕ). readReply (s .id) (r ++ l .replyPadding)) sent-same reply-same ∙ heard
 
   pub exchanged : Exchanged p w l d reading
   exchanged =

@@ -1,5 +1,5 @@
 pub mod RoundTrips
-pub mod Talk
+pub mod Invariant
 pub mod Exchanged
 pub mod Taken
 pub mod Ready

@@ -24,11 +24,11 @@ use Rattle.authenticator.specs.declared.Retries.{Retries}
 use Rattle.authenticator.specs.declared.Retries.the-variants.{Default, Count}
 use Rattle.authenticator.specs.declared.LmChoice.the-variants.{Disallowed}
 use Rattle.peer.specs.Write.{writeResponseRefusal, writeChangeRefusal, writeResponse, writeChange}
-use Rattle.series.specs.Series.{Packet, invalid, right, renewal, Line, Step, ours, Place, exchange, Within, Kept, Allowed}
+use Rattle.series.specs.Series.{Packet, invalid, right, renewal, Lending, Step, ours, State, exchange, Within, Kept, Allowed}
 
 -- ---- openings, passwords, records
 
--- identifier 255 and a challenge that begins with E9, so that both go over their octet
+-- identifier 255 and a challenge that begins with E9, so that both next over their octet
 abbrev pub opening : Retries → Opening
 opening r = record { id = 255; challenge = 0xE9 ∷ 2 ∷ 3 ∷ 4 ∷ 5 ∷ 6 ∷ 7 ∷ 8 ∷ []; retries = r; lm = Disallowed; buffer = replicate 17 0 }
 
@@ -71,8 +71,8 @@ rightful expired = record { nt = refl; enabled = refl; barred = refl; dialin = r
 -- ---- our peer's packets
 
 -- an output buffer of n octets, and padding behind the packet and behind the reply
-abbrev pub line : ℕ → Lookup → Line
-line n l = record { out = replicate n 0; after = 9 ∷ []; account = l; buffer = replicate 17 0; behind = 9 ∷ 9 ∷ [] }
+abbrev pub line : ℕ → Lookup → Lending
+line n l = record { out = replicate n 0; packetPadding = 9 ∷ []; account = l; buffer = replicate 17 0; replyPadding = 9 ∷ 9 ∷ [] }
 
 abbrev pub badTry : Lookup → Step
 badTry l = ours (invalid bad user) (line 60 l)
@@ -104,16 +104,16 @@ no-hash c f = which (eqb (f .flag) 1) (c .terms .lm)
     which false false = refl
 
 -- at any place, with any box: the reply buffer has room
-module _ (box : Box) (p : Place) where
-  kept : (t : Packet) (l : Line) → exchange box p t l .wrote .answer .refusal ≡ 0 → badRoom (l .buffer) ≡ false → Kept (exchange box p t l)
+module _ (box : Box) (p : State) where
+  kept : (t : Packet) (l : Lending) → exchange box p t l .wrote .answer .refusal ≡ 0 → badRoom (l .buffer) ≡ false → Kept (exchange box p t l)
   kept t l e room = (written (exchange box p t l .wrote .answer .refusal) e, λ h. absurd (false≢true (sym room ∙ h)))
 
-  pub try-kept : (password : List ℕ) (l : Line) → writeResponseRefusal password user (l .out) ≡ 0 → badRoom (l .buffer) ≡ false
+  pub try-kept : (password : List ℕ) (l : Lending) → writeResponseRefusal password user (l .out) ≡ 0 → badRoom (l .buffer) ≡ false
       → Kept (exchange box p (right password user) l)
   unfolding writeResponse
   try-kept password l e room = kept (right password user) l (rw e) room
 
-  change-kept : (l : Line) → writeChangeRefusal old new (replicate 512 7) (l .out) ≡ 0 → badRoom (l .buffer) ≡ false → Kept (exchange box p newPassword l)
+  change-kept : (l : Lending) → writeChangeRefusal old new (replicate 512 7) (l .out) ≡ 0 → badRoom (l .buffer) ≡ false → Kept (exchange box p newPassword l)
   unfolding writeChange
   change-kept l e room = kept newPassword l (rw e) room
 

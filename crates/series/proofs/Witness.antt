@@ -19,7 +19,7 @@ use Rattle.authenticator.specs.declared.Retries.the-variants.{Default, Count}
 use Rattle.authenticator.specs.declared.LmChoice.the-variants.{Silent}
 use Rattle.authenticator.proofs.Steps.{number-step}
 use Rattle.series.specs.Course.{end, Along, total}
-use Rattle.series.specs.Series.{right, Step, other, Place, start, exchange, go, judgedAt, Allowed, DrawsSuccess, later, LetsIn, Claimed}
+use Rattle.series.specs.Series.{right, Step, other, State, start, exchange, next, judgedAt, Allowed, DrawsSuccess, later, LetsIn, Claimed}
 use Rattle.series.specs.Boxes.{ourBox}
 use Rattle.series.proofs.Sample.{opening, opens-once, new, user, account, rightful, line, badTry, rightTry, newPassword, change, blank-allowed, right-allowed, change-allowed, new-kept}
 use Rattle.series.proofs.Demand3.{demand3}
@@ -57,16 +57,16 @@ narrow-refused c = refused c narrow 2 (omega arith) refl
 -- what is allowed at any place is allowed along any course
 abbrev Anywhere : List Step → Type 0
 Anywhere [] = Unit {0}
-Anywhere (m ∷ ms) = ((p : Place) → Allowed ourBox (account true) p m) × Anywhere ms
+Anywhere (m ∷ ms) = ((p : State) → Allowed ourBox (account true) p m) × Anywhere ms
 
-along : (p : Place) (ms : List Step) → Anywhere ms → Along (go ourBox) (Allowed ourBox (account true)) p ms
+along : (p : State) (ms : List Step) → Anywhere ms → Along (next ourBox) (Allowed ourBox (account true)) p ms
 along p [] h = tt
-along p (m ∷ ms) h = (h .0 p, along (go ourBox p m) ms (h .1))
+along p (m ∷ ms) h = (h .0 p, along (next ourBox p m) ms (h .1))
 
 allowed : Anywhere steps
 allowed =
-    let noise : (p : Place) → Allowed ourBox (account true) p (other short) = λ p. short-refused (p .conversation) in
-    let tight : (p : Place) → Allowed ourBox (account true) p (other narrow) = λ p. narrow-refused (p .conversation) in (
+    let noise : (p : State) → Allowed ourBox (account true) p (other short) = λ p. short-refused (p .conversation) in
+    let tight : (p : State) → Allowed ourBox (account true) p (other narrow) = λ p. narrow-refused (p .conversation) in (
       noise,
       (
         (λ p. blank-allowed ourBox p (account true)),
@@ -80,22 +80,22 @@ allowed =
       ),
     )
 
-pub met : Along (go ourBox) (Allowed ourBox (account true)) (start (opening (Count 1)) []) steps
+pub met : Along (next ourBox) (Allowed ourBox (account true)) (start (opening (Count 1)) []) steps
 met = along (start (opening (Count 1)) []) steps allowed
 
 -- ---- the claim of this series
 
 -- each packet draws what it should, three are judged, and the conversation has ended
-pub claimed : Along (go ourBox) (Claimed ourBox (account true)) (start (opening (Count 1)) []) steps
-    × (total (go ourBox) (judgedAt ourBox) (start (opening (Count 1)) []) steps ≡ 3)
-    × (end (go ourBox) (start (opening (Count 1)) []) steps .conversation .phase ≡ Ended)
+pub claimed : Along (next ourBox) (Claimed ourBox (account true)) (start (opening (Count 1)) []) steps
+    × (total (next ourBox) (judgedAt ourBox) (start (opening (Count 1)) []) steps ≡ 3)
+    × (end (next ourBox) (start (opening (Count 1)) []) steps .conversation .phase ≡ Ended)
 claimed = demand3 (opening (Count 1)) opens-once refl .1 (account true) 1 [] steps (rightful true) (omega arith) refl met
 
 -- ---- a later conversation, with the record that the change handed out
 
 -- the place of the change
-abbrev place : Place
-place = end (go ourBox) (start (opening (Count 1)) []) (take 5 steps)
+abbrev place : State
+place = end (next ourBox) (start (opening (Count 1)) []) (take 5 steps)
 
 abbrev handed : Account
 handed = exchange ourBox place newPassword (line 1118 noRecord) .outcome .answer .handed .account

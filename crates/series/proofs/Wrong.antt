@@ -27,7 +27,7 @@ use Rattle.authenticator.specs.declared.Retries.the-variants.{Default, Count}
 use Rattle.authenticator.proofs.Steps.{refused-whole, reply-of}
 use Rattle.authenticator.proofs.Written.{Fits, success-fits, failure-fits}
 use Rattle.series.specs.Course.{total}
-use Rattle.series.specs.Series.{invalid, right, start, exchange, go, later, LetsIn, Demand3}
+use Rattle.series.specs.Series.{invalid, right, start, exchange, next, later, LetsIn, Demand3}
 use Rattle.series.specs.Boxes.{refusing, Judge, judging, findsNone, accepts, leavesRecord, pretends, neverCounts}
 use Rattle.series.proofs.Sample.{opening, opens-default, opens-once, old, bad, new, user, account, rightful, line, badTry, rightTry, newPassword, change, bad-allowed, right-allowed, change-allowed, new-kept}
 
@@ -95,7 +95,7 @@ not-accepting h =
     let box = judging accepts in
     let p = start (opening Default) [] in
     let all = h (opening Default) opens-default refl .1 (account false) 1 [] (badTry noRecord ∷ rightTry false ∷ []) (rightful false) (omega arith) refl
-    (bad-allowed box p (account false), (right-allowed box (go box p (badTry noRecord)) false, tt)) in
+    (bad-allowed box p (account false), (right-allowed box (next box p (badTry noRecord)) false, tt)) in
     let code = code-drawn accepts (p .conversation) (exchange box p (invalid bad user) (line 60 noRecord) .lent) (success-fits _) (omega arith)
     (ap (octet 0) (all .0 .0 .0) ∙ failure-code _ (textOf 691 1 version)) (omega arith) in
     omega (arith, code, success-code (p .conversation .id))
@@ -113,10 +113,10 @@ pub not-pretending : Demand3 (judging (pretends 2)) → ⊥
 not-pretending h =
     let box = judging (pretends 2) in
     let p = start (opening Default) [] in
-    let q = go box p (badTry noRecord) in
+    let q = next box p (badTry noRecord) in
     let all = h (opening Default) opens-default refl .1 (account false) 2 [] (badTry noRecord ∷ badTry noRecord ∷ rightTry false ∷ []) (rightful false) (omega arith) refl (
       bad-allowed box p (account false),
-      (bad-allowed box q (account false), (right-allowed box (go box q (badTry noRecord)) false, tt)),
+      (bad-allowed box q (account false), (right-allowed box (next box q (badTry noRecord)) false, tt)),
     ) in
     let s = exchange box p (invalid bad user) (line 60 noRecord) .lent in
     let t = exchange box q (invalid bad user) (line 60 noRecord) .lent in
@@ -159,7 +159,7 @@ not-leaving-record h =
     let box = judging leavesRecord in
     let l = found (account true) in
     let p = start (opening Default) [] in
-    let q = go box p (rightTry true) in
+    let q = next box p (rightTry true) in
     let all = h (opening Default) opens-default refl .1 (account true) 0 [] (rightTry true ∷ change l ∷ []) (rightful true) (omega arith) refl
     (right-allowed box p true, (change-allowed box q true l, tt)) in
     let s = exchange box p (right old user) (line 55 l) .lent in

@@ -1,4 +1,4 @@
--- Our box, and boxes that are ours but for one slip each. Demand 3 holds of ours (proofs/Demand3) and of none of the others (proofs/Wrong).
+-- Our box, and wrong ones: one that refuses everything, and boxes that are ours but for one slip each. Demand 3 holds of ours (proofs/Demand3) and of none of the others (proofs/Wrong).
 -- Assumes nothing: these are definitions.
 use mathlib.Core.Bool.{cond}
 use Prim.Native.Nat.{ℕ}

@@ -22,7 +22,7 @@ use Rattle.authenticator.specs.declared.Lookup.{Lookup}
 use Rattle.authenticator.specs.declared.Conversation.{Conversation}
 use Rattle.authenticator.specs.declared.Phase.the-variants.{Ended}
 use Rattle.peer.specs.Write.{Wrote, writeResponse, writeChange}
-use Rattle.peer.specs.Talk.{Peer, asked, sending, reads, receiving}
+use Rattle.peer.specs.Peer.{Peer, asked, sending, reads, receiving}
 use Rattle.peer.specs.declared.Turn.{Turn}
 use Rattle.series.specs.Course.{collect, end, Along, total}
 
@@ -36,16 +36,16 @@ pub data Packet : Type 0 where
 
 -- What is lent with it: our peer's output buffer and padding behind the packet; the step's record or none and its reply buffer; padding
 -- behind the reply.
-pub record Line : Type 0 where
+pub record Lending : Type 0 where
   pub out : List ℕ
-  pub after : List ℕ
+  pub packetPadding : List ℕ
   pub account : Lookup
   pub buffer : List ℕ
-  pub behind : List ℕ
+  pub replyPadding : List ℕ
 
 -- A step of the "series": it takes our peer's next packet, or it is "any other step".
 pub data Step : Type 0 where
-  ours : Packet → Line → Step
+  ours : Packet → Lending → Step
   other : Lent → Step
 
 pub data Kind : Type 0 where
@@ -67,7 +67,7 @@ plan k expired = replicate k Invalid ++ (Right ∷ cond expired (Renewal ∷ [])
 -- ---- a packet on its way
 
 -- "the conversation that the opening or the step before gave back", and our peer
-pub record Place : Type 0 where
+pub record State : Type 0 where
   pub conversation : Conversation
   pub peer : Peer
 
@@ -75,7 +75,7 @@ pub record Place : Type 0 where
 abbrev pub challengeRead : Opening → List ℕ → Asked
 challengeRead o behind = readChallenge (take (opened o .written) (openedBuffer o) ++ behind)
 
-abbrev pub start : Opening → List ℕ → Place
+abbrev pub start : Opening → List ℕ → State
 start o behind = record { conversation = opened o .conversation; peer = asked (challengeRead o behind) }
 
 -- our peer "writes its next packet from" its turn
@@ -85,8 +85,8 @@ writes t (right p n) out = writeResponse t p n out
 writes t (renewal o n f) out = writeChange t o n f out
 
 -- "it reaches the box as written": what the writer left in its output buffer, with padding behind it
-abbrev pub reaching : Wrote → Line → Lent
-reaching w l = record { packet = take (w .answer .length) (w .out) ++ l .after; account = l .account; buffer = l .buffer }
+abbrev pub reaching : Wrote → Lending → Lent
+reaching w l = record { packet = take (w .answer .length) (w .out) ++ l .packetPadding; account = l .account; buffer = l .buffer }
 
 -- A packet with what comes of it: what the writer left, the step that takes it, our peer once it wrote, and what reaches our peer.
 pub record Exchange : Type 0 where
@@ -127,54 +127,54 @@ DrawsSuccess x id = Draws x (successPacket id) succeeded
 -- ---- a series with a box
 
 module _ (box : Box) where
-  abbrev pub carried : Place → Wrote → Line → Exchange
+  abbrev pub carried : State → Wrote → Lending → Exchange
   carried p w l =
       record {
         wrote = w;
         lent = reaching w l;
         outcome = box (p .conversation) (reaching w l);
         peer = sending (p .peer) (w .answer);
-        reply = replyOf (box (p .conversation) (reaching w l)) ++ l .behind;
+        reply = replyOf (box (p .conversation) (reaching w l)) ++ l .replyPadding;
       }
 
-  abbrev pub exchange : Place → Packet → Line → Exchange
+  abbrev pub exchange : State → Packet → Lending → Exchange
   exchange p t l = carried p (writes (p .peer .turn) t (l .out)) l
 
   -- where a step leads
-  abbrev pub go : Place → Step → Place
-  go p (ours t l) =
+  abbrev pub next : State → Step → State
+  next p (ours t l) =
       record { conversation = exchange p t l .outcome .answer .next; peer = receiving (exchange p t l .peer) (exchange p t l .reply) }
-  go p (other s) = record { conversation = nextAfter box (p .conversation) s; peer = p .peer }
+  next p (other s) = record { conversation = nextAfter box (p .conversation) s; peer = p .peer }
 
   -- what a step is lent, and whether its packet is judged
-  abbrev pub lentAt : Place → Step → Lent
+  abbrev pub lentAt : State → Step → Lent
   lentAt p (ours t l) = exchange p t l .lent
   lentAt p (other s) = s
 
-  abbrev pub judgedAt : Place → Step → ℕ
+  abbrev pub judgedAt : State → Step → ℕ
   judgedAt p m = judged box (p .conversation) (lentAt p m)
 
   -- An invalid try is lent a record for which it is invalid, or none. "The right password is one whose NT hash is the record's", and that record
   -- is lent. The change is "written with the right password as the old one", and lent any record or none.
-  abbrev pub Meant : Account → Place → Packet → Line → Type 0
+  abbrev pub Meant : Account → State → Packet → Lending → Type 0
   Meant a p (invalid w n) l =
       l .account .found ≡ true → valid (p .conversation) (l .account .account) (responseIn (exchange p (invalid w n) l .lent .packet)) ≡ false
   Meant a p (right w n) l = (ntHashOf w ≡ a .nt .octets) × (l .account ≡ found a)
   Meant a p (renewal o n f) l = ntHashOf o ≡ a .nt .octets
 
   -- "Any other step may have any packet, record and buffer with which the box refuses it."
-  abbrev pub Allowed : Account → Place → Step → Type 0
+  abbrev pub Allowed : Account → State → Step → Type 0
   Allowed a p (ours t l) = Kept (exchange p t l) × Meant a p t l
   Allowed a p (other s) = Refused box (p .conversation) s
 
   -- "after any opening not refused and any refused steps"
-  abbrev pub later : Opening → List ℕ → List Lent → Place
+  abbrev pub later : Opening → List ℕ → List Lent → State
   later o behind ss = record { conversation = end (nextAfter box) (opened o .conversation) ss; peer = start o behind .peer }
 
   -- A record "lets a password in at the first Response of a later conversation".
   abbrev pub LetsIn : Account → List ℕ → Type 0
   LetsIn a password =
-      (o : Opening) (behind name : List ℕ) (ss : List Lent) (l : Line) → opened o .refusal ≡ 0 → length (o .challenge) ≡ 8
+      (o : Opening) (behind name : List ℕ) (ss : List Lent) (l : Lending) → opened o .refusal ≡ 0 → length (o .challenge) ≡ 8
       → Along (nextAfter box) (Refused box) (opened o .conversation) ss → l .account ≡ found a
       → Kept (exchange (later o behind ss) (right password name) l)
       → DrawsSuccess (exchange (later o behind ss) (right password name) l) (o .id)
@@ -187,7 +187,7 @@ module _ (box : Box) where
   Answered a id (renewal o n f) x =
       DrawsSuccess x id × (x .outcome .answer .handed .found ≡ true) × LetsIn (x .outcome .answer .handed .account) n
 
-  abbrev pub Claimed : Account → Place → Step → Type 0
+  abbrev pub Claimed : Account → State → Step → Type 0
   Claimed a p (ours t l) = Answered a (p .peer .turn .id) t (exchange p t l)
   Claimed a p (other s) = Unit {0}
 
@@ -199,8 +199,8 @@ module _ (box : Box) where
       (o : Opening) → opened o .refusal ≡ 0 → length (o .challenge) ≡ 8
       → ((behind : List ℕ) → challengeRead o behind ≡ record { refusal = 0; id = o .id; challenge = o .challenge })
       × ((a : Account) (k : ℕ) (behind : List ℕ) (ms : List Step)
-      → Rightful a → k ≤ retriesOf (o .retries) → collect kindsOf ms ≡ plan k (a .expired) → Along go (Allowed a) (start o behind) ms
-      → Along go (Claimed a) (start o behind) ms
-      × (total go judgedAt (start o behind) ms ≡ k + cond (a .expired) 2 1)
-      × (end go (start o behind) ms .conversation .phase ≡ Ended))
+      → Rightful a → k ≤ retriesOf (o .retries) → collect kindsOf ms ≡ plan k (a .expired) → Along next (Allowed a) (start o behind) ms
+      → Along next (Claimed a) (start o behind) ms
+      × (total next judgedAt (start o behind) ms ≡ k + cond (a .expired) 2 1)
+      × (end next (start o behind) ms .conversation .phase ≡ Ended))
       × ((ss : List Lent) → total (nextAfter box) (judged box) (opened o .conversation) ss ≤ retriesOf (o .retries) + 2)

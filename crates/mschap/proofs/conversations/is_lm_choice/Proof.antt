@@ -1,7 +1,7 @@
 -- `mschap::conversations::is_lm_choice` meets its contract.
 -- Assumes nothing.
 use borrow.Author.Tests.{eq-eqb, ne-eqb}
-use Rattle.mschap.specs.Talk.{isLmChoice}
+use Rattle.mschap.specs.Conversations.{isLmChoice}
 use Rattle.mschap.proofs.conversations.is_lm_choice.Statement.{statement}
 use Rattle.mschap.proofs.conversations.is_lm_choice.Tie as tie
 

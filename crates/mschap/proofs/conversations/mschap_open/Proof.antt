@@ -5,7 +5,7 @@ use borrow.Author.Needs.{needs}
 use lib.ListN.{length}
 use borrow.Author.Tests.{eq-eqb, ne-eqb, not-true, not-false}
 use Rattle.authenticator.specs.Opening.{opened, openedBuffer}
-use Rattle.mschap.specs.Talk.{openingFor, openNumber}
+use Rattle.mschap.specs.Conversations.{openingFor, openNumber}
 use Rattle.octets.proofs.Parts.{fixed-whole}
 use Rattle.mschap.proofs.Talking.{opening-same, open-called}
 use Rattle.mschap.proofs.conversations.mschap_open.Statement.{statement}

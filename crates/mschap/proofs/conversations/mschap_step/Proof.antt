@@ -8,7 +8,7 @@ use Rattle.authenticator.specs.Step.{step}
 use Rattle.authenticator.specs.declared.Conversation.{Conversation}
 use Rattle.authenticator.specs.declared.Lookup.{Lookup}
 use Rattle.mschap.specs.Layout.{conversationIn, recordIn}
-use Rattle.mschap.specs.Talk.{stepNumber}
+use Rattle.mschap.specs.Conversations.{stepNumber}
 use Rattle.mschap.proofs.Talking.{step-called}
 use Rattle.mschap.proofs.conversations.mschap_step.Statement.{statement}
 use Rattle.mschap.proofs.conversations.mschap_step.Tie as tie

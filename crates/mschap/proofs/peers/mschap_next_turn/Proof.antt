@@ -12,7 +12,7 @@ use Rattle.peer.specs.declared.Turn.{Turn}
 use Rattle.peer.specs.declared.Sent.{Sent}
 use Rattle.mschap.specs.Call.{sized}
 use Rattle.mschap.specs.Layout.{turnRun}
-use Rattle.mschap.specs.Turns.{replyTo}
+use Rattle.mschap.specs.Peers.{replyTo}
 use Rattle.mschap.proofs.Handing.{handed, behind}
 use Rattle.mschap.proofs.peers.mschap_next_turn.Statement.{statement}
 use Rattle.mschap.proofs.peers.mschap_next_turn.Tie as tie

@@ -1,0 +1,31 @@
+-- Courses: one law of a step carries a claim along a whole course, and one law of a step bounds a sum over it.
+-- Assumes nothing.
+use mathlib.Core.List.{List, [], _∷_, _++_}
+use mathlib.Core.Path.{_≡_, refl}
+use Prim.Native.Nat.{ℕ, _+_, _≤_}
+use native.Mathlib.Omega.{arith}
+use lib.ListN.{length, length-append}
+use Rattle.series.specs.Course.{collect, end, Along, total}
+
+-- An invariant of box and peer: at a place that is ready for the packets that are due, an allowed step does what is claimed of it, as many packets are
+-- judged as it takes of those, and the place after it is ready for the rest.
+pub record Invariant {S M K : Type 0} (next : S → M → S) (kinds : M → List K) (judged : S → M → ℕ) (Allowed Claimed : S → M → Type 0) : Type 1 where
+  pub Ready : List K → S → Type 0
+  pub law : (due : List K) (s : S) (m : M) → Ready (kinds m ++ due) s → Allowed s m
+      → Claimed s m × (judged s m ≡ length (kinds m)) × Ready due (next s m)
+
+module _ {S M K : Type 0} {next : S → M → S} {kinds : M → List K} {judged : S → M → ℕ} {Allowed Claimed : S → M → Type 0}
+    (I : Invariant next kinds judged Allowed Claimed) where
+  pub whole : (s : S) (ms : List M) → I .Ready (collect kinds ms) s → Along next Allowed s ms
+      → Along next Claimed s ms × (total next judged s ms ≡ length (collect kinds ms)) × I .Ready [] (end next s ms)
+  whole s [] r h = (tt, refl, r)
+  whole s (m ∷ ms) r h =
+      let x = I .law (collect kinds ms) s m r (h .0) in
+      let y = whole (next s m) ms (x .2) (h .1) in
+      ((x .0, y .0), omega (arith, x .1, y .1, length-append (kinds m) (collect kinds ms)), y .2)
+
+-- what each step uses up of the rest
+pub within : {S M : Type 0} (next : S → M → S) (f : S → M → ℕ) (rest : S → ℕ) → ((s : S) (m : M) → f s m + rest (next s m) ≤ rest s)
+    → (s : S) (ms : List M) → total next f s ms ≤ rest s
+within next f rest h s [] = omega arith
+within next f rest h s (m ∷ ms) = let i = within next f rest h (next s m) ms in omega (arith, h s m)
