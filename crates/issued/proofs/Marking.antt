@@ -1,0 +1,74 @@
+-- Marks of the octets in which entries end, and the search that goes by them.
+-- Assumes nothing.
+use mathlib.Core.Bool.{Bool, true, false, cond, _||_, or-assoc, or-false, false≢true}
+use mathlib.Core.List.{List, _∷_}
+use mathlib.Core.Logic.{_≢_}
+use mathlib.Core.Path.{_≡_, refl, sym, ap, ap₂, _∙_, subst}
+use Prim.Native.Nat.{ℕ, _-_, _*_, _≤_, _<_}
+use native.Mathlib.Omega.{arith}
+use borrow.Author.Tests.{ne-eqb, eqb-true, eqb-false}
+use lib.Dec.{eqb}
+use lib.ListN.{length, take, drop, getD, set, length-set}
+use lib.Seq.{getD-set-same, getD-set-other}
+use Rattle.issued.specs.Issued.{entries, holds, meets, lastOf, ending}
+use Rattle.issued.specs.Code.{Marked}
+use Rattle.issued.proofs.Listing.{entries-next, rest-part, fits-first, fits-rest, last-at, meets-next, meets-none}
+
+-- one more mark: an octet that is still unmarked was so before, and ends as many of the rest
+mark-next : (marks : List Bool) (e : List ℕ) (es : List (List ℕ)) (x : ℕ) → lastOf e < length marks → getD (set marks (lastOf e) true) x false ≡ false
+    → (getD marks x false ≡ false) × (ending x (e ∷ es) ≡ ending x es)
+unfolding ending
+mark-next marks e es x f h = which (eqb x (lastOf e)) refl
+  where
+    other : x ≢ lastOf e → ending x (e ∷ es) ≡ ending x es
+    other n = rw (ne-eqb (lastOf e) x (λ p. n (sym p))) (omega arith)
+
+    which : (t : Bool) → eqb x (lastOf e) ≡ t → (getD marks x false ≡ false) × (ending x (e ∷ es) ≡ ending x es)
+    which true p =
+        let there = ap (λ (z : ℕ). getD (set marks (lastOf e) true) z false) (eqb-true x (lastOf e) p) ∙ getD-set-same marks (lastOf e) true false f in
+        absurd (false≢true (sym h ∙ there))
+    which false p =
+        let n = eqb-false x (lastOf e) p in
+        (sym (getD-set-other marks (lastOf e) x true false n) ∙ h, other n)
+
+-- n entries of l are left to be marked; an octet that is not marked yet ends none of the others
+pub record Unmarked (w : ℕ) (marks : List Bool) (l : List ℕ) (n : ℕ) (all : List (List ℕ)) : Type 0 where
+  pub wide : 0 < w
+  pub fits : w * n ≤ length l
+  pub size : length marks ≡ 256
+  pub same : (x : ℕ) → getD marks x false ≡ false → ending x all ≡ ending x (entries w n l)
+
+module _ (w : ℕ) (marks : List Bool) (l : List ℕ) (n : ℕ) (all : List (List ℕ)) (more : 0 < n) (h : Unmarked w marks l n all) where
+  pub first-there : w ≤ length l
+  first-there = fits-first w n l more (h .fits)
+
+  pub marked-next : getD l (w - 1) 0 < 256 → Unmarked w (set marks (getD l (w - 1) 0) true) (take (length l - w) (drop w l)) (n - 1) all
+  marked-next small =
+      let f = rest-part w l in
+      let k = last-at w l (h .wide) first-there in
+      record {
+        wide = h .wide;
+        fits = subst (λ (m : List ℕ). w * (n - 1) ≤ length m) (sym f) (fits-rest w n l more (h .fits));
+        size = length-set marks (getD l (w - 1) 0) true ∙ h .size;
+        same = λ x z.
+            let u = mark-next marks (take w l) (entries w (n - 1) (drop w l)) x (omega (arith, h .size)) (ap (λ (y : ℕ). getD (set marks y true) x false) k ∙ z) in
+            h .same x (u .0) ∙ ap (ending x) (entries-next w n l more) ∙ u .1 ∙ ap (λ (m : List ℕ). ending x (entries w (n - 1) m)) (sym f);
+      }
+
+pub marked-all : (w : ℕ) (marks : List Bool) (l : List ℕ) (n : ℕ) (all : List (List ℕ)) → n ≡ 0 → Unmarked w marks l n all → Marked marks all
+unfolding ending
+marked-all w marks l n all z h x u = h .same x u ∙ ap (λ (k : ℕ). ending x (entries w k l)) z
+
+-- ---- the search
+
+-- one more entry of the list is looked at
+pub met-next : (w n : ℕ) (l : List ℕ) (cs : List (List ℕ)) (met : Bool) {after one : Bool} → 0 < n → after ≡ (met || one) → one ≡ holds cs (take w l)
+    → (after || meets cs (entries w (n - 1) (take (length l - w) (drop w l)))) ≡ (met || meets cs (entries w n l))
+met-next w n l cs met {after} {one} more e f =
+    let rest = entries w (n - 1) (drop w l) in
+    ap₂ (λ (t : Bool) (m : List ℕ). t || meets cs (entries w (n - 1) m)) (e ∙ ap (λ (t : Bool). met || t) f) (rest-part w l)
+    ∙ or-assoc met (holds cs (take w l)) (meets cs rest)
+    ∙ ap (λ (t : Bool). met || t) (sym (ap (meets cs) (entries-next w n l more) ∙ meets-next cs rest (take w l)))
+
+pub met-all : (w n : ℕ) (l : List ℕ) (cs : List (List ℕ)) (met : Bool) → n ≡ 0 → met ≡ (met || meets cs (entries w n l))
+met-all w n l cs met z = sym (ap (λ (k : ℕ). met || meets cs (entries w k l)) z ∙ ap (λ (t : Bool). met || t) (meets-none cs) ∙ or-false met)

@@ -1,0 +1,109 @@
+-- Entries that are not refused: what is known then, and that the list has them behind those that it had, with counts that are true.
+-- Assumes nothing.
+use mathlib.Core.Bool.{Bool, true, false, cond, not, _||_, or-true, false≢true}
+use mathlib.Core.List.{List, _++_}
+use mathlib.Core.Logic.{_≢_}
+use mathlib.Core.Path.{_≡_, refl, sym, ap, _∙_}
+use Prim.Native.Nat.{ℕ, _+_, _-_, _*_, _%_, _≤_, _<_}
+use native.Mathlib.Nat.{mul-le-mul-left, mul-div-le}
+use native.Mathlib.Omega.{arith}
+use borrow.Author.Tests.{eqb-true, eqb-false, ne-eqb, ltb-false}
+use lib.Dec.{eqb, ltb}
+use lib.ListN.{length}
+use Rattle.octets.specs.Parts.{agrees}
+use Rattle.octets.proofs.Parts.{agrees-equal}
+use Rattle.issued.specs.Issued.{Issued, places, listed, holds, meets, countsOf, badBuffer, full, spendRefusal, added, spent}
+use Rattle.issued.proofs.Listing.{Wide, entries-laid, holds-append}
+
+-- ---- what is known of a buffer that is not refused
+
+pub record Good (w : ℕ) (l : List ℕ) (used : ℕ) : Type 0 where
+  pub wide : 0 < w
+  pub few : places w l ≤ 4096
+  pub fits : used ≤ places w l
+
+pub good : (w : ℕ) (l : List ℕ) (used : ℕ) → badBuffer w l used ≡ false → Good w l used
+unfolding badBuffer
+good w l used h = which (eqb w 0) (eqb (length l % w) 0) (ltb 4096 (places w l)) refl refl h
+  where
+    which : (t₁ t₂ t₃ : Bool) → eqb w 0 ≡ t₁ → ltb 4096 (places w l) ≡ t₃ → (t₁ || (not t₂ || (t₃ || ltb (places w l) used))) ≡ false → Good w l used
+    which true t₂ t₃ p₁ p₃ z = absurd (false≢true (sym z))
+    which false false t₃ p₁ p₃ z = absurd (false≢true (sym z))
+    which false true true p₁ p₃ z = absurd (false≢true (sym z))
+    which false true false p₁ p₃ z =
+        let n = eqb-false w 0 p₁ in
+        record { wide = omega arith; few = ltb-false 4096 (places w l) p₃; fits = ltb-false (places w l) used z }
+
+-- where n places are there, so are their octets
+pub places-fit : (w n : ℕ) (l : List ℕ) → n ≤ places w l → w * n ≤ length l
+places-fit w n l h = omega (arith, mul-le-mul-left w h, mul-div-le (length l) w)
+
+-- ---- what is known of entries that are not refused
+
+pub record Accepted (w : ℕ) (cs : List (List ℕ)) (i : Issued) : Type 0 where
+  pub buffer : Good w (i .buffer) (i .used)
+  pub counts : i .counts ≡ countsOf (listed w i)
+  pub fresh : meets cs (listed w i) ≡ false
+  pub room : i .used + length cs ≤ places w (i .buffer)
+
+pub accepted : (w : ℕ) (cs : List (List ℕ)) (i : Issued) → spendRefusal w cs i ≡ 0 → Accepted w cs i
+unfolding spendRefusal
+accepted w cs i h =
+    which (badBuffer w (i .buffer) (i .used)) (agrees (countsOf (listed w i)) (i .counts)) (meets cs (listed w i)) (full w cs i) refl refl refl refl h
+  where
+    which : (t₁ t₂ t₃ t₄ : Bool) → badBuffer w (i .buffer) (i .used) ≡ t₁ → agrees (countsOf (listed w i)) (i .counts) ≡ t₂ → meets cs (listed w i) ≡ t₃
+        → full w cs i ≡ t₄ → _≡_ {A = ℕ} (cond t₁ 24 (cond (not t₂) 24 (cond t₃ 16 (cond t₄ 17 0)))) 0 → Accepted w cs i
+    which true t₂ t₃ t₄ p₁ p₂ p₃ p₄ z = absurd (omega arith)
+    which false false t₃ t₄ p₁ p₂ p₃ p₄ z = absurd (omega arith)
+    which false true true t₄ p₁ p₂ p₃ p₄ z = absurd (omega arith)
+    which false true false true p₁ p₂ p₃ p₄ z = absurd (omega arith)
+    which false true false false p₁ p₂ p₃ p₄ z =
+        let g = good w (i .buffer) (i .used) p₁ in
+        let r = ltb-false (places w (i .buffer) - i .used) (length cs) p₄ in
+        record { buffer = g; counts = sym (agrees-equal (countsOf (listed w i)) (i .counts) p₂); fresh = p₃; room = omega (arith, g .fits) }
+
+-- ---- the list afterwards
+
+module _ (w : ℕ) (cs : List (List ℕ)) (i : Issued) where
+  pub spent-added : spendRefusal w cs i ≡ 0 → spent w cs i ≡ added w cs i
+  unfolding spent
+  spent-added h = rw h
+
+  pub spent-refused : spendRefusal w cs i ≢ 0 → spent w cs i ≡ i
+  unfolding spent
+  spent-refused n = rw (ne-eqb (spendRefusal w cs i) 0 n)
+
+  -- entries that are not refused stand behind those that were there
+  pub spent-listed : Wide w cs → spendRefusal w cs i ≡ 0 → listed w (spent w cs i) ≡ listed w i ++ cs
+  spent-listed wide h =
+      let a = accepted w cs i h in
+      ap (listed w) (spent-added h)
+      ∙ entries-laid w (i .used) cs (i .buffer) wide (places-fit w (i .used + length cs) (i .buffer) (a .room))
+
+  -- "true after every operation that was lent true ones"
+  pub spent-true : Wide w cs → i .counts ≡ countsOf (listed w i) → spent w cs i .counts ≡ countsOf (listed w (spent w cs i))
+  spent-true wide e = which (eqb (spendRefusal w cs i) 0) refl
+    where
+      which : (t : Bool) → eqb (spendRefusal w cs i) 0 ≡ t → spent w cs i .counts ≡ countsOf (listed w (spent w cs i))
+      which true p =
+          let z = eqb-true (spendRefusal w cs i) 0 p in
+          ap (λ (x : Issued). x .counts) (spent-added z) ∙ ap countsOf (sym (spent-listed wide z))
+      which false p =
+          let same = spent-refused (eqb-false (spendRefusal w cs i) 0 p) in
+          ap (λ (x : Issued). x .counts) same ∙ e ∙ ap (λ (x : Issued). countsOf (listed w x)) (sym same)
+
+  -- whatever was to be spent, what stood in the list stands there still
+  pub spent-keeps : Wide w cs → (c : List ℕ) → holds (listed w i) c ≡ true → holds (listed w (spent w cs i)) c ≡ true
+  spent-keeps wide c e = which (eqb (spendRefusal w cs i) 0) refl
+    where
+      which : (t : Bool) → eqb (spendRefusal w cs i) 0 ≡ t → holds (listed w (spent w cs i)) c ≡ true
+      which true p =
+          ap (λ (es : List (List ℕ)). holds es c) (spent-listed wide (eqb-true (spendRefusal w cs i) 0 p))
+          ∙ holds-append (listed w i) cs c ∙ ap (λ (t : Bool). t || holds cs c) e
+      which false p = ap (λ (x : Issued). holds (listed w x) c) (spent-refused (eqb-false (spendRefusal w cs i) 0 p)) ∙ e
+
+  -- entries that are not refused stand in the list afterwards
+  pub spent-holds : Wide w cs → spendRefusal w cs i ≡ 0 → (c : List ℕ) → holds cs c ≡ true → holds (listed w (spent w cs i)) c ≡ true
+  spent-holds wide h c e =
+      ap (λ (es : List (List ℕ)). holds es c) (spent-listed wide h)
+      ∙ holds-append (listed w i) cs c ∙ ap (λ (t : Bool). holds (listed w i) c || t) e ∙ or-true (holds (listed w i) c)

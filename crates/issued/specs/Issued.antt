@@ -1,0 +1,103 @@
+-- The list of issued challenges. Words in quotes are document 02's, request 2026-03. All is said over w, the octets of an entry, which are 8
+-- in MS-CHAP version 1.
+-- Assumes nothing: these are definitions.
+use mathlib.Core.Bool.{Bool, true, false, cond, not, _||_}
+use mathlib.Core.List.{List, [], _∷_, _++_}
+use Prim.Native.Nat.{ℕ, zero, suc, _+_, _-_, _*_, _/_, _%_}
+use lib.Dec.{eqb, ltb}
+use lib.ListN.{length, take, drop, getD}
+use Rattle.octets.specs.Parts.{overAt, agrees}
+
+-- What is lent: the buffer, how many of its places are used, and the counts.
+pub record Issued : Type 0 where
+  pub buffer : List ℕ
+  pub used : ℕ
+  pub counts : List ℕ
+
+-- ---- entries
+
+-- the first n entries of a buffer
+abbrev pub entries : ℕ → ℕ → List ℕ → List (List ℕ)
+entries w zero l = []
+entries w (suc n) l = take w l ∷ entries w n (drop w l)
+
+-- how many places a buffer has
+abbrev pub places : ℕ → List ℕ → ℕ
+places w l = length l / w
+
+-- all the entries of a buffer
+abbrev pub entriesIn : ℕ → List ℕ → List (List ℕ)
+entriesIn w l = entries w (places w l) l
+
+-- the list: what stands in the places that are used; the others have no meaning
+abbrev pub listed : ℕ → Issued → List (List ℕ)
+listed w i = entries w (i .used) (i .buffer)
+
+-- an entry "is in the list" where all its octets are those of one there
+unfoldable pub holds : List (List ℕ) → List ℕ → Bool
+holds [] c = false
+holds (e ∷ es) c = agrees e c || holds es c
+
+-- "if one of them is in the list"
+unfoldable pub meets : List (List ℕ) → List (List ℕ) → Bool
+meets [] es = false
+meets (c ∷ cs) es = holds es c || meets cs es
+
+-- entries one behind the other
+unfoldable pub joined : List (List ℕ) → List ℕ
+joined [] = []
+joined (e ∷ es) = e ++ joined es
+
+-- ---- counts
+
+abbrev pub lastOf : List ℕ → ℕ
+lastOf e = getD e (length e - 1) 0
+
+-- "how many entries end in" the octet x
+unfoldable pub ending : ℕ → List (List ℕ) → ℕ
+ending x [] = 0
+ending x (e ∷ es) = cond (eqb (lastOf e) x) 1 0 + ending x es
+
+-- for n octets from x on
+unfoldable pub endings : ℕ → ℕ → List (List ℕ) → List ℕ
+endings x zero es = []
+endings x (suc n) es = ending x es ∷ endings (suc x) n es
+
+-- the "256 counts"
+abbrev pub countsOf : List (List ℕ) → List ℕ
+countsOf es = endings 0 256 es
+
+-- ---- spending
+
+-- "when the buffer is not whole places, at most 4,096, when more entries are used than it has"
+unfoldable pub badBuffer : ℕ → List ℕ → ℕ → Bool
+badBuffer w l used = eqb w 0 || (not (eqb (length l % w) 0) || (ltb 4096 (places w l) || ltb (places w l) used))
+
+-- "or when the lent counts are not 256, each true of the list"
+abbrev pub untrue : ℕ → Issued → Bool
+untrue w i = not (agrees (countsOf (listed w i)) (i .counts))
+
+-- fewer places are left than there are entries to be added
+abbrev pub full : ℕ → List (List ℕ) → Issued → Bool
+full w cs i = ltb (places w (i .buffer) - i .used) (length cs)
+
+-- 24, "16 for a challenge spent, then 17"; 0 is none
+unfoldable pub spendRefusal : ℕ → List (List ℕ) → Issued → ℕ
+spendRefusal w cs i =
+    cond (badBuffer w (i .buffer) (i .used)) 24
+    (cond (untrue w i) 24
+    (cond (meets cs (listed w i)) 16
+    (cond (full w cs i) 17 0)))
+
+-- "else all are added, in that order", and the counts are true of the list as it is then
+abbrev pub added : ℕ → List (List ℕ) → Issued → Issued
+added w cs i =
+    record {
+      buffer = overAt (w * i .used) (joined cs) (i .buffer);
+      used = i .used + length cs;
+      counts = countsOf (listed w i ++ cs);
+    }
+
+-- what is left once the entries cs were to be spent: where they are refused, all is as it was
+unfoldable pub spent : ℕ → List (List ℕ) → Issued → Issued
+spent w cs i = cond (eqb (spendRefusal w cs i) 0) (added w cs i) i

@@ -1,0 +1,72 @@
+// The list of issued challenges: entries of one width in a lent buffer, and counts of their last octets. An opening spends entries: they are
+// added, unless one of them was issued before. Every public function is total.
+mod counts;
+mod entries;
+
+ghost use mathlib.Core.Path.{_≡_};
+ghost use Rattle.issued.specs.Issued.{entriesIn, badBuffer, spendRefusal, spent};
+
+// What spending answers: the refusal (0 is none), and how many places are used then.
+pub struct Spent {
+    pub refusal: u8,
+    pub used: usize,
+}
+
+// Whether a buffer is not whole places of width octets, has over 4,096 of them, or fewer than are used.
+fn is_bad_buffer(buffer: &[u8], used: usize, width: usize) -> bool
+    ensures { λ r. ⌜ r ≡ badBuffer width (now (buffer .entry)) used ⌝ }
+{
+    if width == 0 {
+        return true;
+    }
+    if buffer.len() % width != 0 {
+        return true;
+    }
+    let places = buffer.len() / width;
+    if 4096 < places {
+        return true;
+    }
+    places < used
+}
+
+// The refusal of the entries of run, 24, 16 or 17 in that order; 0 is none. The list is passed over once.
+fn refusal(buffer: &[u8], used: usize, counts: &[u16], width: usize, run: &[u8]) -> u8
+    ensures { λ r. ⌜ r ≡ spendRefusal width (entriesIn width (now (run .entry))) (record { buffer = now (buffer .entry); used = used; counts = now (counts .entry) }) ⌝ }
+{
+    if is_bad_buffer(buffer, used, width) {
+        return 24;
+    }
+    let n = run.len() / width;
+    let mut marks = [false; 256];
+    entries::mark(run, n, width, &mut marks);
+    let mut tally = [0u16; 256];
+    let met = entries::scan(buffer, used, width, run, n, &marks, &mut tally);
+    if !counts::agree(&tally, counts) {
+        return 24;
+    }
+    if met {
+        return 16;
+    }
+    if buffer.len() / width - used < n {
+        return 17;
+    }
+    0
+}
+
+// Spends the entries of run, width octets each: adds them behind the used places of buffer and raises the counts of their last octets. Refusals,
+// which leave all as it was: 24 (the buffer, used or the counts), 16 (one of them stands in the list), 17 (too few places are left).
+pub fn spend(buffer: &mut [u8], used: usize, counts: &mut [u16], width: usize, run: &[u8]) -> Spent
+    ensures { λ r. ⌜ (r .refusal ≡ spendRefusal width (entriesIn width (now (run .entry))) (record { buffer = now (buffer .entry); used = used; counts = now (counts .entry) })) × (record { buffer = now (buffer .exit); used = r .used; counts = now (counts .exit) } ≡ spent width (entriesIn width (now (run .entry))) (record { buffer = now (buffer .entry); used = used; counts = now (counts .entry) })) ⌝ }
+{
+    let refusal = refusal(buffer, used, counts, width, run);
+    if refusal != 0 {
+        return Spent { refusal, used };
+    }
+    let n = run.len() / width;
+    octets::copy_at(buffer, width * used, octets::part_of(run, 0, width * n));
+    entries::count(run, n, width, counts);
+    Spent {
+        refusal: 0,
+        used: used + n,
+    }
+}
