@@ -1,7 +1,9 @@
 pub mod Steps
 pub mod Judged
 pub mod Bound
+pub mod Spends
 pub mod Openings
+pub mod InForce
 pub mod Replies
 pub mod Cases
 pub mod NewHash

@@ -1,20 +1,26 @@
--- An opening that is not refused: the first conversation, and the Challenge at the front of the buffer. A refused one: an ended conversation of
--- fixed values, and the buffer as it was.
+-- An opening that is not refused: the first conversation, the Challenge at the front of the buffer, and its challenges in the list, where none of
+-- them was. A refused one: an ended conversation of fixed values, and buffer and list as they were. Either leaves true counts true.
 -- Assumes nothing.
 use mathlib.Core.Bool.{Bool, true, false, cond}
+use mathlib.Core.List.{List, _∷_, _++_}
 use mathlib.Core.Logic.{_≢_}
-use mathlib.Core.Path.{_≡_, refl, sym, ap, _∙_}
-use Prim.Native.Nat.{ℕ, _+_, _≤_}
+use mathlib.Core.Path.{_≡_, refl, sym, ap, _∙_, subst}
+use Prim.Native.Nat.{ℕ, suc, _+_, _≤_}
 use native.Mathlib.Omega.{arith}
-use borrow.Author.Tests.{eqb-true, ne-eqb, ltb-false}
+use borrow.Author.Tests.{eqb-true, eqb-false, ne-eqb, ltb-false}
 use lib.Dec.{eqb, ltb}
 use lib.ListN.{length, take}
+use Rattle.issued.specs.Issued.{Issued, listed, holds, meets, countsOf, spendRefusal, spent}
+use Rattle.issued.proofs.Listing.{Wide}
+use Rattle.issued.proofs.Spending.{accepted, spent-added, spent-listed, spent-holds, spent-keeps, spent-true}
 use Rattle.packets.specs.Frame.{headed}
+use Rattle.packets.specs.Next.{succession}
 use Rattle.packets.specs.Reply.{challengePacket}
 use Rattle.packets.proofs.Writing.{taken}
 use Rattle.authenticator.specs.Conversation.{closed}
-use Rattle.authenticator.specs.Opening.{Opening, retriesOf, badRoom, openRefusal, firstConversation, openingPacket, openedBy, opened, openedBuffer}
+use Rattle.authenticator.specs.Opening.{Opening, retriesOf, badRoom, spends, openRefusal, openedIssued, firstConversation, openingPacket, openedBy, opened, openedBuffer, Opens}
 use Rattle.authenticator.specs.declared.Opened.{Opened}
+use Rattle.authenticator.proofs.Spends.{Different, succession-wide, succession-different}
 
 -- the answer's number is the refusal
 pub opened-number : (o : Opening) → opened o .refusal ≡ openRefusal o
@@ -25,11 +31,15 @@ opened-number o = which (eqb (openRefusal o) 0) refl
     which true e = let z = eqb-true (openRefusal o) 0 e in ap (λ (n : ℕ). openedBy n o .refusal) z ∙ sym z
     which false e = rw e
 
--- 13, then 2
-room : (t₁ t₂ : Bool) → _≡_ {A = ℕ} (cond t₁ 13 (cond t₂ 2 0)) 0 → t₂ ≡ false
-room true t₂ h = absurd (omega arith)
-room false true h = absurd (omega arith)
-room false false h = refl
+-- none of the tests
+none : (t₁ t₂ : Bool) (n : ℕ) → cond t₁ 13 (cond t₂ 2 n) ≡ 0 → (t₁ ≡ false) × (t₂ ≡ false) × (n ≡ 0)
+none true t₂ n h = absurd (omega arith)
+none false true n h = absurd (omega arith)
+none false false n h = (refl, refl, h)
+
+same-issued : {b b' c c' : List ℕ} {u u' : ℕ} → b ≡ b' → u ≡ u' → c ≡ c'
+    → _≡_ {A = Issued} (record { buffer = b; used = u; counts = c }) (record { buffer = b'; used = u'; counts = c' })
+same-issued p q r = cc
 
 module _ (o : Opening) where
   module _ (ok : opened o .refusal ≡ 0) where
@@ -43,9 +53,12 @@ module _ (o : Opening) where
     pub opened-first : opened o .conversation ≡ firstConversation o
     opened-first = ap (λ (x : Opened). x .conversation) good
 
-    roomy : 17 ≤ length (o .buffer)
+    passed : (ltb 7 (retriesOf (o .retries)) ≡ false) × (badRoom (o .buffer) ≡ false) × (spendRefusal 8 (spends o) (o .issued) ≡ 0)
     unfolding openRefusal
-    roomy = ltb-false (length (o .buffer)) 17 (room (ltb 7 (retriesOf (o .retries))) (badRoom (o .buffer)) not-refused)
+    passed = none (ltb 7 (retriesOf (o .retries))) (badRoom (o .buffer)) (spendRefusal 8 (spends o) (o .issued)) not-refused
+
+    roomy : 17 ≤ length (o .buffer)
+    roomy = ltb-false (length (o .buffer)) 17 (passed .1)
 
     headed-buffer : openedBuffer o ≡ headed (openingPacket o) (o .buffer)
     unfolding openedBuffer
@@ -61,9 +74,80 @@ module _ (o : Opening) where
         ∙ ap (take (length (openingPacket o))) headed-buffer
         ∙ taken (openingPacket o) (o .buffer) (omega (arith, size, roomy))
 
+    -- none of what it spends stood in the list
+    pub opened-fresh : meets (spends o) (listed 8 (o .issued)) ≡ false
+    opened-fresh = accepted 8 (spends o) (o .issued) (passed .2) .fresh
+
+    opened-spent : openedIssued o ≡ spent 8 (spends o) (o .issued)
+    unfolding openedIssued
+    opened-spent = rw not-refused (sym (spent-added 8 (spends o) (o .issued) (passed .2)))
+
   pub opened-not : opened o .refusal ≢ 0
-      → (opened o ≡ record { refusal = openRefusal o; conversation = closed; written = 0 }) × (openedBuffer o ≡ o .buffer)
-  unfolding opened openedBuffer
+      → (opened o ≡ record { refusal = openRefusal o; conversation = closed; written = 0; used = o .issued .used })
+      × (openedIssued o ≡ o .issued) × (openedBuffer o ≡ o .buffer)
+  unfolding opened openedIssued openedBuffer
   opened-not h =
       let n : openRefusal o ≢ 0 = λ e. h (opened-number o ∙ e) in
-      (rw (ne-eqb (openRefusal o) 0 n), rw (ne-eqb (openRefusal o) 0 n))
+      let e = ne-eqb (openRefusal o) 0 n in
+      (rw e, rw e, rw e)
+
+  -- ---- the list afterwards
+
+  module _ (eight : length (o .challenge) ≡ 8) where
+    wide : Wide 8 (spends o)
+    wide = succession-wide (suc (retriesOf (o .retries))) (o .challenge) eight
+
+    -- all that it spends is added, in that order
+    pub opened-listed : opened o .refusal ≡ 0 → listed 8 (openedIssued o) ≡ listed 8 (o .issued) ++ spends o
+    opened-listed ok = ap (listed 8) (opened-spent ok) ∙ spent-listed 8 (spends o) (o .issued) wide (passed ok .2)
+
+    pub opened-holds : opened o .refusal ≡ 0 → (c : List ℕ) → holds (spends o) c ≡ true → holds (listed 8 (openedIssued o)) c ≡ true
+    opened-holds ok c h = ap (λ (i : Issued). holds (listed 8 i) c) (opened-spent ok) ∙ spent-holds 8 (spends o) (o .issued) wide (passed ok .2) c h
+
+    -- refused or not
+    either : (P : Issued → Type 0) → P (spent 8 (spends o) (o .issued)) → P (o .issued) → P (openedIssued o)
+    either P a b = which (eqb (opened o .refusal) 0) refl
+      where
+        which : (t : Bool) → eqb (opened o .refusal) 0 ≡ t → P (openedIssued o)
+        which true e = subst P (sym (opened-spent (eqb-true (opened o .refusal) 0 e))) a
+        which false e = subst P (sym (opened-not (eqb-false (opened o .refusal) 0 e) .1)) b
+
+    -- what stands in the list stands there afterwards
+    pub opened-keeps : (c : List ℕ) → holds (listed 8 (o .issued)) c ≡ true → holds (listed 8 (openedIssued o)) c ≡ true
+    opened-keeps c h = either (λ (i : Issued). holds (listed 8 i) c ≡ true) (spent-keeps 8 (spends o) (o .issued) wide c h) h
+
+    -- counts that are true are true afterwards
+    pub opened-true : o .issued .counts ≡ countsOf (listed 8 (o .issued)) → openedIssued o .counts ≡ countsOf (listed 8 (openedIssued o))
+    opened-true e = either (λ (i : Issued). i .counts ≡ countsOf (listed 8 i)) (spent-true 8 (spends o) (o .issued) wide e) e
+
+  -- what an opening with at most 7 retries spends differs among itself
+  pub opened-different : (x : ℕ) (xs : List ℕ) → o .challenge ≡ x ∷ xs → opened o .refusal ≡ 0 → Different (spends o)
+  opened-different x xs e ok =
+      let few = ltb-false 7 (retriesOf (o .retries)) (passed ok .0) in
+      subst (λ (c : List ℕ). Different (succession (suc (retriesOf (o .retries))) c)) (sym e) (succession-different (suc (retriesOf (o .retries))) x xs (omega arith))
+
+-- ---- what the code has to show of an answer r and of what it leaves
+
+module _ (o : Opening) {r : Opened} {list counts buffer : List ℕ} where
+  pub refused-opens : (n : ℕ) → openRefusal o ≡ n → n ≢ 0 → r ≡ record { refusal = n; conversation = closed; written = 0; used = o .issued .used }
+      → list ≡ o .issued .buffer → counts ≡ o .issued .counts → buffer ≡ o .buffer → Opens o r (record { buffer = list; used = r .used; counts = counts }) buffer
+  refused-opens n e not e₁ e₂ e₃ e₄ =
+      let k = opened-not o (λ f. not (sym e ∙ sym (opened-number o) ∙ f)) in
+      let u = ap (λ (x : Opened). x .used) e₁ in
+      record {
+        answer = e₁ ∙ ap (λ (m : ℕ). record { refusal = m; conversation = closed; written = 0; used = o .issued .used }) (sym e) ∙ sym (k .0);
+        list = same-issued e₂ u e₃ ∙ sym (k .1);
+        reply = e₄ ∙ sym (k .2);
+      }
+
+  pub accepted-opens : openRefusal o ≡ 0 → record { buffer = list; used = r .used; counts = counts } ≡ spent 8 (spends o) (o .issued)
+      → r ≡ record { refusal = 0; conversation = firstConversation o; written = length (openingPacket o); used = r .used }
+      → buffer ≡ headed (openingPacket o) (o .buffer) → Opens o r (record { buffer = list; used = r .used; counts = counts }) buffer
+  accepted-opens e h e₁ e₂ =
+      let ok = opened-number o ∙ e in
+      let after = h ∙ sym (opened-spent o ok) in
+      record {
+        answer = e₁ ∙ ap (λ (u : ℕ). record { refusal = 0; conversation = firstConversation o; written = length (openingPacket o); used = u }) (ap (λ (i : Issued). i .used) after) ∙ sym (good o ok);
+        list = after;
+        reply = e₂ ∙ sym (headed-buffer o ok);
+      }

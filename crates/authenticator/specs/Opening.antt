@@ -1,11 +1,15 @@
--- The opening of a conversation: the Challenge is written.
+-- The opening of a conversation: it spends its challenge and its successors from the list of issued challenges (document 02, request 2026-03), and
+-- writes the Challenge.
 -- Assumes nothing: these are definitions.
 use mathlib.Core.Bool.{Bool, true, false, cond}
 use mathlib.Core.List.{List}
-use Prim.Native.Nat.{ℕ}
+use mathlib.Core.Path.{_≡_}
+use Prim.Native.Nat.{ℕ, suc}
 use lib.Dec.{eqb, ltb}
 use lib.ListN.{length}
+use Rattle.issued.specs.Issued.{Issued, spendRefusal, added}
 use Rattle.packets.specs.Frame.{headed}
+use Rattle.packets.specs.Next.{succession}
 use Rattle.packets.specs.Reply.{challengePacket}
 use Rattle.authenticator.specs.Account.{blank}
 use Rattle.authenticator.specs.Conversation.{closed}
@@ -23,6 +27,7 @@ pub record Opening : Type 0 where
   pub challenge : List ℕ
   pub retries : Retries
   pub lm : LmChoice
+  pub issued : Issued
   pub buffer : List ℕ
 
 -- document 01's r: silence means 2
@@ -40,9 +45,17 @@ lmAllowed Disallowed = false
 abbrev pub badRoom : List ℕ → Bool
 badRoom buffer = ltb (length buffer) 17
 
--- 13, then 2; 0 is none
+-- "the challenge and its r successors by the 23 rule"
+abbrev pub spends : Opening → List (List ℕ)
+spends o = succession (suc (retriesOf (o .retries))) (o .challenge)
+
+-- 13, 2, and then 24, 16, 17 of the list, whose entries have 8 octets; 0 is none
 unfoldable pub openRefusal : Opening → ℕ
-openRefusal o = cond (ltb 7 (retriesOf (o .retries))) 13 (cond (badRoom (o .buffer)) 2 0)
+openRefusal o = cond (ltb 7 (retriesOf (o .retries))) 13 (cond (badRoom (o .buffer)) 2 (spendRefusal 8 (spends o) (o .issued)))
+
+-- the list afterwards: "all are added", or it is as it was
+unfoldable pub openedIssued : Opening → Issued
+openedIssued o = cond (eqb (openRefusal o) 0) (added 8 (spends o) (o .issued)) (o .issued)
 
 abbrev pub firstConversation : Opening → Conversation
 firstConversation o =
@@ -62,11 +75,17 @@ openingPacket o = challengePacket (o .id) (o .challenge)
 abbrev pub openedBy : ℕ → Opening → Opened
 openedBy n o =
     cond (eqb n 0)
-    (record { refusal = 0; conversation = firstConversation o; written = length (openingPacket o) })
-    (record { refusal = n; conversation = closed; written = 0 })
+    (record { refusal = 0; conversation = firstConversation o; written = length (openingPacket o); used = openedIssued o .used })
+    (record { refusal = n; conversation = closed; written = 0; used = o .issued .used })
 
 unfoldable pub opened : Opening → Opened
 opened o = openedBy (openRefusal o) o
 
 unfoldable pub openedBuffer : Opening → List ℕ
 openedBuffer o = cond (eqb (openRefusal o) 0) (headed (openingPacket o) (o .buffer)) (o .buffer)
+
+-- what an opening answers (r), and leaves in the list and in the reply buffer
+pub record Opens (o : Opening) (r : Opened) (issued : Issued) (buffer : List ℕ) : Type 0 where
+  pub answer : r ≡ opened o
+  pub list : issued ≡ openedIssued o
+  pub reply : buffer ≡ openedBuffer o

@@ -75,12 +75,13 @@ pub enum LmChoice {
     Disallowed,
 }
 
-// What an opening answers: the refusal (0 is none), the conversation (an ended one of fixed values beside a refusal), and how many octets of
-// the reply buffer the Challenge takes.
+// What an opening answers: the refusal (0 is none), the conversation (an ended one of fixed values beside a refusal), how many octets of
+// the reply buffer the Challenge takes, and how many places of the list of issued challenges are used then.
 pub struct Opened {
     pub refusal: u8,
     pub conversation: Conversation,
     pub written: usize,
+    pub used: usize,
 }
 
 // A step's packet was refused with a number, or judged with a reason (0 is Success).

@@ -1,7 +1,10 @@
 // The opening of a conversation.
 ghost use mathlib.Core.Path.{_≡_};
+ghost use Prim.Native.Nat.{suc, _≤_};
+ghost use Rattle.issued.specs.Issued.{spendRefusal, spent};
+ghost use Rattle.packets.specs.Next.{succession};
 ghost use Rattle.authenticator.specs.Conversation.{closed};
-ghost use Rattle.authenticator.specs.Opening.{Opening, retriesOf, lmAllowed, badRoom, opened, openedBuffer};
+ghost use Rattle.authenticator.specs.Opening.{retriesOf, lmAllowed, badRoom, Opens};
 use crate::Conversation;
 use crate::LmChoice;
 use crate::Opened;
@@ -10,6 +13,7 @@ use crate::Retries;
 use crate::Terms;
 use crate::accounts::blank_account;
 use crate::successors::closed_conversation;
+use issued::Spent;
 
 fn retries_of(retries: Retries) -> u8
     ensures { λ r. ⌜ r ≡ retriesOf retries ⌝ }
@@ -37,34 +41,54 @@ pub fn is_bad_room(reply: &[u8]) -> bool
     reply.len() < 17
 }
 
-fn refused_opening(refusal: u8) -> Opened
-    ensures { λ r. ⌜ r ≡ record { refusal = refusal; conversation = closed; written = 0 } ⌝ }
+fn refused_opening(refusal: u8, used: usize) -> Opened
+    ensures { λ r. ⌜ r ≡ record { refusal = refusal; conversation = closed; written = 0; used = used } ⌝ }
 {
     let conversation = closed_conversation();
     Opened {
         refusal,
         conversation,
         written: 0,
+        used,
     }
 }
 
+// Spends the challenge and its r successors: refusals 24, 16 and 17.
+fn spend(challenge: [u8; 8], r: u8, list: &mut [u8], used: usize, counts: &mut [u16]) -> Spent
+    requires { ⌜ r ≤ 7 ⌝ }
+    ensures { λ s. ⌜ (s .refusal ≡ spendRefusal 8 (succession (suc r) challenge) (record { buffer = now (list .entry); used = used; counts = now (counts .entry) })) × (record { buffer = now (list .exit); used = s .used; counts = now (counts .exit) } ≡ spent 8 (succession (suc r) challenge) (record { buffer = now (list .entry); used = used; counts = now (counts .entry) })) ⌝ }
+{
+    let run = packets::succession(challenge);
+    let n = 8 * (r as usize + 1);
+    issued::spend(list, used, counts, 8, octets::part_of(&run, 0, n))
+}
+
 impl Conversation {
-    // Opens a conversation and writes its Challenge. Refusals 13 (r over 7), then 2.
+    // Opens a conversation, spends its challenge and r successors from a list of issued challenges (8 octets each in the first used places of
+    // list, and 256 counts of their last octets), and writes its Challenge. Refusals, which leave all as it was, in this order: 13 (r over 7), 2
+    // (reply under 17 octets), 24 (a bad list), 16 (one of them was issued before), 17 (too few places are left).
     pub fn open(
         id: u8,
         challenge: [u8; 8],
         retries: Retries,
         lm: LmChoice,
+        list: &mut [u8],
+        used: usize,
+        counts: &mut [u16],
         reply: &mut [u8],
     ) -> Opened
-        ensures { λ r. ⌜ (r ≡ opened (record { id = id; challenge = challenge; retries = retries; lm = lm; buffer = now (reply .entry) })) × (now (reply .exit) ≡ openedBuffer (record { id = id; challenge = challenge; retries = retries; lm = lm; buffer = now (reply .entry) })) ⌝ }
+        ensures { λ r. ⌜ Opens (record { id = id; challenge = challenge; retries = retries; lm = lm; issued = record { buffer = now (list .entry); used = used; counts = now (counts .entry) }; buffer = now (reply .entry) }) r (record { buffer = now (list .exit); used = r .used; counts = now (counts .exit) }) (now (reply .exit)) ⌝ }
     {
         let r = retries_of(retries);
         if 7 < r {
-            return refused_opening(13);
+            return refused_opening(13, used);
         }
         if is_bad_room(reply) {
-            return refused_opening(2);
+            return refused_opening(2, used);
+        }
+        let spent = spend(challenge, r, list, used, counts);
+        if spent.refusal != 0 {
+            return refused_opening(spent.refusal, used);
         }
         let written = packets::write_challenge(id, challenge, reply);
         let kept = blank_account();
@@ -80,6 +104,7 @@ impl Conversation {
                 kept,
             },
             written,
+            used: spent.used,
         }
     }
 }

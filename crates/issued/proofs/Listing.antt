@@ -1,7 +1,7 @@
 -- Entries of a buffer: one at a time, appended, and whether one stands among others.
 -- Assumes nothing.
 use mathlib.Core.Bool.{Bool, true, false, _||_, or-assoc, false≢true}
-use mathlib.Core.List.{List, [], _∷_, _++_, append-assoc}
+use mathlib.Core.List.{List, [], _∷_, _++_, append-assoc, flatten}
 use mathlib.Core.Path.{_≡_, refl, sym, ap, ap₂, _∙_}
 use Prim.Native.Nat.{ℕ, zero, suc, _+_, _-_, _*_, _≤_, _<_}
 use native.Mathlib.Nat.{mul-suc, mul-add, mul-zero, zero-add, suc-add}
@@ -10,7 +10,7 @@ use lib.ListN.{length, take, drop, getD, length-append, length-drop, take-append
 use lib.Seq.{take-all, length-take-le, getD-take, take-append-le, drop-append-le, take-add, take-at, drop-at, drop-drop}
 use Rattle.octets.specs.Parts.{overAt, agrees}
 use Rattle.octets.proofs.Parts.{over-fits, agrees-refl, agrees-equal}
-use Rattle.issued.specs.Issued.{entries, holds, meets, joined, lastOf}
+use Rattle.issued.specs.Issued.{entries, holds, meets, lastOf}
 
 -- ---- one entry taken off the front
 
@@ -88,31 +88,31 @@ pub length-entries : (w n : ℕ) (l : List ℕ) → length (entries w n l) ≡ n
 length-entries w zero l = refl
 length-entries w (suc n) l = ap suc (length-entries w n (drop w l))
 
-pub joined-entries : (w n : ℕ) (l : List ℕ) → joined (entries w n l) ≡ take (w * n) l
-unfolding joined
-joined-entries w zero l = ap (λ (k : ℕ). take k l) (sym (mul-zero w))
-joined-entries w (suc n) l =
+pub flatten-entries : (w n : ℕ) (l : List ℕ) → flatten (entries w n l) ≡ take (w * n) l
+unfolding flatten
+flatten-entries w zero l = ap (λ (k : ℕ). take k l) (sym (mul-zero w))
+flatten-entries w (suc n) l =
     let e : w + w * n ≡ w * suc n = omega (arith, mul-suc w n) in
-    ap (λ (r : List ℕ). take w l ++ r) (joined-entries w n (drop w l)) ∙ sym (take-add w (w * n) l) ∙ ap (λ (k : ℕ). take k l) e
+    ap (λ (r : List ℕ). take w l ++ r) (flatten-entries w n (drop w l)) ∙ sym (take-add w (w * n) l) ∙ ap (λ (k : ℕ). take k l) e
 
 -- entries of w octets each
 abbrev pub Wide : ℕ → List (List ℕ) → Type 0
 Wide w [] = Unit {0}
 Wide w (c ∷ cs) = (length c ≡ w) × Wide w cs
 
-length-joined : (w : ℕ) (cs : List (List ℕ)) → Wide w cs → length (joined cs) ≡ w * length cs
-unfolding joined
-length-joined w [] h = sym (mul-zero w)
-length-joined w (c ∷ cs) h = length-append c (joined cs) ∙ omega (arith, h .0, length-joined w cs (h .1), mul-suc w (length cs))
+pub length-flatten : (w : ℕ) (cs : List (List ℕ)) → Wide w cs → length (flatten cs) ≡ w * length cs
+unfolding flatten
+length-flatten w [] h = sym (mul-zero w)
+length-flatten w (c ∷ cs) h = length-append c (flatten cs) ∙ omega (arith, h .0, length-flatten w cs (h .1), mul-suc w (length cs))
 
-entries-joined : (w : ℕ) (cs : List (List ℕ)) (r : List ℕ) → Wide w cs → entries w (length cs) (joined cs ++ r) ≡ cs
-unfolding joined
-entries-joined w [] r h = refl
-entries-joined w (c ∷ cs) r h =
-    let e = append-assoc c (joined cs) r in
+pub entries-flatten : (w : ℕ) (cs : List (List ℕ)) (r : List ℕ) → Wide w cs → entries w (length cs) (flatten cs ++ r) ≡ cs
+unfolding flatten
+entries-flatten w [] r h = refl
+entries-flatten w (c ∷ cs) r h =
+    let e = append-assoc c (flatten cs) r in
     ap₂ (λ (x : List ℕ) (y : List (List ℕ)). x ∷ y)
-    (ap (take w) e ∙ take-at c (joined cs ++ r) w (h .0))
-    (ap (λ (x : List ℕ). entries w (length cs) x) (ap (drop w) e ∙ drop-at c (joined cs ++ r) w (h .0)) ∙ entries-joined w cs r (h .1))
+    (ap (take w) e ∙ take-at c (flatten cs ++ r) w (h .0))
+    (ap (λ (x : List ℕ). entries w (length cs) x) (ap (drop w) e ∙ drop-at c (flatten cs ++ r) w (h .0)) ∙ entries-flatten w cs r (h .1))
 
 -- what lies behind n entries has no part in them
 entries-front : (w n : ℕ) (l r : List ℕ) → w * n ≤ length l → entries w n (l ++ r) ≡ entries w n l
@@ -132,17 +132,17 @@ entries-add w (suc n) m l =
 
 -- cs laid over the places behind n entries stand behind those
 pub entries-laid : (w n : ℕ) (cs : List (List ℕ)) (l : List ℕ) → Wide w cs → w * (n + length cs) ≤ length l
-    → entries w (n + length cs) (overAt (w * n) (joined cs) l) ≡ entries w n l ++ cs
+    → entries w (n + length cs) (overAt (w * n) (flatten cs) l) ≡ entries w n l ++ cs
 entries-laid w n cs l wide fits =
     let k = w * n in
-    let j = length-joined w cs wide in
+    let j = length-flatten w cs wide in
     let front : length (take k l) ≡ k = length-take-le k l (omega (arith, mul-add w n (length cs))) in
-    let behind = drop (length (joined cs)) (drop k l) in
-    let laid : overAt k (joined cs) l ≡ take k l ++ (joined cs ++ behind) =
-    ap (λ (x : List ℕ). take k l ++ x) (over-fits (joined cs) (drop k l) (omega (arith, length-drop k l, mul-add w n (length cs)))) in
-    entries-add w n (length cs) (overAt k (joined cs) l)
+    let behind = drop (length (flatten cs)) (drop k l) in
+    let laid : overAt k (flatten cs) l ≡ take k l ++ (flatten cs ++ behind) =
+    ap (λ (x : List ℕ). take k l ++ x) (over-fits (flatten cs) (drop k l) (omega (arith, length-drop k l, mul-add w n (length cs)))) in
+    entries-add w n (length cs) (overAt k (flatten cs) l)
     ∙ ap (λ (x : List ℕ). entries w n x ++ entries w (length cs) (drop k x)) laid
     ∙ ap₂ (λ (x y : List (List ℕ)). x ++ y)
-    (entries-front w n (take k l) (joined cs ++ behind) (omega arith)
+    (entries-front w n (take k l) (flatten cs ++ behind) (omega arith)
     ∙ sym (entries-front w n (take k l) (drop k l) (omega arith)) ∙ ap (entries w n) (take-append-drop k l))
-    (ap (entries w (length cs)) (drop-at (take k l) (joined cs ++ behind) k front) ∙ entries-joined w cs behind wide)
+    (ap (entries w (length cs)) (drop-at (take k l) (flatten cs ++ behind) k front) ∙ entries-flatten w cs behind wide)

@@ -2,7 +2,7 @@
 -- in MS-CHAP version 1.
 -- Assumes nothing: these are definitions.
 use mathlib.Core.Bool.{Bool, true, false, cond, not, _||_}
-use mathlib.Core.List.{List, [], _∷_, _++_}
+use mathlib.Core.List.{List, [], _∷_, _++_, flatten}
 use Prim.Native.Nat.{ℕ, zero, suc, _+_, _-_, _*_, _/_, _%_}
 use lib.Dec.{eqb, ltb}
 use lib.ListN.{length, take, drop, getD}
@@ -42,11 +42,6 @@ holds (e ∷ es) c = agrees e c || holds es c
 unfoldable pub meets : List (List ℕ) → List (List ℕ) → Bool
 meets [] es = false
 meets (c ∷ cs) es = holds es c || meets cs es
-
--- entries one behind the other
-unfoldable pub joined : List (List ℕ) → List ℕ
-joined [] = []
-joined (e ∷ es) = e ++ joined es
 
 -- ---- counts
 
@@ -93,7 +88,7 @@ spendRefusal w cs i =
 abbrev pub added : ℕ → List (List ℕ) → Issued → Issued
 added w cs i =
     record {
-      buffer = overAt (w * i .used) (joined cs) (i .buffer);
+      buffer = overAt (w * i .used) (flatten cs) (i .buffer);
       used = i .used + length cs;
       counts = countsOf (listed w i ++ cs);
     }

@@ -49,6 +49,11 @@ length-over [] l = refl
 length-over (x ∷ xs) [] = refl
 length-over (x ∷ xs) (y ∷ l) = ap suc (length-over xs l)
 
+pub length-over-at : (at : ℕ) (xs l : List ℕ) → length (overAt at xs l) ≡ length l
+length-over-at at xs l =
+    length-append (take at l) (over xs (drop at l)) ∙ ap (λ (n : ℕ). length (take at l) + n) (length-over xs (drop at l))
+    ∙ sym (length-append (take at l) (drop at l)) ∙ ap length (take-append-drop at l)
+
 -- a copy that fits: the copy, and then the rest as it was
 pub over-fits : (xs l : List ℕ) → length xs ≤ length l → over xs l ≡ xs ++ drop (length xs) l
 unfolding over

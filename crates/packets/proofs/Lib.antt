@@ -7,3 +7,4 @@ pub mod Refusals
 pub mod ReadBack
 pub mod Stands
 pub mod Lookup
+pub mod Growing

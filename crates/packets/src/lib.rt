@@ -18,6 +18,7 @@ pub use names::domain;
 pub use names::domain_part;
 pub use nexts::grown_challenge;
 pub use nexts::next_id;
+pub use nexts::succession;
 pub use replies::read_challenge;
 pub use replies::read_reply;
 pub use replies::write_challenge;

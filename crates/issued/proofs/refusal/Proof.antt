@@ -50,9 +50,15 @@ scan-requires : tie.Need-scan-requires
 scan-requires c κs =
     let m = c .before .before .before in
     let e = m .before .before in
-    let g = fine e in
-    (g .wide, places-fit (width e) (given e .used) (given e .buffer) (g .fits), mul-div-le (length (run e)) (width e), m .mark .ensures .0, m .mark .ensures .1,
-    length-replicate {A = ℕ} 256 0, zeros-room (given e .used) (omega (arith, g .fits, g .few)))
+    let g = fine e in (
+      g .wide,
+      places-fit (width e) (given e .used) (given e .buffer) (g .fits),
+      mul-div-le (length (run e)) (width e),
+      m .mark .ensures .0,
+      m .mark .ensures .1,
+      length-replicate {A = ℕ} 256 0,
+      zeros-room (given e .used) (omega (arith, g .fits, g .few)),
+    )
 
 -- ---- behind the pass
 

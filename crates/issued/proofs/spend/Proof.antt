@@ -10,7 +10,7 @@ use lib.ListN.{length}
 use Rattle.octets.specs.Parts.{overAt}
 use Rattle.issued.specs.Issued.{Issued, entriesIn, listed, countsOf, spendRefusal, spent}
 use Rattle.issued.specs.Code.{raised, Room}
-use Rattle.issued.proofs.Listing.{length-entries, joined-entries}
+use Rattle.issued.proofs.Listing.{length-entries, flatten-entries}
 use Rattle.issued.proofs.Counting.{length-endings, raised-counts, counts-room}
 use Rattle.issued.proofs.Spending.{Accepted, accepted, places-fit, spent-added, spent-refused}
 use Rattle.issued.proofs.spend.Statement.{statement}
@@ -84,7 +84,7 @@ returns-2 c =
     let i = given k in
     let n = length (run k) / w in
     let cs = entriesIn w (run k) in
-    let laid = t .copy-at .ensures ∙ ap (λ (x : List ℕ). overAt (w * i .used) x (i .buffer)) (t .before .part-of .ensures ∙ sym (joined-entries w n (run k))) in
+    let laid = t .copy-at .ensures ∙ ap (λ (x : List ℕ). overAt (w * i .used) x (i .buffer)) (t .before .part-of .ensures ∙ sym (flatten-entries w n (run k))) in
     let raised-all = n₁ .count .ensures ∙ ap (λ (l : List ℕ). raised l cs) (a .counts) ∙ raised-counts (listed w i) cs in
     let more : i .used + n ≡ i .used + length cs = ap (λ (m : ℕ). i .used + m) (sym (length-entries w n (run k))) in
     (sym (none e), same laid more raised-all ∙ sym (spent-added w cs i (none e)))

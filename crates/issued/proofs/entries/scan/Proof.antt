@@ -65,9 +65,10 @@ loop-again c =
     let w = s .args .width in
     let l = h .loop .rest .now in
     let long = length-take-le w l (first-fits _ _ _ _ _ (omega arith) (h .loop .inv .0)) in
-    let one = o .is-one .ensures ∙ ap (λ (n : ℕ). holds (entries n (s .args .n) (s .args .run .now)) (take w l)) long in
-    (raise-next _ _ _ _ _ (omega arith) (h .loop .inv .0) (k .raise .ensures),
-    met-next w (h .loop .left) l (entries w (s .args .n) (s .args .run .now)) (h .loop .met) (omega arith) (e .either .ensures) one ∙ h .loop .inv .1)
+    let one = o .is-one .ensures ∙ ap (λ (n : ℕ). holds (entries n (s .args .n) (s .args .run .now)) (take w l)) long in (
+      raise-next _ _ _ _ _ (omega arith) (h .loop .inv .0) (k .raise .ensures),
+      met-next w (h .loop .left) l (entries w (s .args .n) (s .args .run .now)) (h .loop .met) (omega arith) (e .either .ensures) one ∙ h .loop .inv .1,
+    )
 
 same-length : tie.Need-same-length Inv-loop μ-loop
 same-length c = c .before .loop .inv .0 .size ∙ sym (c .before .before .before .before .before .before .pre .5)
@@ -75,9 +76,10 @@ same-length c = c .before .loop .inv .0 .size ∙ sym (c .before .before .before
 returns : tie.Need-returns Inv-loop μ-loop
 returns c =
     let h = c .before in
-    let s = h .before .before .before .before .before in
-    (met-all (s .args .width) (h .loop .left) (h .loop .rest .now) (entries (s .args .width) (s .args .n) (s .args .run .now)) (h .loop .met) (omega arith) ∙ h .loop .inv .1,
-    left-none _ _ _ _ _ (omega arith) (h .loop .inv .0))
+    let s = h .before .before .before .before .before in (
+      met-all (s .args .width) (h .loop .left) (h .loop .rest .now) (entries (s .args .width) (s .args .n) (s .args .run .now)) (h .loop .met) (omega arith) ∙ h .loop .inv .1,
+      left-none _ _ _ _ _ (omega arith) (h .loop .inv .0),
+    )
 
 pub scan-spec : {M : Type 1} → statement M
 scan-spec =

@@ -1,0 +1,66 @@
+-- What an opening spends: entries of 8 octets that differ among themselves, and the octets in which the code lends them.
+-- Assumes nothing.
+use mathlib.Core.Bool.{Bool, true, false, _||_}
+use mathlib.Core.List.{List, [], _∷_, _++_, append-nil, flatten}
+use mathlib.Core.Logic.{_≢_}
+use mathlib.Core.Path.{_≡_, refl, sym, ap, ap₂, _∙_}
+use Prim.Native.Nat.{ℕ, zero, suc, _+_, _-_, _*_, _/_, _%_, _≤_, _<_}
+use native.Mathlib.Nat.{div-add-mod'}
+use native.Mathlib.Omega.{arith}
+use borrow.Author.Tests.{ne-eqb}
+use lib.Dec.{eqb}
+use lib.ListN.{length, take}
+use Rattle.octets.specs.Parts.{part, agrees}
+use Rattle.issued.specs.Issued.{entries, entriesIn, holds}
+use Rattle.issued.proofs.Listing.{Wide, length-flatten, entries-flatten}
+use Rattle.packets.specs.Next.{grown, succession}
+use Rattle.packets.proofs.Growing.{length-grown, length-succession, succession-front}
+
+pub succession-wide : (n : ℕ) (c : List ℕ) → length c ≡ 8 → Wide 8 (succession n c)
+unfolding succession
+succession-wide zero c e = tt
+succession-wide (suc n) c e = (e, succession-wide n (grown c) (length-grown c ∙ e))
+
+-- ---- the entries differ among themselves
+
+-- each is none of those behind it
+abbrev pub Different : List (List ℕ) → Type 0
+Different [] = Unit {0}
+Different (c ∷ cs) = (holds cs c ≡ false) × Different cs
+
+-- 23 * k is no multiple of 256
+no-multiple : (k q : ℕ) → 23 * k ≡ q * 256 → 0 < k → k ≤ 11 → ⊥
+no-multiple k zero e pos few = omega arith
+no-multiple k (suc q) e pos few = omega arith
+
+not-back : (k x y : ℕ) → y ≡ (x + 23 * k) % 256 → 0 < k → k ≤ 11 → y ≢ x
+not-back k x y e pos few f = no-multiple k ((x + 23 * k) / 256) (omega (arith, div-add-mod' (x + 23 * k) 256)) pos few
+
+-- n challenges from one that k turns of the 23 rule made of x, none of which begins with x: 23 * 11 is under 256
+others : (n k x y : ℕ) (xs : List ℕ) → y ≡ (x + 23 * k) % 256 → 0 < k → k + n ≤ 12 → holds (succession n (y ∷ xs)) (x ∷ xs) ≡ false
+unfolding succession holds agrees
+others zero k x y xs e pos few = refl
+others (suc n) k x y xs e pos few =
+    let differ : eqb y x ≡ false = ne-eqb y x (not-back k x y e pos (omega arith)) in
+    rw differ (others n (suc k) x ((y + 23) % 256) xs (omega arith) (omega arith) (omega arith))
+
+-- 23 is odd and r at most 7: a box does not refuse itself
+pub succession-different : (n x : ℕ) (xs : List ℕ) → n ≤ 8 → Different (succession n (x ∷ xs))
+unfolding succession
+succession-different zero x xs h = tt
+succession-different (suc n) x xs h =
+    (others n 1 x ((x + 23) % 256) xs (omega arith) (omega arith) (omega arith), succession-different n ((x + 23) % 256) xs (omega arith))
+
+-- ---- as the code lends them
+
+pub succession-run : (r : ℕ) (c : List ℕ) → r ≤ 7 → length c ≡ 8 → entriesIn 8 (part 0 (8 * (r + 1)) (flatten (succession 8 c))) ≡ succession (suc r) c
+succession-run r c h e =
+    let cs = succession (suc r) c in
+    let all : suc r + (7 - r) ≡ 8 = omega arith in
+    let size : 8 * (r + 1) ≡ 8 * suc r = omega arith in
+    let front : part 0 (8 * (r + 1)) (flatten (succession 8 c)) ≡ flatten cs =
+    ap₂ (λ (m n : ℕ). take m (flatten (succession n c))) size (sym all) ∙ succession-front 8 (suc r) (7 - r) c e in
+    let long : length (flatten cs) ≡ 8 * suc r = length-flatten 8 cs (succession-wide (suc r) c e) ∙ ap (λ (n : ℕ). 8 * n) (length-succession (suc r) c) in
+    let count : length (flatten cs) / 8 ≡ length cs = ap (λ (n : ℕ). n / 8) long ∙ omega (arith, length-succession (suc r) c) in
+    ap (entriesIn 8) front ∙ ap₂ (λ (n : ℕ) (l : List ℕ). entries 8 n l) count (sym (append-nil (flatten cs)))
+    ∙ entries-flatten 8 cs [] (succession-wide (suc r) c e)

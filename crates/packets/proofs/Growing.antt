@@ -1,0 +1,60 @@
+-- A challenge and those that follow it by the 23 rule.
+-- Assumes nothing.
+use mathlib.Core.List.{List, [], _∷_, _++_, append-assoc, append-nil, flatten}
+use mathlib.Core.Path.{_≡_, refl, sym, ap, ap₂, _∙_}
+use Prim.Native.Nat.{ℕ, zero, suc, _+_, _-_, _*_, _≤_, _<_}
+use native.Mathlib.Nat.{mul-suc, mul-zero, suc-add}
+use native.Mathlib.Omega.{arith}
+use lib.ListN.{length, take, drop, length-append, length-drop}
+use lib.Seq.{take-all, length-take-le, take-at, take-append-add}
+use Rattle.octets.specs.Parts.{overAt}
+use Rattle.octets.proofs.Parts.{over-fits}
+use Rattle.packets.specs.Next.{grown, succession}
+
+pub length-grown : (c : List ℕ) → length (grown c) ≡ length c
+length-grown [] = refl
+length-grown (x ∷ c) = refl
+
+pub succession-next : (n : ℕ) (c : List ℕ) → 0 < n → succession n c ≡ c ∷ succession (n - 1) (grown c)
+unfolding succession
+succession-next zero c h = absurd (omega arith)
+succession-next (suc k) c h = let e : k ≡ suc k - 1 = omega arith in ap (λ (m : ℕ). c ∷ succession m (grown c)) e
+
+pub length-succession : (n : ℕ) (c : List ℕ) → length (succession n c) ≡ n
+unfolding succession
+length-succession zero c = refl
+length-succession (suc n) c = ap suc (length-succession n (grown c))
+
+-- the first n of n + k, as octets
+pub succession-front : (w n k : ℕ) (c : List ℕ) → length c ≡ w → take (w * n) (flatten (succession (n + k) c)) ≡ flatten (succession n c)
+unfolding flatten succession
+succession-front w zero k c e = ap (λ (m : ℕ). take m (flatten (succession (0 + k) c))) (mul-zero w)
+succession-front w (suc n) k c e =
+    let size : w * suc n ≡ length c + w * n = omega (arith, mul-suc w n) in
+    ap₂ (λ (m i : ℕ). take m (flatten (succession i c))) size (suc-add n k)
+    ∙ take-append-add c (flatten (succession (n + k) (grown c))) (w * n)
+    ∙ ap (λ (x : List ℕ). c ++ x) (succession-front w n k (grown c) (length-grown c ∙ e))
+
+-- one more piece laid behind what was laid
+take-laid : (k m : ℕ) (xs l : List ℕ) → k + length xs ≡ m → m ≤ length l → take m (overAt k xs l) ≡ take k l ++ xs
+take-laid k m xs l e h =
+    let front = length-take-le k l (omega arith) in
+    ap (take m) (ap (λ (x : List ℕ). take k l ++ x) (over-fits xs (drop k l) (omega (arith, length-drop k l))) ∙ sym (append-assoc (take k l) xs (drop (length xs) (drop k l))))
+    ∙ take-at (take k l ++ xs) (drop (length xs) (drop k l)) m (length-append (take k l) xs ∙ omega arith)
+
+-- one turn of the loop: i challenges lie in run, and the rest follow from c
+pub laid-next : (run c all : List ℕ) (i : ℕ) {after next : List ℕ} → i < 8 → length run ≡ 64 → length c ≡ 8 → after ≡ overAt (8 * i) c run → next ≡ grown c
+    → take (8 * i) run ++ flatten (succession (8 - i) c) ≡ all → take (8 * (i + 1)) after ++ flatten (succession (8 - (i + 1)) next) ≡ all
+unfolding flatten
+laid-next run c all i {after} {next} h long eight e f inv =
+    let less : 8 - (i + 1) ≡ 8 - i - 1 = omega arith in
+    ap₂ (λ (x : List ℕ) (y : List (List ℕ)). take (8 * (i + 1)) x ++ flatten y) e (ap₂ succession less f)
+    ∙ ap (λ (x : List ℕ). x ++ flatten (succession (8 - i - 1) (grown c))) (take-laid (8 * i) (8 * (i + 1)) c run (omega arith) (omega arith))
+    ∙ append-assoc (take (8 * i) run) c (flatten (succession (8 - i - 1) (grown c)))
+    ∙ ap (λ (x : List (List ℕ)). take (8 * i) run ++ flatten x) (sym (succession-next (8 - i) c (omega arith)))
+    ∙ inv
+
+pub laid-all : (run c all : List ℕ) (i : ℕ) → i ≡ 8 → length run ≡ 64 → take (8 * i) run ++ flatten (succession (8 - i) c) ≡ all → run ≡ all
+unfolding flatten succession
+laid-all run c all i e long inv =
+    sym (ap (λ (k : ℕ). take (8 * k) run ++ flatten (succession (8 - k) c)) e ∙ append-nil (take 64 run) ∙ take-all 64 run (omega arith)) ∙ inv
