@@ -30,6 +30,7 @@ const E691R0: &str = "453D36393120523D3020563D32";
 const E648: &str = "453D36343820523D3020563D32";
 const E709: &str = "453D37303920523D3020563D32";
 const AA3: &str = "AAAAAA";
+const NOTHING: &str = "0 0000000000000000 0 no ended -";
 
 fn bytes(digits: &str) -> Vec<u8> {
     let digits: Vec<char> = digits.chars().filter(|c| *c != ' ').collect();
@@ -81,6 +82,23 @@ fn with(packet: &[u8], edits: &[(usize, &[u8])]) -> Vec<u8> {
         out[*place..place + octets.len()].copy_from_slice(octets);
     }
     out
+}
+
+/// What `places 8` lends, after an opening that was not refused: used, list and counts.
+fn spent(challenge: &str, r: u8) -> String {
+    let challenge: [u8; 8] = array(challenge);
+    let mut list = Vec::new();
+    for k in 0..=r {
+        list.push(challenge[0].wrapping_add(23 * k));
+        list.extend_from_slice(&challenge[1..]);
+    }
+    list.resize(64, 0);
+    format!("{0} {1} {2:02X}:{0}", r + 1, hex(&list), challenge[7])
+}
+
+/// The same after one that was refused.
+fn unspent() -> String {
+    format!("0 {} -", "00".repeat(64))
 }
 
 fn text(message: &str) -> String {
@@ -154,14 +172,23 @@ impl Sheet {
         self.is(&format!("account {nt} {lm} {marks}"), "");
     }
 
+    /// An empty list, long enough for any opening.
+    fn places(&mut self) {
+        self.is("places 8", "");
+    }
+
     fn open(&mut self, id: u8, challenge: &str, r: &str, lm: &str) {
+        self.places();
         let result = self.ask(&format!("open {id} {challenge} {r} {lm} {B}"));
         let retries = if r == "-" { "2" } else { r };
         let allowed = if lm == "no" { "no" } else { "yes" };
         let buffer = format!("01{id:02X}000D08{challenge}{}", hex(&[0xAA; 7]));
         assert_eq!(
             result,
-            format!("0 13 {buffer} {id} {challenge} {retries} {allowed} response -")
+            format!(
+                "0 13 {buffer} {id} {challenge} {retries} {allowed} response - {}",
+                spent(challenge, retries.parse().unwrap())
+            )
         );
     }
 
@@ -841,9 +868,10 @@ fn conversations(s: &mut Sheet) {
         s.open(7, CHX, &r.to_string(), "-");
     }
     for r in [8, 9, 128, 255] {
+        s.places();
         s.is(
             &format!("open 7 {CHX} {r} yes AA*17"),
-            &format!("13 0 {} 0 0000000000000000 0 no ended -", "AA".repeat(17)),
+            &format!("13 0 {} {NOTHING} {}", "AA".repeat(17), unspent()),
         );
     }
     s.account(H, "-", "0000");
@@ -1058,9 +1086,13 @@ fn responses(s: &mut Sheet) {
         s.open7();
         s.step(&bad, &format!("AA*{size}"));
     }
+    s.places();
     s.is(
         &format!("open 7 {CHX} - - 0102030405060708090A0B0C0D0E0F1011"),
-        &format!("0 13 0107000D08{CHX}0E0F1011 7 {CHX} 2 yes response -"),
+        &format!(
+            "0 13 0107000D08{CHX}0E0F1011 7 {CHX} 2 yes response - {}",
+            spent(CHX, 2)
+        ),
     );
 }
 
@@ -1379,20 +1411,24 @@ fn refusals(s: &mut Sheet) {
     s.refused(&[], "AA*3", "1");
     s.refused(&good, "-", "1");
     s.note("and after a refused opening");
+    s.places();
     s.is(
         &format!("open 7 {CHX} 8 yes {B}"),
-        &format!("13 0 {} 0 0000000000000000 0 no ended -", "AA".repeat(20)),
+        &format!("13 0 {} {NOTHING} {}", "AA".repeat(20), unspent()),
     );
     s.refused(&resp(0, Z24, NR, 1, b"u"), B, "1");
     s.title("R-REF-2: reply buffers of 16 and 17 octets, also at the opening");
+    s.places();
     s.is(
         &format!("open 7 {CHX} - - AA*16"),
-        &format!("2 0 {} 0 0000000000000000 0 no ended -", "AA".repeat(16)),
+        &format!("2 0 {} {NOTHING} {}", "AA".repeat(16), unspent()),
     );
+    s.places();
     s.is(
         &format!("open 7 {CHX} - - -"),
-        "2 0 - 0 0000000000000000 0 no ended -",
+        &format!("2 0 - {NOTHING} {}", unspent()),
     );
+    s.places();
     s.begins(&format!("open 7 {CHX} - - AA*17"), "0 13 0107000D08");
     s.refused(&good, "AA*16", "2");
     s.refused(&good, "AA*4", "2");
@@ -1568,13 +1604,15 @@ fn refusals(s: &mut Sheet) {
     let answer = s.step(&packet, "AA*17");
     assert_eq!(answer.refusal, "0");
     s.title("R-ORD-2: the opening's order");
+    s.places();
     s.is(
         &format!("open 7 {CHX} 8 - -"),
-        "13 0 - 0 0000000000000000 0 no ended -",
+        &format!("13 0 - {NOTHING} {}", unspent()),
     );
+    s.places();
     s.is(
         &format!("open 7 {CHX} 7 - -"),
-        "2 0 - 0 0000000000000000 0 no ended -",
+        &format!("2 0 - {NOTHING} {}", unspent()),
     );
     s.title("R-ORD-3: the peer's reader");
     s.is("reply 9 01080004", "refused 5");
@@ -1633,6 +1671,7 @@ fn table_of_twelve(s: &mut Sheet) {
     assert_eq!(answer.conversation, "8 0002030405060708 0 yes response -");
     s.is("expand FFFFFFFFFFFFFF", "FEFEFEFEFEFEFEFE");
     s.is("expand 01000000000000", "0080000000000000");
+    s.places();
     s.begins(
         "open 7 0102030405060708 - - AA*17",
         "0 13 0107000D080102030405060708AAAAAAAA ",
@@ -1669,6 +1708,7 @@ struct Peer {
 impl Peer {
     /// Opens, and has the peer read the Challenge.
     fn meet(s: &mut Sheet, id: u8, r: &str) -> Peer {
+        s.places();
         let result = s.ask(&format!("open {id} {CHX} {r} - {B}"));
         let buffer = result.split(' ').nth(2).unwrap();
         let turn = s.ask(&format!("challenge {}", &buffer[..26]));

@@ -2,6 +2,7 @@
 //! from a fixed generator, so each run is the same.
 
 use reference::authenticator::{self, Account, Conversation, Phase};
+use reference::issued::Issued;
 use reference::peer::{self, Turn, Verdict};
 use reference::script::Session;
 use reference::{hashes, message, packet};
@@ -138,7 +139,12 @@ fn peer_to_box_and_back() {
             ..Account::default()
         };
         let mut reply = [0u8; 17];
-        let opened = authenticator::open(id, &challenge, Some(0), None, &mut reply);
+        let mut issued = Issued {
+            list: &mut [0; 8],
+            used: 0,
+            counts: &mut [0; 256],
+        };
+        let opened = authenticator::open(id, &challenge, Some(0), None, &mut issued, &mut reply);
         let turn = peer::read_challenge(&reply).unwrap();
         assert_eq!(turn, Turn { id, challenge });
         let mut out = vec![0u8; 1118];
