@@ -53,7 +53,7 @@ impl Issued<'_> {
     /// Whole places, not too many of them nor too few for those used, and 256 counts that are
     /// true of the entries.
     fn is_sound(&self) -> bool {
-        self.list.len() % WIDTH == 0
+        self.list.len().is_multiple_of(WIDTH)
             && self.places() <= MOST_PLACES
             && self.used <= self.places()
             && self.counts.len() == COUNTS

@@ -578,4 +578,44 @@ mod tests {
         session.run("relend\naccount -\n");
         assert!(session.account().is_none());
     }
+
+    #[test]
+    fn the_list_goes_from_opening_to_opening() {
+        fn list_after(session: &mut Session, line: &str) -> String {
+            let out = session.line(line);
+            let words: Vec<&str> = out.split(' ').collect();
+            words[words.len() - 3..].join(" ")
+        }
+        let mut session = Session::new();
+        assert_eq!(
+            list_after(&mut session, "open 3 00*8 8 no AA*17"),
+            format!("0 {} -", "00".repeat(64))
+        );
+        assert_eq!(session.line("places 2"), "places 2");
+        assert_eq!(
+            list_after(&mut session, "open 3 01*8 0 no AA*17"),
+            format!("1 {}{} 01:1", "01".repeat(8), "00".repeat(8))
+        );
+        for malformed in [
+            "places 129",
+            "list 00*8 0 00*1025",
+            "open 3 02*8 256 no AA*17",
+        ] {
+            assert_eq!(session.line(malformed), format!("{malformed} = error"));
+        }
+        assert_eq!(
+            list_after(&mut session, "open 3 FF*8 0 no AA*17"),
+            format!("2 {}{} 01:1,FF:1", "01".repeat(8), "FF".repeat(8))
+        );
+        assert_eq!(
+            session.line("list 0102 7 0102030405"),
+            "list 0102 7 0102030405"
+        );
+        assert_eq!(
+            list_after(&mut session, "open 3 FF*8 0 no AA*17"),
+            "7 0102 00:258,01:772"
+        );
+        assert_eq!(session.line("list - 0 -"), "list - 0 -");
+        assert_eq!(list_after(&mut session, "open 3 FF*8 0 no AA*17"), "0 - -");
+    }
 }
