@@ -2259,13 +2259,16 @@ fn issued_challenges(s: &mut Sheet) {
     s.list(C1, 0, &one);
     s.keeps(D11, 0, 24, &format!("0 {C1} 08:1"));
 
-    s.title("CR03-11: after refusals 13, 2, 16 and 17 the list goes on as it was");
-    s.list(
-        &format!("{D11}{C46}EEEEEEEEEEEEEEEE"),
-        2,
-        &counts(256, &[(8, 1), (0x18, 1)]),
+    s.title(
+        "CR03-11: after refusals 24, 13, 2, 16 and 17 all is as it was, and goes on from there",
     );
-    let kept = format!("2 {D11}{C46}EEEEEEEEEEEEEEEE 08:1,18:1");
+    let held = format!("{D11}{C46}EEEEEEEEEEEEEEEE");
+    s.list(&held, 2, &counts(256, &[(8, 1), (0x18, 2)]));
+    for _ in 0..2 {
+        s.keeps(C1, 0, 24, &format!("2 {held} 08:1,18:2"));
+    }
+    s.list(&held, 2, &counts(256, &[(8, 1), (0x18, 1)]));
+    let kept = format!("2 {held} 08:1,18:1");
     s.keeps(C1, 8, 13, &kept);
     s.is(
         &format!("open 7 {C1} 0 no AA*16"),
