@@ -1,6 +1,7 @@
 //! The box: a conversation as an explicit state machine.
 
 use crate::hashes::{self, Opened as OpenedBlock};
+use crate::issued::{entries_of, Issued};
 use crate::packet::{self, ChangeFields, ResponseFields};
 use crate::{grown, next_identifier};
 
@@ -89,41 +90,52 @@ pub struct Answer {
     pub record: Option<Account>,
 }
 
-/// Opens a conversation and writes its Challenge. `None` for `retries` or `lm` is an opening
-/// silent about it. Refusal 13 for retries over 7, then 2 for a buffer under 17 octets.
+/// Opens a conversation, spends its challenge and writes it. `None` for `retries` or `lm` is an
+/// opening silent about it. A refused opening leaves all that it was lent.
 pub fn open(
     id: u8,
     challenge: &[u8; 8],
     retries: Option<u8>,
     lm: Option<bool>,
+    issued: &mut Issued<'_>,
     buffer: &mut [u8],
 ) -> Opening {
     let retries = retries.unwrap_or(DEFAULT_RETRIES);
-    let refusal = if retries > MOST_RETRIES {
-        13
-    } else if buffer.len() < packet::FAILURE_LENGTH {
-        2
-    } else {
-        let written = packet::put(&packet::challenge(id, challenge), buffer);
-        let lm = lm.unwrap_or(true);
-        let conversation = Conversation {
-            id,
-            challenge: *challenge,
-            retries,
-            lm,
-            phase: Phase::Response,
-        };
-        return Opening {
+    match refuse_or_spend(challenge, retries, issued, buffer.len()) {
+        Err(refusal) => Opening {
+            refusal,
+            written: 0,
+            conversation: REFUSED,
+        },
+        Ok(()) => Opening {
             refusal: 0,
-            written,
-            conversation,
-        };
-    };
-    Opening {
-        refusal,
-        written: 0,
-        conversation: REFUSED,
+            written: packet::put(&packet::challenge(id, challenge), buffer),
+            conversation: Conversation {
+                id,
+                challenge: *challenge,
+                retries,
+                lm: lm.unwrap_or(true),
+                phase: Phase::Response,
+            },
+        },
     }
+}
+
+/// The refusals of an opening in their order: 13 for retries over 7, 2 for a buffer under 17
+/// octets, then those of the list, to which the entries are added where there is none.
+fn refuse_or_spend(
+    challenge: &[u8; 8],
+    retries: u8,
+    issued: &mut Issued<'_>,
+    room: usize,
+) -> Result<(), u8> {
+    if retries > MOST_RETRIES {
+        return Err(13);
+    }
+    if room < packet::FAILURE_LENGTH {
+        return Err(2);
+    }
+    issued.spend(&entries_of(challenge, retries))
 }
 
 /// What a judged packet leads to.

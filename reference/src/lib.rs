@@ -1,5 +1,6 @@
 //! A second, independent implementation of MS-CHAP version 1 (RFC 2433), written from the
-//! standards (RFC 2433, RFC 1994, RFC 1320, FIPS 46-2) and the project's scope document alone.
+//! standards (RFC 2433, RFC 1994, RFC 1320, FIPS 46-2), the project's scope document and its change
+//! requests alone.
 //! It exists to be compared, line for line, with another program; clarity goes before speed.
 //!
 //! Refusals are the numbers of the scope document; 0 stands for "not refused".
@@ -7,6 +8,7 @@
 pub mod authenticator;
 pub mod des;
 pub mod hashes;
+pub mod issued;
 pub mod md4;
 pub mod message;
 pub mod packet;

@@ -2,12 +2,19 @@
 
 use crate::authenticator::{self, Account, Conversation, Phase};
 use crate::hashes;
+use crate::issued::{self, Issued};
 use crate::message::{self, Call, Fields};
 use crate::peer::{self, Turn, Verdict, Written};
 use crate::{des, md4, packet, rc4};
 
 /// The most octets that `HH*N` may name, and the greatest offset into a keystream.
 pub const MOST: u64 = 1_000_000;
+/// The most octets of a list's buffer or counts that `list` may name.
+const MOST_LISTED: usize = 1024;
+/// The most places that `places` may name.
+const MOST_EMPTY: u64 = 128;
+/// The places at the start.
+const FIRST_PLACES: usize = 8;
 
 /// How a line that is no comment is read.
 #[derive(Clone, Copy, Debug, PartialEq, Eq)]
@@ -25,6 +32,26 @@ pub struct Session {
     conversation: Conversation,
     account: Option<Account>,
     handed_out: Option<Account>,
+    list: List,
+}
+
+/// The list of issued challenges that the next opening is lent.
+#[derive(Clone, Debug)]
+struct List {
+    buffer: Vec<u8>,
+    used: usize,
+    counts: Vec<u16>,
+}
+
+impl List {
+    /// Nothing used: places of octets 00, counts of 0.
+    fn empty(places: usize) -> List {
+        List {
+            buffer: vec![0; places * issued::WIDTH],
+            used: 0,
+            counts: vec![0; issued::COUNTS],
+        }
+    }
 }
 
 impl Default for Session {
@@ -42,13 +69,15 @@ pub fn run(input: &str) -> String {
 type Outcome = Option<String>;
 
 impl Session {
-    /// The state at the start: commands, no account, and the conversation of a refused opening.
+    /// The state at the start: commands, no account, the conversation of a refused opening, and
+    /// an empty list.
     pub fn new() -> Session {
         Session {
             section: Section::Cases,
             conversation: authenticator::REFUSED,
             account: None,
             handed_out: None,
+            list: List::empty(FIRST_PLACES),
         }
     }
 
@@ -165,6 +194,15 @@ impl Session {
                 self.account = Some(account(nt, lm, marks)?);
                 return Some(None);
             }
+            ["list", buffer, used, counts] => {
+                self.list = list(buffer, used, counts)?;
+                return Some(None);
+            }
+            ["places", places] => {
+                let places = number(places).filter(|value| *value <= MOST_EMPTY)?;
+                self.list = List::empty(places as usize);
+                return Some(None);
+            }
             ["open", id, challenge, retries, lm, buffer] => {
                 self.open(id, challenge, retries, lm, buffer)?
             }
@@ -237,14 +275,21 @@ impl Session {
             _ => return None,
         };
         let mut buffer = octets(buffer)?;
-        let opening = authenticator::open(id, &challenge, retries, lm, &mut buffer);
+        let mut issued = Issued {
+            list: &mut self.list.buffer,
+            used: self.list.used,
+            counts: &mut self.list.counts,
+        };
+        let opening = authenticator::open(id, &challenge, retries, lm, &mut issued, &mut buffer);
+        self.list.used = issued.used;
         self.conversation = opening.conversation;
         Some(format!(
-            "{} {} {} {}",
+            "{} {} {} {} {}",
             opening.refusal,
             opening.written,
             hex(&buffer),
-            show_conversation(&self.conversation)
+            show_conversation(&self.conversation),
+            show_list(&self.list)
         ))
     }
 
@@ -375,6 +420,28 @@ fn show_conversation(conversation: &Conversation) -> String {
     )
 }
 
+fn show_list(list: &List) -> String {
+    format!(
+        "{} {} {}",
+        list.used,
+        hex(&list.buffer),
+        show_counts(&list.counts)
+    )
+}
+
+/// The counts that are not 0, of the octets only.
+fn show_counts(counts: &[u16]) -> String {
+    let shown: Vec<String> = (0..=255u8)
+        .zip(counts)
+        .filter(|(_, count)| **count != 0)
+        .map(|(octet, count)| format!("{octet:02X}:{count}"))
+        .collect();
+    if shown.is_empty() {
+        return "-".to_string();
+    }
+    shown.join(",")
+}
+
 /// A decimal number of 1 to 9 digits.
 fn number(word: &str) -> Option<u64> {
     if word.is_empty() || word.len() > 9 || !word.bytes().all(|digit| digit.is_ascii_digit()) {
@@ -428,6 +495,18 @@ fn turn(id: &str, challenge: &str) -> Option<Turn> {
     Some(Turn {
         id: octet(id)?,
         challenge: fixed(challenge)?,
+    })
+}
+
+fn list(buffer: &str, used: &str, counts: &str) -> Option<List> {
+    let listed = |word: &str| octets(word).filter(|octets| octets.len() <= MOST_LISTED);
+    Some(List {
+        buffer: listed(buffer)?,
+        used: number(used)? as usize,
+        counts: listed(counts)?
+            .chunks_exact(2)
+            .map(|pair| u16::from_be_bytes([pair[0], pair[1]]))
+            .collect(),
     })
 }
 
@@ -498,5 +577,45 @@ mod tests {
         assert_eq!(session.conversation().retries, 5);
         session.run("relend\naccount -\n");
         assert!(session.account().is_none());
+    }
+
+    #[test]
+    fn the_list_goes_from_opening_to_opening() {
+        fn list_after(session: &mut Session, line: &str) -> String {
+            let out = session.line(line);
+            let words: Vec<&str> = out.split(' ').collect();
+            words[words.len() - 3..].join(" ")
+        }
+        let mut session = Session::new();
+        assert_eq!(
+            list_after(&mut session, "open 3 00*8 8 no AA*17"),
+            format!("0 {} -", "00".repeat(64))
+        );
+        assert_eq!(session.line("places 2"), "places 2");
+        assert_eq!(
+            list_after(&mut session, "open 3 01*8 0 no AA*17"),
+            format!("1 {}{} 01:1", "01".repeat(8), "00".repeat(8))
+        );
+        for malformed in [
+            "places 129",
+            "list 00*8 0 00*1025",
+            "open 3 02*8 256 no AA*17",
+        ] {
+            assert_eq!(session.line(malformed), format!("{malformed} = error"));
+        }
+        assert_eq!(
+            list_after(&mut session, "open 3 FF*8 0 no AA*17"),
+            format!("2 {}{} 01:1,FF:1", "01".repeat(8), "FF".repeat(8))
+        );
+        assert_eq!(
+            session.line("list 0102 7 0102030405"),
+            "list 0102 7 0102030405"
+        );
+        assert_eq!(
+            list_after(&mut session, "open 3 FF*8 0 no AA*17"),
+            "7 0102 00:258,01:772"
+        );
+        assert_eq!(session.line("list - 0 -"), "list - 0 -");
+        assert_eq!(list_after(&mut session, "open 3 FF*8 0 no AA*17"), "0 - -");
     }
 }

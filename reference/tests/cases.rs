@@ -30,6 +30,7 @@ const E691R0: &str = "453D36393120523D3020563D32";
 const E648: &str = "453D36343820523D3020563D32";
 const E709: &str = "453D37303920523D3020563D32";
 const AA3: &str = "AAAAAA";
+const NOTHING: &str = "0 0000000000000000 0 no ended -";
 
 fn bytes(digits: &str) -> Vec<u8> {
     let digits: Vec<char> = digits.chars().filter(|c| *c != ' ').collect();
@@ -81,6 +82,23 @@ fn with(packet: &[u8], edits: &[(usize, &[u8])]) -> Vec<u8> {
         out[*place..place + octets.len()].copy_from_slice(octets);
     }
     out
+}
+
+/// What `places 8` lends, after an opening that was not refused: used, list and counts.
+fn spent(challenge: &str, r: u8) -> String {
+    let challenge: [u8; 8] = array(challenge);
+    let mut list = Vec::new();
+    for k in 0..=r {
+        list.push(challenge[0].wrapping_add(23 * k));
+        list.extend_from_slice(&challenge[1..]);
+    }
+    list.resize(64, 0);
+    format!("{0} {1} {2:02X}:{0}", r + 1, hex(&list), challenge[7])
+}
+
+/// The same after one that was refused.
+fn unspent() -> String {
+    format!("0 {} -", "00".repeat(64))
 }
 
 fn text(message: &str) -> String {
@@ -154,14 +172,23 @@ impl Sheet {
         self.is(&format!("account {nt} {lm} {marks}"), "");
     }
 
+    /// An empty list, long enough for any opening.
+    fn places(&mut self) {
+        self.is("places 8", "");
+    }
+
     fn open(&mut self, id: u8, challenge: &str, r: &str, lm: &str) {
+        self.places();
         let result = self.ask(&format!("open {id} {challenge} {r} {lm} {B}"));
         let retries = if r == "-" { "2" } else { r };
         let allowed = if lm == "no" { "no" } else { "yes" };
         let buffer = format!("01{id:02X}000D08{challenge}{}", hex(&[0xAA; 7]));
         assert_eq!(
             result,
-            format!("0 13 {buffer} {id} {challenge} {retries} {allowed} response -")
+            format!(
+                "0 13 {buffer} {id} {challenge} {retries} {allowed} response - {}",
+                spent(challenge, retries.parse().unwrap())
+            )
         );
     }
 
@@ -278,11 +305,12 @@ fn cases() {
     exchanges(&mut sheet);
     damaged(&mut sheet);
     octet_strings(&mut sheet);
+    issued_challenges(&mut sheet);
 
     // The whole file, run afresh, gives the lines that were checked.
     let again = reference::script::run(&sheet.text);
     assert_eq!(again.lines().count(), sheet.text.lines().count());
-    assert!(sheet.text.len() < 300_000, "{}", sheet.text.len());
+    assert!(sheet.text.len() < 400_000, "{}", sheet.text.len());
     let stored = concat!(
         env!("CARGO_MANIFEST_DIR"),
         "/../crates/vectors/data/cases.txt"
@@ -841,9 +869,10 @@ fn conversations(s: &mut Sheet) {
         s.open(7, CHX, &r.to_string(), "-");
     }
     for r in [8, 9, 128, 255] {
+        s.places();
         s.is(
             &format!("open 7 {CHX} {r} yes AA*17"),
-            &format!("13 0 {} 0 0000000000000000 0 no ended -", "AA".repeat(17)),
+            &format!("13 0 {} {NOTHING} {}", "AA".repeat(17), unspent()),
         );
     }
     s.account(H, "-", "0000");
@@ -1058,9 +1087,13 @@ fn responses(s: &mut Sheet) {
         s.open7();
         s.step(&bad, &format!("AA*{size}"));
     }
+    s.places();
     s.is(
         &format!("open 7 {CHX} - - 0102030405060708090A0B0C0D0E0F1011"),
-        &format!("0 13 0107000D08{CHX}0E0F1011 7 {CHX} 2 yes response -"),
+        &format!(
+            "0 13 0107000D08{CHX}0E0F1011 7 {CHX} 2 yes response - {}",
+            spent(CHX, 2)
+        ),
     );
 }
 
@@ -1379,20 +1412,24 @@ fn refusals(s: &mut Sheet) {
     s.refused(&[], "AA*3", "1");
     s.refused(&good, "-", "1");
     s.note("and after a refused opening");
+    s.places();
     s.is(
         &format!("open 7 {CHX} 8 yes {B}"),
-        &format!("13 0 {} 0 0000000000000000 0 no ended -", "AA".repeat(20)),
+        &format!("13 0 {} {NOTHING} {}", "AA".repeat(20), unspent()),
     );
     s.refused(&resp(0, Z24, NR, 1, b"u"), B, "1");
     s.title("R-REF-2: reply buffers of 16 and 17 octets, also at the opening");
+    s.places();
     s.is(
         &format!("open 7 {CHX} - - AA*16"),
-        &format!("2 0 {} 0 0000000000000000 0 no ended -", "AA".repeat(16)),
+        &format!("2 0 {} {NOTHING} {}", "AA".repeat(16), unspent()),
     );
+    s.places();
     s.is(
         &format!("open 7 {CHX} - - -"),
-        "2 0 - 0 0000000000000000 0 no ended -",
+        &format!("2 0 - {NOTHING} {}", unspent()),
     );
+    s.places();
     s.begins(&format!("open 7 {CHX} - - AA*17"), "0 13 0107000D08");
     s.refused(&good, "AA*16", "2");
     s.refused(&good, "AA*4", "2");
@@ -1568,13 +1605,15 @@ fn refusals(s: &mut Sheet) {
     let answer = s.step(&packet, "AA*17");
     assert_eq!(answer.refusal, "0");
     s.title("R-ORD-2: the opening's order");
+    s.places();
     s.is(
         &format!("open 7 {CHX} 8 - -"),
-        "13 0 - 0 0000000000000000 0 no ended -",
+        &format!("13 0 - {NOTHING} {}", unspent()),
     );
+    s.places();
     s.is(
         &format!("open 7 {CHX} 7 - -"),
-        "2 0 - 0 0000000000000000 0 no ended -",
+        &format!("2 0 - {NOTHING} {}", unspent()),
     );
     s.title("R-ORD-3: the peer's reader");
     s.is("reply 9 01080004", "refused 5");
@@ -1633,6 +1672,7 @@ fn table_of_twelve(s: &mut Sheet) {
     assert_eq!(answer.conversation, "8 0002030405060708 0 yes response -");
     s.is("expand FFFFFFFFFFFFFF", "FEFEFEFEFEFEFEFE");
     s.is("expand 01000000000000", "0080000000000000");
+    s.places();
     s.begins(
         "open 7 0102030405060708 - - AA*17",
         "0 13 0107000D080102030405060708AAAAAAAA ",
@@ -1669,6 +1709,7 @@ struct Peer {
 impl Peer {
     /// Opens, and has the peer read the Challenge.
     fn meet(s: &mut Sheet, id: u8, r: &str) -> Peer {
+        s.places();
         let result = s.ask(&format!("open {id} {CHX} {r} - {B}"));
         let buffer = result.split(' ').nth(2).unwrap();
         let turn = s.ask(&format!("challenge {}", &buffer[..26]));
@@ -1870,6 +1911,413 @@ fn octet_strings(s: &mut Sheet) {
     );
 }
 
+/// Entries of a list: C1, its successors by the 23 rule as far as r = 7 goes, and another with its
+/// first two.
+const C1: &str = "0102030405060708";
+const C18: &str = "1802030405060708";
+const C2F: &str = "2F02030405060708";
+const C46: &str = "4602030405060708";
+const C5D: &str = "5D02030405060708";
+const C74: &str = "7402030405060708";
+const C8B: &str = "8B02030405060708";
+const CA2: &str = "A202030405060708";
+const D11: &str = "1112131415161718";
+const D28: &str = "2812131415161718";
+const D3F: &str = "3F12131415161718";
+const Z8: &str = "0000000000000000";
+
+/// 256 counts, all 0.
+const NO_COUNTS: &str = "00*512";
+
+/// As many counts, 0 but for those of the octets named.
+fn counts(size: usize, named: &[(usize, u16)]) -> String {
+    let mut counts = vec![0u16; size];
+    for (octet, count) in named {
+        counts[*octet] = *count;
+    }
+    counts.iter().map(|count| format!("{count:04X}")).collect()
+}
+
+impl Sheet {
+    fn list(&mut self, buffer: &str, used: usize, counts: &str) {
+        self.is(&format!("list {buffer} {used} {counts}"), "");
+    }
+
+    /// An opening that is not refused, and the list afterwards.
+    fn spends(&mut self, challenge: &str, r: u8, list: &str) {
+        self.is(
+            &format!("open 7 {challenge} {r} - AA*17"),
+            &format!("0 13 0107000D08{challenge}AAAAAAAA 7 {challenge} {r} yes response - {list}"),
+        );
+    }
+
+    /// An opening that is refused, and the list, which stays.
+    fn keeps(&mut self, challenge: &str, r: u8, refusal: u8, list: &str) {
+        self.is(
+            &format!("open 7 {challenge} {r} - AA*17"),
+            &format!("{refusal} 0 {} {NOTHING} {list}", "AA".repeat(17)),
+        );
+    }
+}
+
+fn issued_challenges(s: &mut Sheet) {
+    s.title("CR03-1: the entries are the used places; the others are not compared, and stay");
+    s.list(&format!("{C1}{Z8}"), 0, NO_COUNTS);
+    s.spends(C1, 0, &format!("1 {C1}{Z8} 08:1"));
+    s.list(&format!("{D11}{C1}{C1}"), 1, &counts(256, &[(0x18, 1)]));
+    s.spends(C1, 0, &format!("2 {D11}{C1}{C1} 08:1,18:1"));
+    s.keeps(C1, 0, 16, &format!("2 {D11}{C1}{C1} 08:1,18:1"));
+    s.list("EE*32", 0, NO_COUNTS);
+    s.spends(C1, 1, &format!("2 {C1}{C18}{} 08:2", "EE".repeat(16)));
+    s.note("a place of octets 00 is an entry when it is used");
+    s.list("00*16", 1, &counts(256, &[(0, 1)]));
+    s.keeps(Z8, 0, 16, &format!("1 {Z8}{Z8} 00:1"));
+    s.is("places 2", "");
+    s.spends(Z8, 0, &format!("1 {Z8}{Z8} 00:1"));
+    s.keeps(Z8, 0, 16, &format!("1 {Z8}{Z8} 00:1"));
+
+    s.title("CR03-2, -4, -5: the challenge and its r successors, in that order, and the counts");
+    s.is("places 4", "");
+    s.spends(C1, 2, &format!("3 {C1}{C18}{C2F}{Z8} 08:3"));
+    s.is("places 4", "");
+    s.spends(C1, 0, &format!("1 {C1}{Z8}{Z8}{Z8} 08:1"));
+    s.is("places 4", "");
+    s.spends(C1, 1, &format!("2 {C1}{C18}{Z8}{Z8} 08:2"));
+    s.note("a silent opening has 2 retries");
+    s.is("places 4", "");
+    s.is(
+        &format!("open 7 {C1} - - AA*17"),
+        &format!("0 13 0107000D08{C1}AAAAAAAA 7 {C1} 2 yes response - 3 {C1}{C18}{C2F}{Z8} 08:3"),
+    );
+    s.note("the first octet wraps, with no carry");
+    s.is("places 3", "");
+    s.spends(
+        "E902030405060708",
+        2,
+        "3 E90203040506070800020304050607081702030405060708 08:3",
+    );
+    s.is("places 3", "");
+    s.spends(
+        "E9FFFFFFFFFFFFFF",
+        1,
+        "2 E9FFFFFFFFFFFFFF00FFFFFFFFFFFFFF0000000000000000 FF:2",
+    );
+    s.is("places 2", "");
+    s.spends(
+        "FF000000000000FE",
+        1,
+        "2 FF000000000000FE16000000000000FE FE:2",
+    );
+    s.note("behind the used ones; each last octet has its count");
+    s.is("places 9", "");
+    s.spends(D11, 1, &format!("2 {D11}{D28}{} 18:2", Z8.repeat(7)));
+    s.spends(
+        C1,
+        2,
+        &format!("5 {D11}{D28}{C1}{C18}{C2F}{} 08:3,18:2", Z8.repeat(4)),
+    );
+    s.spends(
+        "08020304050607FF",
+        0,
+        &format!(
+            "6 {D11}{D28}{C1}{C18}{C2F}08020304050607FF{} 08:3,18:2,FF:1",
+            Z8.repeat(3)
+        ),
+    );
+    s.spends(
+        "0802030405060700",
+        0,
+        &format!(
+            "7 {D11}{D28}{C1}{C18}{C2F}08020304050607FF0802030405060700{} 00:1,08:3,18:2,FF:1",
+            Z8.repeat(2)
+        ),
+    );
+    s.spends(
+        D3F,
+        1,
+        &format!(
+            "9 {D11}{D28}{C1}{C18}{C2F}08020304050607FF0802030405060700{D3F}5612131415161718 00:1,08:3,18:4,FF:1"
+        ),
+    );
+    s.note("a list of 128 places");
+    s.is("places 128", "");
+    s.spends(C1, 2, &format!("3 {C1}{C18}{C2F}{} 08:3", Z8.repeat(125)));
+
+    s.title("CR03-3: each of them is sought in every used place, by all its octets");
+    let one = counts(256, &[(8, 1)]);
+    let two = counts(256, &[(8, 2)]);
+    s.list(&format!("{C18}{Z8}{Z8}"), 1, &one);
+    s.keeps(C1, 1, 16, &format!("1 {C18}{Z8}{Z8} 08:1"));
+    s.keeps(C18, 0, 16, &format!("1 {C18}{Z8}{Z8} 08:1"));
+    s.spends(C1, 0, &format!("2 {C18}{C1}{Z8} 08:2"));
+    s.note("the last successor of r 7, which r 6 does not reach");
+    s.list(&format!("{CA2}{}", Z8.repeat(8)), 1, &one);
+    s.keeps(C1, 7, 16, &format!("1 {CA2}{} 08:1", Z8.repeat(8)));
+    s.spends(
+        C1,
+        6,
+        &format!("8 {CA2}{C1}{C18}{C2F}{C46}{C5D}{C74}{C8B}{Z8} 08:8"),
+    );
+    s.note("a successor past octet FF");
+    s.is("places 3", "");
+    s.spends(C1, 0, &format!("1 {C1}{Z8}{Z8} 08:1"));
+    s.keeps("EA02030405060708", 1, 16, &format!("1 {C1}{Z8}{Z8} 08:1"));
+    s.spends(
+        "EA02030405060708",
+        0,
+        &format!("2 {C1}EA02030405060708{Z8} 08:2"),
+    );
+    s.note("in the first used place, in one between, in the last");
+    s.is("places 6", "");
+    s.spends(D11, 2, &format!("3 {D11}{D28}{D3F}{Z8}{Z8}{Z8} 18:3"));
+    for (challenge, r) in [(D11, 0), (D28, 0), (D3F, 0), (D28, 1)] {
+        s.keeps(
+            challenge,
+            r,
+            16,
+            &format!("3 {D11}{D28}{D3F}{Z8}{Z8}{Z8} 18:3"),
+        );
+    }
+    s.list(
+        &format!("{D11}{C2F}{Z8}{Z8}{Z8}"),
+        2,
+        &counts(256, &[(8, 1), (0x18, 1)]),
+    );
+    s.keeps(C1, 2, 16, &format!("2 {D11}{C2F}{Z8}{Z8}{Z8} 08:1,18:1"));
+    s.note("entries that differ in the first octet only, in one between, in the last only");
+    for near in ["0002030405060708", "0102030405060608", "0102030C05060708"] {
+        s.list(&format!("{near}{Z8}"), 1, &one);
+        s.spends(C1, 0, &format!("2 {near}{C1} 08:2"));
+    }
+    s.list(&format!("0102030405060709{Z8}"), 1, &counts(256, &[(9, 1)]));
+    s.spends(C1, 0, &format!("2 0102030405060709{C1} 08:1,09:1"));
+    s.note("octets that stand across two places, or in another order, are no entry");
+    s.list(
+        &format!("AAAAAAAA0102030405060708BBBBBB08{Z8}"),
+        2,
+        &counts(256, &[(4, 1), (8, 1)]),
+    );
+    s.spends(
+        C1,
+        0,
+        &format!("3 AAAAAAAA0102030405060708BBBBBB08{C1} 04:1,08:2"),
+    );
+    s.list(&format!("0807060504030201{Z8}"), 1, &counts(256, &[(1, 1)]));
+    s.spends(C1, 0, &format!("2 0807060504030201{C1} 01:1,08:1"));
+    s.note("the same challenge twice, and openings whose successors meet");
+    s.is("places 5", "");
+    s.spends(C1, 2, &format!("3 {C1}{C18}{C2F}{Z8}{Z8} 08:3"));
+    for challenge in [C1, C18, C2F] {
+        s.keeps(challenge, 0, 16, &format!("3 {C1}{C18}{C2F}{Z8}{Z8} 08:3"));
+    }
+    s.spends(C46, 0, &format!("4 {C1}{C18}{C2F}{C46}{Z8} 08:4"));
+    s.note("a list may be lent with an entry twice");
+    s.list(&format!("{C1}{C1}{Z8}"), 2, &two);
+    s.keeps(C1, 0, 16, &format!("2 {C1}{C1}{Z8} 08:2"));
+    s.spends(C18, 0, &format!("3 {C1}{C1}{C18} 08:3"));
+
+    s.title(
+        "CR03-6: buffers of 1, 7, 9, 12 and 1,023 octets are not whole places; of 0 octets, 17",
+    );
+    for size in [1, 7, 9, 12, 1023] {
+        s.list(&format!("00*{size}"), 0, NO_COUNTS);
+        s.keeps(C1, 0, 24, &format!("0 {} -", "00".repeat(size)));
+    }
+    s.list(&format!("{C1}00000000"), 1, &one);
+    s.keeps(D11, 0, 24, &format!("1 {C1}00000000 08:1"));
+    s.keeps(C1, 0, 24, &format!("1 {C1}00000000 08:1"));
+    s.list("-", 0, NO_COUNTS);
+    s.keeps(C1, 0, 17, "0 - -");
+    s.keeps(C1, 7, 17, "0 - -");
+    s.is("places 0", "");
+    s.keeps(C1, 0, 17, "0 - -");
+    s.list("00*1024", 0, NO_COUNTS);
+    s.spends(C1, 0, &format!("1 {C1}{} 08:1", Z8.repeat(127)));
+
+    s.title("CR03-7: more used than there are places");
+    s.list("00*16", 3, &counts(256, &[(0, 3)]));
+    s.keeps(C1, 0, 24, &format!("3 {Z8}{Z8} 00:3"));
+    s.list("00*16", 3, &counts(256, &[(0, 2)]));
+    s.keeps(C1, 0, 24, &format!("3 {Z8}{Z8} 00:2"));
+    s.list("00*16", 999_999_999, NO_COUNTS);
+    s.keeps(C1, 0, 24, &format!("999999999 {Z8}{Z8} -"));
+    s.list("-", 1, NO_COUNTS);
+    s.keeps(C1, 0, 24, "1 - -");
+    s.note("as many as there are: 17");
+    s.list("00*16", 2, &counts(256, &[(0, 2)]));
+    s.keeps(C1, 0, 17, &format!("2 {Z8}{Z8} 00:2"));
+    s.title("CR03-7: counts of another number: 255, 257, none, 1, 512; half a count is none");
+    let empty = format!("0 {Z8}{Z8} -");
+    for size in [510, 514, 0, 1, 2, 1024] {
+        s.list("00*16", 0, &format!("00*{size}"));
+        s.keeps(C1, 0, 24, &empty);
+    }
+    s.list(&format!("{C1}{Z8}"), 1, &counts(257, &[(8, 1), (256, 1)]));
+    s.keeps(D11, 0, 24, &format!("1 {C1}{Z8} 08:1"));
+    s.note("511 octets are 255 counts, 513 are 256");
+    s.list("00*16", 0, "00*511");
+    s.keeps(C1, 0, 24, &empty);
+    s.list("00*16", 0, "00*513");
+    s.spends(C1, 0, &format!("1 {C1}{Z8} 08:1"));
+    s.title("CR03-7: counts that are not true");
+    for (octet, shown) in [(0, "00:1"), (8, "08:1"), (255, "FF:1")] {
+        s.list("00*16", 0, &counts(256, &[(octet, 1)]));
+        s.keeps(C1, 0, 24, &format!("0 {Z8}{Z8} {shown}"));
+    }
+    s.note("one too high, one too low, of another octet, of the first octets, 256 too high");
+    let held = format!("{C1}{D11}{Z8}");
+    for (named, shown) in [
+        (&[(8, 2), (0x18, 1)][..], "08:2,18:1"),
+        (&[(8, 1)], "08:1"),
+        (&[(8, 1), (0x19, 1)], "08:1,19:1"),
+        (&[(8, 2)], "08:2"),
+        (&[(1, 1), (0x11, 1)], "01:1,11:1"),
+        (&[(8, 257), (0x18, 1)], "08:257,18:1"),
+        (&[(8, 1), (0x18, 1), (0xFF, 65_535)], "08:1,18:1,FF:65535"),
+    ] {
+        s.list(&held, 2, &counts(256, named));
+        s.keeps(C46, 0, 24, &format!("2 {held} {shown}"));
+    }
+    s.note("only of an octet that no entry ends in; of the unused places too");
+    s.list(&held, 2, &counts(256, &[(8, 1), (0x18, 1), (0xFE, 1)]));
+    s.keeps(C46, 0, 24, &format!("2 {held} 08:1,18:1,FE:1"));
+    s.list(&held, 2, &counts(256, &[(0, 1), (8, 1), (0x18, 1)]));
+    s.keeps(C46, 0, 24, &format!("2 {held} 00:1,08:1,18:1"));
+    s.note("the true ones");
+    s.list(&held, 2, &counts(256, &[(8, 1), (0x18, 1)]));
+    s.spends(C46, 0, &format!("3 {C1}{D11}{C46} 08:2,18:1"));
+
+    s.title("CR03-8: 16, then 17 with fewer than r + 1 places left");
+    s.list(&format!("{C1}{Z8}"), 1, &one);
+    s.keeps(C1, 1, 16, &format!("1 {C1}{Z8} 08:1"));
+    s.keeps(D11, 1, 17, &format!("1 {C1}{Z8} 08:1"));
+    s.spends(D11, 0, &format!("2 {C1}{D11} 08:1,18:1"));
+    s.note("full: 16 for what is there, 17 for all else");
+    s.keeps(C1, 0, 16, &format!("2 {C1}{D11} 08:1,18:1"));
+    s.keeps(D11, 7, 16, &format!("2 {C1}{D11} 08:1,18:1"));
+    s.keeps("FA12131415161718", 1, 16, &format!("2 {C1}{D11} 08:1,18:1"));
+    s.keeps(D28, 0, 17, &format!("2 {C1}{D11} 08:1,18:1"));
+    s.note("exactly r + 1 places left, and one fewer");
+    s.is("places 4", "");
+    s.spends(D11, 0, &format!("1 {D11}{Z8}{Z8}{Z8} 18:1"));
+    s.keeps(C1, 3, 17, &format!("1 {D11}{Z8}{Z8}{Z8} 18:1"));
+    s.spends(C1, 2, &format!("4 {D11}{C1}{C18}{C2F} 08:3,18:1"));
+    s.is("places 7", "");
+    s.keeps(C1, 7, 17, &format!("0 {} -", Z8.repeat(7)));
+    s.spends(C1, 6, &format!("7 {C1}{C18}{C2F}{C46}{C5D}{C74}{C8B} 08:7"));
+    s.is("places 1", "");
+    s.keeps(C1, 1, 17, &format!("0 {Z8} -"));
+    s.spends(C1, 0, &format!("1 {C1} 08:1"));
+
+    s.title("CR03-9: the order 13, 2, 24, 16, 17");
+    let untrue = counts(256, &[(0, 1), (8, 1)]);
+    s.list(C1, 1, &untrue);
+    let kept = format!("1 {C1} 00:1,08:1");
+    let aa16 = "AA".repeat(16);
+    s.is(
+        &format!("open 7 {C1} 8 - AA*16"),
+        &format!("13 0 {aa16} {NOTHING} {kept}"),
+    );
+    s.is(
+        &format!("open 7 {C1} 2 - AA*16"),
+        &format!("2 0 {aa16} {NOTHING} {kept}"),
+    );
+    s.is(
+        &format!("open 7 {C1} - - AA*16"),
+        &format!("2 0 {aa16} {NOTHING} {kept}"),
+    );
+    s.keeps(C1, 8, 13, &kept);
+    s.keeps(C1, 2, 24, &kept);
+    s.keeps(D11, 2, 24, &kept);
+    s.list(C1, 1, &one);
+    s.keeps(C1, 2, 16, &format!("1 {C1} 08:1"));
+    s.keeps(D11, 2, 17, &format!("1 {C1} 08:1"));
+    s.is(
+        &format!("open 7 {C1} 255 - -"),
+        &format!("13 0 - {NOTHING} 1 {C1} 08:1"),
+    );
+    s.is(
+        &format!("open 7 {C1} 0 - -"),
+        &format!("2 0 - {NOTHING} 1 {C1} 08:1"),
+    );
+    s.note("24 before 17: 12 octets, all used and nothing left");
+    s.list("00*12", 1, &counts(256, &[(0, 1)]));
+    s.keeps(C1, 0, 24, &format!("1 {} 00:1", "00".repeat(12)));
+
+    s.title("CR03-10: a full list stays full until the caller empties it");
+    s.is("places 1", "");
+    s.spends(C1, 0, &format!("1 {C1} 08:1"));
+    for challenge in [D11, D28, D3F, C18, C1] {
+        let refusal = if challenge == C1 { 16 } else { 17 };
+        s.keeps(challenge, 0, refusal, &format!("1 {C1} 08:1"));
+    }
+    s.list(C1, 0, NO_COUNTS);
+    s.spends(C1, 0, &format!("1 {C1} 08:1"));
+    s.note("the counts emptied without the list, the list without the counts: 24");
+    s.list(C1, 1, NO_COUNTS);
+    s.keeps(D11, 0, 24, &format!("1 {C1} -"));
+    s.list(C1, 0, &one);
+    s.keeps(D11, 0, 24, &format!("0 {C1} 08:1"));
+
+    s.title(
+        "CR03-11: after refusals 24, 13, 2, 16 and 17 all is as it was, and goes on from there",
+    );
+    let held = format!("{D11}{C46}EEEEEEEEEEEEEEEE");
+    s.list(&held, 2, &counts(256, &[(8, 1), (0x18, 2)]));
+    for _ in 0..2 {
+        s.keeps(C1, 0, 24, &format!("2 {held} 08:1,18:2"));
+    }
+    s.list(&held, 2, &counts(256, &[(8, 1), (0x18, 1)]));
+    let kept = format!("2 {held} 08:1,18:1");
+    s.keeps(C1, 8, 13, &kept);
+    s.is(
+        &format!("open 7 {C1} 0 no AA*16"),
+        &format!("2 0 {aa16} {NOTHING} {kept}"),
+    );
+    s.keeps(C1, 3, 16, &kept);
+    s.keeps(C1, 2, 17, &kept);
+    s.spends(C1, 0, &format!("3 {D11}{C46}{C1} 08:2,18:1"));
+    s.note("a refused opening leaves no conversation");
+    s.keeps(C1, 0, 16, &format!("3 {D11}{C46}{C1} 08:2,18:1"));
+    s.refused(&resp(7, Z24, NR, 1, b"u"), B, "1");
+
+    s.title("CR03-12: the entries of one opening differ");
+    s.is("places 8", "");
+    s.spends(
+        C1,
+        7,
+        &format!("8 {C1}{C18}{C2F}{C46}{C5D}{C74}{C8B}{CA2} 08:8"),
+    );
+    s.is("places 9", "");
+    s.spends(
+        "F000000000000000",
+        7,
+        concat!(
+            "8 F00000000000000007000000000000001E000000000000003500000000000000",
+            "4C0000000000000063000000000000007A000000000000009100000000000000",
+            "0000000000000000 00:8"
+        ),
+    );
+
+    s.title("what was opened goes on: a retry, a success; then neither challenge opens again");
+    s.account(H, L, "0000");
+    s.is("places 4", "");
+    let kept = format!("2 {CHX}{CH23}{Z8}{Z8} 41:2");
+    s.spends(CHX, 1, &kept);
+    let answer = s.failure(&resp(7, Z24, BAD, 1, b"u"), "691", 1);
+    assert_eq!(answer.conversation, format!("8 {CH23} 0 yes response -"));
+    s.success(&resp(8, Z24, NR23, 1, b"u"));
+    s.keeps(CHX, 0, 16, &kept);
+    s.keeps(CH23, 0, 16, &kept);
+    s.note("13, then an opening that is not refused");
+    s.keeps(CHX, 9, 13, &kept);
+    s.spends(
+        "3E2DB5DF085D3041",
+        0,
+        &format!("3 {CHX}{CH23}3E2DB5DF085D3041{Z8} 41:3"),
+    );
+}
+
 /// A line that is no command draws an error; the stored scripts have none.
 #[test]
 fn malformed_lines() {
@@ -1906,6 +2354,19 @@ fn malformed_lines() {
         "account - - 00000",
         "account - - 0002",
         "account 00 - 0000",
+        "list",
+        "list - 0",
+        "list - 0 - -",
+        "list 0 0 -",
+        "list - x -",
+        "list - - -",
+        "list - 1000000000 -",
+        "list 00*1025 0 00*512",
+        "list 00*8 0 00*1025",
+        "places",
+        "places -",
+        "places 129",
+        "places 8 8",
         "open 256 0000000000000000 - - AA*20",
         "open 7 00 - - AA*20",
         "open 7 0000000000000000 - maybe AA*20",

@@ -2,6 +2,7 @@
 //! from a fixed generator, so each run is the same.
 
 use reference::authenticator::{self, Account, Conversation, Phase};
+use reference::issued::Issued;
 use reference::peer::{self, Turn, Verdict};
 use reference::script::Session;
 use reference::{hashes, message, packet};
@@ -122,6 +123,112 @@ fn steps() {
     assert!(judged > 1_000, "{judged}");
 }
 
+/// A challenge of few values, so that lists often hold one.
+fn near_challenge(random: &mut Random) -> [u8; 8] {
+    let first = [1, 24, 47, 70, 93, 233, 0, 255][random.below(8)];
+    let last = [0, 1, 255][random.below(3)];
+    [first, 2, 3, 4, 5, 6, 7 + random.below(2) as u8, last]
+}
+
+/// How many of the used places end in each octet, by one pass; none where they are not there.
+fn tally(list: &[u8], used: usize) -> Option<Vec<u16>> {
+    let mut counts = vec![0; 256];
+    for place in 0..used {
+        counts[usize::from(*list.get(8 * place + 7)?)] += 1;
+    }
+    Some(counts)
+}
+
+#[test]
+fn openings() {
+    let mut random = Random(5);
+    let mut drawn = [0; 25];
+    for _ in 0..60_000 {
+        let places = random.below(16);
+        let mut list: Vec<u8> = (0..places)
+            .flat_map(|_| near_challenge(&mut random))
+            .collect();
+        if random.below(8) == 0 {
+            list.resize(random.below(8 * places + 8), 0xEE);
+        }
+        let mut used = random.below(places + 1) * random.below(2);
+        if random.below(16) == 0 {
+            used = [places + 1, places + 2, 4097, usize::MAX][random.below(4)];
+        }
+        let mut counts = tally(&list, used.min(list.len() / 8)).unwrap();
+        match random.below(24) {
+            0 => counts.resize([0, 1, 8, 255, 257, 300][random.below(6)], 0),
+            1 => counts[random.below(256)] ^= 1 << random.below(16),
+            _ => {}
+        }
+        let room = [0, 16, 17, 17, 17, 17, 20, 20][random.below(8)];
+        let challenge = near_challenge(&mut random);
+        let retries = (random.below(4) > 0).then(|| random.below(9) as u8);
+        let r = usize::from(retries.unwrap_or(2));
+
+        let reply = random.octets(room);
+        let (mut later_list, mut later_counts) = (list.clone(), counts.clone());
+        let mut later_reply = reply.clone();
+        let mut issued = Issued {
+            list: &mut later_list,
+            used,
+            counts: &mut later_counts,
+        };
+        let id = random.next() as u8;
+        let opening =
+            authenticator::open(id, &challenge, retries, None, &mut issued, &mut later_reply);
+        let later_used = issued.used;
+
+        let added: Vec<[u8; 8]> = (0..=r)
+            .map(|k| {
+                let mut entry = challenge;
+                entry[0] = ((usize::from(entry[0]) + 23 * k) % 256) as u8;
+                entry
+            })
+            .collect();
+        let whole = list.len().is_multiple_of(8);
+        let expected = if r > 7 {
+            13
+        } else if room < 17 {
+            2
+        } else if !whole || used > list.len() / 8 || tally(&list, used).as_ref() != Some(&counts) {
+            24
+        } else if (0..used).any(|place| added.iter().any(|a| *a == list[8 * place..8 * place + 8]))
+        {
+            16
+        } else if 8 * (used + r + 1) > list.len() {
+            17
+        } else {
+            0
+        };
+        assert_eq!(opening.refusal, expected);
+        drawn[usize::from(expected)] += 1;
+        if expected > 0 {
+            assert_eq!(
+                (opening.written, opening.conversation),
+                (0, authenticator::REFUSED)
+            );
+            assert_eq!((later_list, later_used, later_counts), (list, used, counts));
+            assert_eq!(later_reply, reply);
+        } else {
+            assert_eq!(opening.written, 13);
+            assert_eq!(later_reply[13..], reply[13..]);
+            assert_eq!(
+                peer::read_challenge(&later_reply),
+                Ok(Turn { id, challenge })
+            );
+            assert_eq!(later_used, used + r + 1);
+            assert_eq!(later_list[..8 * used], list[..8 * used]);
+            assert_eq!(later_list[8 * used..8 * later_used], added.concat());
+            assert_eq!(later_list[8 * later_used..], list[8 * later_used..]);
+            assert_eq!(tally(&later_list, later_used), Some(later_counts));
+        }
+    }
+    for refusal in [0, 2, 13, 16, 17, 24] {
+        assert!(drawn[refusal] > 1_000, "{refusal}: {drawn:?}");
+    }
+}
+
 #[test]
 fn peer_to_box_and_back() {
     let mut random = Random(2);
@@ -138,7 +245,12 @@ fn peer_to_box_and_back() {
             ..Account::default()
         };
         let mut reply = [0u8; 17];
-        let opened = authenticator::open(id, &challenge, Some(0), None, &mut reply);
+        let mut issued = Issued {
+            list: &mut [0; 8],
+            used: 0,
+            counts: &mut [0; 256],
+        };
+        let opened = authenticator::open(id, &challenge, Some(0), None, &mut issued, &mut reply);
         let turn = peer::read_challenge(&reply).unwrap();
         assert_eq!(turn, Turn { id, challenge });
         let mut out = vec![0u8; 1118];
@@ -250,6 +362,8 @@ fn script_lines() {
         "des",
         "unseal",
         "account",
+        "list",
+        "places",
         "open",
         "step",
         "reply",
