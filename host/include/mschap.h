@@ -8,7 +8,7 @@
  * RUNS OF OCTETS
  *   A run is a pointer and, right behind it, its number of octets. A run that is const is only read. One that is not is read or written as said
  *   at the function. No two runs of a call may overlap, unless both are const. A run of no octets may have any pointer. One run is not of octets:
- *   the counts of mschap_open, whose size is their number. What the opening's used points to is a size_t, and no run of the call overlaps it.
+ *   the counts of mschap_open, whose size is their number. Its used points to a size_t, which no run of the call overlaps.
  *
  * WHAT A FUNCTION RETURNS
  *   0             done
