@@ -13,8 +13,9 @@
  * WHAT A FUNCTION RETURNS
  *   0             done
  *   1 to 24       refused, by the numbers below
- *   100           MSCHAP_MISFIT: a run that has a fixed size was lent with another one, or it holds octets that no value writes (a mark that is
- *                 neither 0 nor 1, an awaited code that is not 0, 2 or 6), or the number for LM is not one of the three
+ *   100           MSCHAP_MISFIT: a run that has a fixed size was lent with another one (for the counts of mschap_open that is 24), or it holds
+ *                 octets that no value writes (a mark that is neither 0 nor 1, an awaited code that is not 0, 2 or 6), or the number for LM is
+ *                 not one of the three
  *   (The four functions on the parts of a name return an offset or a length instead.)
  *   100 comes before any refusal. On every return but 0, all that was lent is as it was.
  *
@@ -170,10 +171,10 @@ uint32_t mschap_challenge_response(const uint8_t *hash, size_t hash_size,
    is its own Length field: reply[2] * 256 + reply[3]; what lay behind it stays.
    list, used and counts (256) are the list of issued challenges. It is there so that a Response that was recorded at one box opens no other: all
    boxes that know the same accounts are to be lent the same list, one opening at a time. A conversation with r retries may use its challenge
-   and r successors, each with a first octet that is 23 more, modulo 256. If one of these r + 1 is in the list, the opening is refused; else all
-   are added to it, in that order. So a list has room for its places / (r + 1) openings; when it is full every opening is refused, until the
-   caller empties it: from then on a challenge may be issued that was issued before. Each opening passes once over all used places. There is
-   no opening without a list; an empty one for 100 openings with 2 retries is
+   and r successors: the first octet of each is that of the one before and 23, modulo 256, and the other seven are the same. If one of these
+   r + 1 is in the list, the opening is refused; else all are added to it, in that order. So a list is to have r + 1 places for each opening; when
+   it is full every opening is refused, until the caller empties it: from then on a challenge may be issued that was issued before. Each opening
+   passes once over all used places. There is no opening without a list; an empty one for 100 openings with 2 retries is
        static uint8_t list[100 * 3 * MSCHAP_CHALLENGE_SIZE];
        static uint16_t counts[MSCHAP_COUNTS_SIZE];
        static size_t used;

@@ -34,7 +34,7 @@ fn a_challenge_and_its_successors_are_spent() {
     assert_eq!(open(&mut issued, 0x01, 2), Ok(()));
     holds(&issued, &[0x01, 0x18, 0x2F]);
     assert_eq!(open(&mut issued, 0x18, 0), Err(Refusal::Spent));
-    // a successor stands there, and then does not count
+    // its successor 01 stands there, which matters only where there is a retry
     assert_eq!(open(&mut issued, 0xEA, 1), Err(Refusal::Spent));
     assert_eq!(open(&mut issued, 0xEA, 0), Ok(()));
     // no carry: after E9 comes 00
