@@ -1,7 +1,8 @@
 /*
  * Bad lengths at the C interface, and null pointers with length 0: each function of mschap.h is called with the right sizes, and then with each of
- * its runs lent as NULL and 0, with one octet less and with one more. What it answers is in the table. Where that is not 0, every run must be as it
- * was. Each run has its own memory of exactly its size, so that valgrind sees any octet that is touched beyond it.
+ * its runs lent as NULL and 0, with one octet less and with one more (one count less and more, for the counts of an opening). What it answers is in
+ * the table. Where that is not 0, every run must be as it was. Each run has its own memory of exactly its size, so that valgrind sees any octet that
+ * is touched beyond it.
  */
 #include <mschap.h>
 #include <stdio.h>
@@ -14,6 +15,16 @@ struct lent {
 };
 
 #define RUN(i) r[i].at, r[i].size
+#define COUNTS(i) (uint16_t *)(void *)r[i].at, r[i].size
+
+/* An opening with 2 retries. How many places are used is no run, so what it leaves there is looked at here. */
+#define WRONG_USED 999
+static size_t open_used(struct lent *r, size_t before)
+{
+    size_t used = before;
+    size_t number = mschap_open(7, RUN(0), 2, 1, RUN(1), &used, COUNTS(2), RUN(3), RUN(4));
+    return used == before + (number == 0 ? 3 : 0) ? number : WRONG_USED;
+}
 
 static size_t md4(struct lent *r) { return mschap_md4(RUN(0), RUN(1)); }
 static size_t rc4(struct lent *r) { return mschap_rc4(RUN(0), RUN(1)); }
@@ -22,7 +33,8 @@ static size_t des_decrypt(struct lent *r) { return mschap_des_decrypt(RUN(0), RU
 static size_t nt_hash(struct lent *r) { return mschap_nt_hash(RUN(0), RUN(1)); }
 static size_t lm_hash(struct lent *r) { return mschap_lm_hash(RUN(0), RUN(1)); }
 static size_t challenge_response(struct lent *r) { return mschap_challenge_response(RUN(0), RUN(1), RUN(2)); }
-static size_t opening(struct lent *r) { return mschap_open(7, RUN(0), 2, 1, RUN(1), RUN(2)); }
+static size_t opening(struct lent *r) { return open_used(r, 0); }
+static size_t opening_spent(struct lent *r) { return open_used(r, 1); }
 static size_t step(struct lent *r) { return mschap_step(RUN(0), RUN(1), RUN(2), RUN(3), RUN(4)); }
 static size_t account_offset(struct lent *r) { return mschap_account_offset(RUN(0)); }
 static size_t account_length(struct lent *r) { return mschap_account_length(RUN(0)); }
@@ -34,8 +46,9 @@ static size_t next_turn(struct lent *r) { return mschap_next_turn(RUN(0), RUN(1)
 static size_t write_response(struct lent *r) { return mschap_write_response(RUN(0), RUN(1), RUN(2), RUN(3)); }
 static size_t write_change(struct lent *r) { return mschap_write_change(RUN(0), RUN(1), RUN(2), RUN(3), RUN(4)); }
 
-/* what runs hold, with an octet more for the call that lends one more */
+/* what runs hold, with an octet or a count more for the call that lends one more */
 static const uint8_t zeros[513];
+static const uint8_t counts[2][257 * sizeof(uint16_t)] = {{0}, {1}}; /* of no place, and of one that ends in 0 (the machine is little-endian) */
 static const uint8_t opened[51] = {2, 1, 7, 2}; /* a conversation that awaits a Response with identifier 7 */
 static const uint8_t response[63] = {2, 7, 0, 62, 49, [53] = 1, 'D', 'O', 'M', '\\', 'U', 's', 'e', 'r'};
 static const uint8_t challenge[14] = {1, 7, 0, 13, 8};
@@ -48,9 +61,15 @@ static const uint8_t sent[10] = {7};
 
 struct run {
     const uint8_t *holds; /* NULL: octets FILL */
-    size_t size;
-    size_t null, less, more; /* the answers for NULL and 0, for one octet less and for one more */
+    size_t size; /* in octets, or in counts */
+    size_t null, less, more; /* the answers for NULL and 0, for one less and for one more */
 };
+
+/* How many octets a run of such a size has. */
+static size_t octets(const struct run *run, size_t size)
+{
+    return run->holds == counts[0] || run->holds == counts[1] ? size * sizeof(uint16_t) : size;
+}
 
 static const struct function {
     const char *name;
@@ -65,7 +84,10 @@ static const struct function {
     {"nt_hash", nt_hash, 0, 100, {{zeros, 2, 0, 8, 8}, {NULL, 16, FIXED}}},
     {"lm_hash", lm_hash, 0, 100, {{zeros, 14, 0, 0, 8}, {NULL, 16, FIXED}}},
     {"challenge_response", challenge_response, 0, 100, {{zeros, 16, FIXED}, {zeros, 8, FIXED}, {NULL, 24, FIXED}}},
-    {"open", opening, 0, 100, {{zeros, 8, FIXED}, {NULL, 50, FIXED}, {NULL, 17, 2, 2, 0}}},
+    /* no place used, and three to be used */
+    {"open", opening, 0, 100, {{zeros, 8, FIXED}, {NULL, 24, 17, 24, 24}, {counts[0], 256, 24, 24, 24}, {NULL, 50, FIXED}, {NULL, 17, 2, 2, 0}}},
+    /* one place used, by the same challenge */
+    {"open, spent", opening_spent, 16, 100, {{zeros, 8, FIXED}, {zeros, 32, 24, 24, 24}, {counts[1], 256, 24, 24, 24}, {NULL, 50, FIXED}, {NULL, 17, 2, 2, 16}}},
     {"step", step, 0, 100, {{opened, 50, FIXED}, {response, 62, 3, 3, 0}, {zeros, 39, FIXED}, {NULL, 17, 2, 2, 0}, {NULL, 39, FIXED}}},
     {"account_offset", account_offset, 58, 0, {{response, 62, 0, 0, 58}}},
     {"account_length", account_length, 4, 0, {{response, 62, 0, 0, 4}}},
@@ -105,8 +127,8 @@ static void expect(const struct function *f, const size_t *sizes, size_t answer,
 
     for (i = 0; i < 5; i++) {
         r[i].size = sizes[i];
-        r[i].at = sizes[i] ? malloc(sizes[i]) : NULL;
-        for (j = 0; j < sizes[i]; j++)
+        r[i].at = sizes[i] ? malloc(octets(&f->runs[i], sizes[i])) : NULL;
+        for (j = 0; j < octets(&f->runs[i], sizes[i]); j++)
             r[i].at[j] = held(&f->runs[i], j);
     }
     got = f->call(r);
@@ -116,7 +138,7 @@ static void expect(const struct function *f, const size_t *sizes, size_t answer,
         exit(1);
     }
     for (i = 0; i < 5; i++) {
-        for (j = 0; answer != 0 && j < sizes[i]; j++)
+        for (j = 0; answer != 0 && j < octets(&f->runs[i], sizes[i]); j++)
             if (r[i].at[j] != held(&f->runs[i], j)) {
                 printf("bad_lengths: %s, run %u, %s: run %u was changed\n", f->name, run, what, (unsigned)i);
                 exit(1);
@@ -141,9 +163,9 @@ int main(void)
             sizes[i] = 0;
             expect(f, sizes, f->runs[i].null, "NULL and 0", i);
             sizes[i] = f->runs[i].size - 1;
-            expect(f, sizes, f->runs[i].less, "one octet less", i);
+            expect(f, sizes, f->runs[i].less, "one less", i);
             sizes[i] = f->runs[i].size + 1;
-            expect(f, sizes, f->runs[i].more, "one octet more", i);
+            expect(f, sizes, f->runs[i].more, "one more", i);
             sizes[i] = f->runs[i].size;
         }
     }

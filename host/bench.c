@@ -1,6 +1,6 @@
 /*
  * How long the library takes, next to OpenSSL's libcrypto where its headers are installed (HAVE_OPENSSL): medians of interleaved batches.
- * Exit status 1 where the two do not give the same octets, or a packet is not judged as it should be. tests/bench.sh compiles and runs it.
+ * Exit status 1 where the two do not give the same octets, or a call is not answered as it should be. tests/bench.sh compiles and runs it.
  */
 #define _XOPEN_SOURCE 700 /* clock_gettime and ucontext, which C11 alone hides */
 
@@ -24,6 +24,11 @@
 #define LONGEST 4096
 #define STREAM 516
 #define PASSWORD 20
+#define RETRIES 2 /* of an opening */
+#define SPENT (RETRIES + 1) /* the challenges that it spends */
+#define HALF (MSCHAP_LIST_PLACES / 2)
+#define NEARLY (MSCHAP_LIST_PLACES - SPENT) /* used places that leave room for one opening */
+#define FEW 8
 #define STACK 1048576
 
 /* What a batch works on. Every call takes its input from the output of the call before: so none can be dropped, no two can overlap, and one
@@ -32,7 +37,7 @@ struct work {
     uint8_t octets[LONGEST];
     uint8_t key[16];
     uint8_t challenge[8];
-    uint32_t wrong; /* not 0 once a call was refused or a verdict was not Success */
+    uint32_t wrong; /* not 0 once an answer was not the expected one */
 };
 
 /* The two packets to be judged, each with the conversation that awaits it. */
@@ -46,6 +51,20 @@ struct judged {
 };
 
 static struct judged response, change;
+
+/* An opening, with the list that it is lent. */
+struct opening {
+    uint8_t challenge[MSCHAP_CHALLENGE_SIZE];
+    uint8_t list[MSCHAP_LIST_PLACES * MSCHAP_CHALLENGE_SIZE];
+    size_t places; /* how many of them are lent */
+    size_t used;
+    uint16_t counts[MSCHAP_COUNTS_SIZE];
+    uint32_t answer; /* the one that is expected */
+    uint8_t conversation[MSCHAP_CONVERSATION_SIZE];
+    uint8_t reply[MSCHAP_REPLY_SIZE];
+};
+
+static struct opening empty, half, nearly, full, alike, few;
 
 typedef void batch(struct work *w, long calls);
 
@@ -121,6 +140,51 @@ static void our_response(struct work *w, long calls)
 static void our_change(struct work *w, long calls)
 {
     judge(&change, w, calls);
+}
+
+/* Every call finds as many used places as the first: what an accepted opening adds is taken back. Its identifier follows from the call before. */
+static void open_again(struct opening *o, struct work *w, long calls)
+{
+    uint32_t answer = 0;
+    while (calls-- > 0) {
+        size_t used = o->used;
+        answer = mschap_open((uint8_t)(o->reply[1] + 1 + answer), o->challenge, sizeof o->challenge, RETRIES, 1,
+                             o->list, o->places * MSCHAP_CHALLENGE_SIZE, &used, o->counts, MSCHAP_COUNTS_SIZE,
+                             o->conversation, sizeof o->conversation, o->reply, sizeof o->reply);
+        w->wrong |= answer != o->answer;
+        w->wrong |= used != o->used + (answer == MSCHAP_OK ? SPENT : 0);
+        o->counts[o->challenge[7]] = (uint16_t)(o->counts[o->challenge[7]] - (used - o->used));
+    }
+}
+
+static void open_empty(struct work *w, long calls)
+{
+    open_again(&empty, w, calls);
+}
+
+static void open_half(struct work *w, long calls)
+{
+    open_again(&half, w, calls);
+}
+
+static void open_nearly(struct work *w, long calls)
+{
+    open_again(&nearly, w, calls);
+}
+
+static void open_full(struct work *w, long calls)
+{
+    open_again(&full, w, calls);
+}
+
+static void open_alike(struct work *w, long calls)
+{
+    open_again(&alike, w, calls);
+}
+
+static void open_few(struct work *w, long calls)
+{
+    open_again(&few, w, calls);
 }
 
 /* ---- OpenSSL's */
@@ -221,12 +285,22 @@ static struct line {
     {.what = "NT hash, challenge response", .run = {our_hash_and_answer, THEIRS(their_hash_and_answer)}},
     {.what = "judged Response", .run = {our_response, NULL}},
     {.what = "judged change", .run = {our_change, NULL}},
+    {.what = "opening, none used", .run = {open_empty, NULL}},
+    {.what = "opening, 2,048 used", .run = {open_half, NULL}},
+    {.what = "opening, 4,093 used", .run = {open_nearly, NULL}},
+    {.what = "opening, full: refused", .run = {open_full, NULL}},
+    {.what = "opening, 4,093 used, one end", .run = {open_alike, NULL}},
+    {.what = "opening, none of 8 used", .run = {open_few, NULL}},
 };
 
 #define LINES (sizeof lines / sizeof lines[0])
 #define ANSWER 3
 #define HASH_AND_ANSWER 4
 #define RESPONSE 5
+#define OPEN_EMPTY 7
+#define OPEN_NEARLY 9
+#define OPEN_ALIKE 11
+#define OPEN_FEW 12
 
 static void begin(struct work *w)
 {
@@ -283,12 +357,16 @@ static uint32_t prepare(const struct work *w)
     static const uint8_t password[PASSWORD] = {'c', 0, 'l', 0, 'i', 0, 'e', 0, 'n', 0, 't', 0, 'P', 0, 'a', 0, 's', 0, 's', 0};
     static const uint8_t renewed[] = {'n', 0, 'e', 0, 'w', 0, 'e', 0, 'r', 0};
     static const uint8_t name[] = {'D', 'O', 'M', '\\', 'U', 's', 'e', 'r'};
+    uint8_t list[SPENT * MSCHAP_CHALLENGE_SIZE];
+    uint16_t counts[MSCHAP_COUNTS_SIZE] = {0};
+    size_t used = 0;
     uint8_t sent[MSCHAP_TURN_SIZE], turn[MSCHAP_TURN_SIZE];
     uint32_t wrong = 0;
 
     response.record[0] = response.record[1] = 1; /* found, with an NT hash */
     wrong |= mschap_nt_hash(password, sizeof password, response.record + 2, MSCHAP_HASH_SIZE);
-    wrong |= mschap_open(7, w->challenge, 8, 255, 0, response.conversation, sizeof response.conversation, response.reply, sizeof response.reply);
+    wrong |= mschap_open(7, w->challenge, 8, RETRIES, 0, list, sizeof list, &used, counts, MSCHAP_COUNTS_SIZE,
+                         response.conversation, sizeof response.conversation, response.reply, sizeof response.reply);
     wrong |= mschap_read_challenge(response.reply, sizeof response.reply, sent, sizeof sent);
     wrong |= mschap_write_response(sent, sizeof sent, password, sizeof password, name, sizeof name, response.packet, sizeof response.packet);
     response.size = 54 + sizeof name;
@@ -306,51 +384,86 @@ static uint32_t prepare(const struct work *w)
     return wrong;
 }
 
-/* ---- the stack of a step: the step is run on a stack of its own, which was painted; what is no longer paint was touched */
+/* A list with that many places, of which the first are used: by drawn octets, or by drawn octets that all end as the challenge does. */
+static void fill(struct opening *o, const struct work *w, size_t places, size_t used, int one_end, uint32_t answer)
+{
+    uint32_t x = 1994; /* not as in begin, where the challenge is from */
+    memcpy(o->challenge, w->challenge, sizeof o->challenge);
+    for (size_t i = 0; i < sizeof o->list; i++) {
+        x = x * 1664525 + 1013904223;
+        o->list[i] = one_end && i % 8 == 7 ? o->challenge[7] : (uint8_t)(x >> 24);
+    }
+    o->places = places;
+    o->used = used;
+    for (size_t i = 0; i < used; i++)
+        o->counts[o->list[8 * i + 7]]++;
+    o->answer = answer;
+}
+
+/* ---- the stack of a call: it is made on a stack of its own, which was painted; what is no longer paint was touched */
 
 typedef uint32_t step(uint8_t *, size_t, const uint8_t *, size_t, const uint8_t *, size_t, uint8_t *, size_t, uint8_t *, size_t);
+typedef uint32_t opener(uint8_t, const uint8_t *, size_t, uint8_t, uint8_t, uint8_t *, size_t, size_t *, uint16_t *, size_t, uint8_t *, size_t,
+                        uint8_t *, size_t);
 
 static uint8_t stack[STACK];
 static ucontext_t here, there;
 static step *volatile stepped;
 static struct judged stepped_on;
+static opener *volatile opened;
+static struct opening opened_on;
+static uint32_t answered;
 
-/* Takes what a step takes and uses no stack: what it leaves touched is the caller's share. */
+/* These two take what the calls take and use no stack: what they leave touched is the caller's share. */
 static uint32_t no_step(uint8_t *a, size_t b, const uint8_t *c, size_t d, const uint8_t *e, size_t f, uint8_t *g, size_t h, uint8_t *i, size_t j)
 {
     (void)a, (void)b, (void)c, (void)d, (void)e, (void)f, (void)g, (void)h, (void)i, (void)j;
     return 0;
 }
 
-static void on_the_stack(void)
+static uint32_t no_open(uint8_t a, const uint8_t *b, size_t c, uint8_t d, uint8_t e, uint8_t *f, size_t g, size_t *h, uint16_t *i, size_t j,
+                        uint8_t *k, size_t l, uint8_t *m, size_t n)
+{
+    (void)a, (void)b, (void)c, (void)d, (void)e, (void)f, (void)g, (void)h, (void)i, (void)j, (void)k, (void)l, (void)m, (void)n;
+    return 0;
+}
+
+static void step_there(void)
 {
     struct judged *j = &stepped_on;
-    stepped(j->conversation, sizeof j->conversation, j->packet, j->size, j->record, sizeof j->record, j->reply, sizeof j->reply, j->handed,
-            sizeof j->handed);
+    answered = stepped(j->conversation, sizeof j->conversation, j->packet, j->size, j->record, sizeof j->record, j->reply, sizeof j->reply,
+                       j->handed, sizeof j->handed);
+}
+
+static void open_there(void)
+{
+    struct opening *o = &opened_on;
+    answered = opened(7, o->challenge, sizeof o->challenge, RETRIES, 1, o->list, o->places * MSCHAP_CHALLENGE_SIZE, &o->used, o->counts,
+                      MSCHAP_COUNTS_SIZE, o->conversation, sizeof o->conversation, o->reply, sizeof o->reply);
 }
 
 /* Apart from the counting, since getcontext may return twice and a local might then be lost. */
-static void visit(void)
+static void visit(void (*call)(void))
 {
     getcontext(&there);
     there.uc_stack.ss_sp = stack;
     there.uc_stack.ss_size = sizeof stack;
     there.uc_link = &here;
-    makecontext(&there, on_the_stack, 0);
+    makecontext(&there, call, 0);
     swapcontext(&here, &there);
 }
 
-static size_t touched(step *function, const struct judged *j)
+/* What a call touches that works on a copy of these octets. */
+static size_t touched(void (*call)(void), void *copy, const void *octets, size_t size)
 {
-    /* two paints, since a step may happen to write one of them */
+    /* two paints, since a call may happen to write one of them */
     static const uint8_t paints[] = {0x5a, 0xa5};
     size_t most = 0;
     for (int p = 0; p < 2; p++) {
         size_t clean = 0;
         memset(stack, paints[p], sizeof stack);
-        stepped_on = *j;
-        stepped = function;
-        visit();
+        memcpy(copy, octets, size);
+        visit(call);
         while (clean < sizeof stack && stack[clean] == paints[p])
             clean++;
         if (sizeof stack - clean > most)
@@ -365,10 +478,25 @@ static size_t stack_of(struct judged *j)
     size_t with, without;
     j->packet[1] = j->conversation[2];
     j->reply[0] = 0;
-    with = touched(mschap_step, j);
-    if (stepped_on.reply[0] != 3)
+    stepped = mschap_step;
+    with = touched(step_there, &stepped_on, j, sizeof *j);
+    if (answered != MSCHAP_OK || stepped_on.reply[0] != 3)
         return 0;
-    without = touched(no_step, j);
+    stepped = no_step;
+    without = touched(step_there, &stepped_on, j, sizeof *j);
+    return with - without;
+}
+
+/* The same for an opening; 0 where it was not accepted. */
+static size_t stack_of_opening(const struct opening *o)
+{
+    size_t with, without;
+    opened = mschap_open;
+    with = touched(open_there, &opened_on, o, sizeof *o);
+    if (answered != MSCHAP_OK || opened_on.used != o->used + SPENT)
+        return 0;
+    opened = no_open;
+    without = touched(open_there, &opened_on, o, sizeof *o);
     return with - without;
 }
 
@@ -377,7 +505,7 @@ int main(void)
     static struct work ours, theirs;
     struct work *works[2] = {&ours, &theirs};
     double ns[LINES][2];
-    size_t of_change, of_response;
+    size_t of_change, of_response, of_opening;
     uint32_t x = 1320;
 
     begin(&ours);
@@ -385,12 +513,18 @@ int main(void)
         printf("the packets to be judged could not be made\n");
         return 1;
     }
+    fill(&empty, &ours, MSCHAP_LIST_PLACES, 0, 0, MSCHAP_OK);
+    fill(&half, &ours, MSCHAP_LIST_PLACES, HALF, 0, MSCHAP_OK);
+    fill(&nearly, &ours, MSCHAP_LIST_PLACES, NEARLY, 0, MSCHAP_OK);
+    fill(&full, &ours, MSCHAP_LIST_PLACES, MSCHAP_LIST_PLACES, 0, MSCHAP_LIST_FULL);
+    fill(&alike, &ours, MSCHAP_LIST_PLACES, NEARLY, 1, MSCHAP_OK);
+    fill(&few, &ours, FEW, 0, 0, MSCHAP_OK);
 
     for (size_t i = 0; i < LINES; i++) {
         begin(&ours);
         lines[i].run[OURS](&ours, CHAINED);
         if (ours.wrong) {
-            printf("%s: refused, or not judged a Success\n", lines[i].what);
+            printf("%s: an answer is not the expected one\n", lines[i].what);
             return 1;
         }
         if (lines[i].run[OPENSSL]) {
@@ -421,14 +555,15 @@ int main(void)
             }
     }
     if (ours.wrong) {
-        printf("refused, or not judged a Success, while timed\n");
+        printf("an answer is not the expected one, while timed\n");
         return 1;
     }
 
     of_change = stack_of(&change);
     of_response = stack_of(&response);
-    if (!of_change || !of_response) {
-        printf("not judged a Success, on a stack of its own\n");
+    of_opening = stack_of_opening(&nearly);
+    if (!of_change || !of_response || !of_opening) {
+        printf("not judged a Success, or not opened, on a stack of its own\n");
         return 1;
     }
 
@@ -452,6 +587,10 @@ int main(void)
     printf("\njudged Response / (challenge response + NT hash): %.2f\n", ns[RESPONSE][OURS] / ns[HASH_AND_ANSWER][OURS]);
     /* The record holds the hash, so a step has only the answer to work out: this is what judging adds to that. */
     printf("judged Response / challenge response: %.2f\n", ns[RESPONSE][OURS] / ns[ANSWER][OURS]);
-    printf("stack of a step: %zu octets for a change, %zu for a Response\n", of_change, of_response);
+    printf("opening, for each used place: %.2f ns; %.2f ns where all end as the challenge does\n",
+           (ns[OPEN_NEARLY][OURS] - ns[OPEN_EMPTY][OURS]) / NEARLY, (ns[OPEN_ALIKE][OURS] - ns[OPEN_EMPTY][OURS]) / NEARLY);
+    /* Unused places are not looked at, so their number must not matter. */
+    printf("opening, none of 4,096 used / none of 8 used: %.2f\n", ns[OPEN_EMPTY][OURS] / ns[OPEN_FEW][OURS]);
+    printf("stack of a step: %zu octets for a change, %zu for a Response; of an opening: %zu octets\n", of_change, of_response, of_opening);
     return 0;
 }

@@ -1,6 +1,7 @@
 /*
  * A conversation over libmschap.a, end to end: an authenticator opens it, a peer answers with a wrong password and then with the right one, which
- * has expired, and changes it. The first Response is made by hand with mschap_challenge_response, the others by the peer's functions.
+ * has expired, and changes it. The first Response is made by hand with mschap_challenge_response, the others by the peer's functions. At the end a
+ * second box is to open with the same challenge, and is refused.
  *
  *     rt staticlib mschap
  *     gcc -Wall -Wextra -Werror -std=c99 -I host/include host/example.c target/staticlib/libmschap.a -o example
@@ -48,7 +49,11 @@ int main(void)
     static const uint8_t filler[MSCHAP_FILLER_SIZE] = {0}; /* an example only: a real one is random */
     uint8_t record[MSCHAP_RECORD_SIZE] = {0};
     uint8_t handed[MSCHAP_RECORD_SIZE] = {0};
+    uint8_t list[8 * MSCHAP_CHALLENGE_SIZE]; /* of issued challenges: empty, since no place is used and all counts are 0 */
+    uint16_t counts[MSCHAP_COUNTS_SIZE] = {0};
+    size_t used = 0;
     uint8_t conversation[MSCHAP_CONVERSATION_SIZE];
+    uint8_t second[MSCHAP_CONVERSATION_SIZE];
     uint8_t reply[MSCHAP_REPLY_SIZE];
     uint8_t packet[MSCHAP_CHANGE_PACKET];
     uint8_t sent[MSCHAP_TURN_SIZE];
@@ -63,9 +68,10 @@ int main(void)
         return 1;
     show("NT hash", record + 2, MSCHAP_HASH_SIZE);
 
-    if (failed("open", mschap_open(7, challenge, sizeof challenge, 255, 0, conversation, sizeof conversation, reply, sizeof reply)))
+    if (failed("open", mschap_open(7, challenge, sizeof challenge, 255, 0, list, sizeof list, &used, counts, MSCHAP_COUNTS_SIZE, conversation, sizeof conversation, reply, sizeof reply)))
         return 1;
     show("Challenge", reply, length(reply));
+    show("issued", list, used * MSCHAP_CHALLENGE_SIZE);
     tell(conversation);
     if (failed("read_challenge", mschap_read_challenge(reply, length(reply), turn, sizeof turn)))
         return 1;
@@ -122,5 +128,9 @@ int main(void)
     show(reply[0] == 3 ? "Success" : "Failure", reply, length(reply));
     show("the new NT hash", handed + 2, MSCHAP_HASH_SIZE);
     tell(conversation);
+
+    /* the second box, which is lent the same list */
+    printf("%-28s%u\n", "the same challenge again", (unsigned)mschap_open(9, challenge, sizeof challenge, 255, 0, list, sizeof list, &used, counts, MSCHAP_COUNTS_SIZE, second, sizeof second, reply, sizeof reply));
+    printf("%-28s%u of %u\n", "places used", (unsigned)used, (unsigned)(sizeof list / MSCHAP_CHALLENGE_SIZE));
     return reply[0] == 3 ? 0 : 1;
 }

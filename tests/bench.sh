@@ -1,6 +1,6 @@
 #!/bin/sh
 # Compiles host/bench.c against the archive that `rt staticlib mschap` wrote, and runs it: a table of times, next to OpenSSL's where its headers
-# are installed. Exit status 1 where the two differ in an octet.
+# are installed. Exit status 1 where the two differ in an octet, or a call is not answered as it should be.
 set -eu
 cd "$(dirname "$0")/.."
 archive=${1:-target/staticlib/libmschap.a}

@@ -7,20 +7,22 @@
  *
  * RUNS OF OCTETS
  *   A run is a pointer and, right behind it, its number of octets. A run that is const is only read. One that is not is read or written as said
- *   at the function. No two runs of a call may overlap, unless both are const. A run of no octets may have any pointer.
+ *   at the function. No two runs of a call may overlap, unless both are const. A run of no octets may have any pointer. One run is not of octets:
+ *   the counts of mschap_open, whose size is their number. Its used points to a size_t, which no run of the call overlaps.
  *
  * WHAT A FUNCTION RETURNS
  *   0             done
- *   1 to 13       refused, by the numbers below
- *   100           MSCHAP_MISFIT: a run that has a fixed size was lent with another one, or it holds octets that no value writes (a mark that is
- *                 neither 0 nor 1, an awaited code that is not 0, 2 or 6), or the number for LM is not one of the three
+ *   1 to 24       refused, by the numbers below
+ *   100           MSCHAP_MISFIT: a run that has a fixed size was lent with another one (for the counts of mschap_open that is 24), or it holds
+ *                 octets that no value writes (a mark that is neither 0 nor 1, an awaited code that is not 0, 2 or 6), or the number for LM is
+ *                 not one of the three
  *   (The four functions on the parts of a name return an offset or a length instead.)
- *   100 comes before any refusal. On every return but 0, each run that was lent is as it was.
+ *   100 comes before any refusal. On every return but 0, all that was lent is as it was.
  *
  * STATE
- *   Nothing is allocated and there is no state in the library: all that a conversation knows is in the run that the caller keeps. So calls on
- *   different runs may be made at the same time, and a conversation may be stored and continued later. Secrets that pass through are left on
- *   the stack; the library does not wipe them.
+ *   Nothing is allocated and there is no state in the library: all that a conversation knows is in the run that the caller keeps, and which
+ *   challenges were issued is in the list that the caller lends. So calls on different runs may be made at the same time, and a conversation
+ *   may be stored and continued later. Secrets that pass through are left on the stack; the library does not wipe them.
  */
 #ifndef MSCHAP_H
 #define MSCHAP_H
@@ -48,6 +50,9 @@ extern "C" {
 #define MSCHAP_READING 11      /* no Challenge, Success or Failure, or one that cannot be read */
 #define MSCHAP_FILLER 12       /* a filler that has not 512 octets */
 #define MSCHAP_RETRIES 13      /* over 7 retries */
+#define MSCHAP_SPENT 16        /* the challenge or one of its successors was issued before */
+#define MSCHAP_LIST_FULL 17    /* too few places left in the list of issued challenges */
+#define MSCHAP_LIST 24         /* no list of issued challenges: its size, how many places are used, or its counts */
 #define MSCHAP_MISFIT 100      /* see above */
 
 /* ---- the sizes of runs */
@@ -62,6 +67,8 @@ extern "C" {
 #define MSCHAP_ACCOUNT_SIZE 38
 #define MSCHAP_RECORD_SIZE 39
 #define MSCHAP_CONVERSATION_SIZE 50
+#define MSCHAP_LIST_PLACES 4096       /* the most places of a list, of MSCHAP_CHALLENGE_SIZE octets each */
+#define MSCHAP_COUNTS_SIZE 256        /* counts, not octets */
 #define MSCHAP_TURN_SIZE 9
 #define MSCHAP_FIELDS_SIZE 35
 #define MSCHAP_REPLY_SIZE 17          /* the longest packet of the authenticator */
@@ -94,6 +101,12 @@ extern "C" {
  *    3       the retries that are left
  *    4 .. 11 the challenge in force
  *   12 .. 49 the account that was kept, while a change is awaited
+ *
+ * A list of issued challenges is lent as three things, which belong together:
+ *   list      places of 8 octets each, at most 4,096 of them
+ *   used      how many of the places are used, the first ones: each holds a challenge. What lies in the others has no meaning
+ *   counts    256 counts: counts[x] is how many of the used places end in the octet x
+ * An empty list has 0 places used and all counts 0. mschap_open alone adds to a list, and only the caller empties it: used and counts together.
  *
  * A turn, and what was sent, 9 octets each: once the packet of a turn is written and sent, the turn's run is the run of what was sent.
  *    0       the identifier
@@ -156,10 +169,26 @@ uint32_t mschap_challenge_response(const uint8_t *hash, size_t hash_size,
    a wrong password may be tried again, 0 to 7, or 255 for the default, 2. lm is 1 where a response by LM is allowed, 0 where it is not, or 255
    for the default, allowed. Writes the conversation (50) and, at the front of reply (17 or more), the Challenge to be sent. The packet's size
    is its own Length field: reply[2] * 256 + reply[3]; what lay behind it stays.
-   Returns 0; 13 for 8 to 254 retries; 2 where reply has under 17 octets; 100 for another size of challenge or conversation, or another lm. */
+   list, used and counts (256) are the list of issued challenges. It is there so that a Response that was recorded at one box opens no other: all
+   boxes that know the same accounts are to be lent the same list, one opening at a time. A conversation with r retries may use its challenge
+   and r successors: the first octet of each is that of the one before and 23, modulo 256, and the other seven are the same. If one of these
+   r + 1 is in the list, the opening is refused; else all are added to it, in that order. So a list is to have r + 1 places for each opening; when
+   it is full every opening is refused, until the caller empties it: from then on a challenge may be issued that was issued before. Each opening
+   passes once over all used places. There is no opening without a list; an empty one for 100 openings with 2 retries is
+       static uint8_t list[100 * 3 * MSCHAP_CHALLENGE_SIZE];
+       static uint16_t counts[MSCHAP_COUNTS_SIZE];
+       static size_t used;
+   and is lent as list, sizeof list, &used, counts, MSCHAP_COUNTS_SIZE.
+   Returns 0; or the first of these that applies: 100 for another size of challenge or conversation, or another lm; 13 for 8 to 254 retries; 2
+   where reply has under 17 octets; 24 where list is not whole places, or over 4,096 of them, where used is more than the places, or where counts
+   are not 256 or one of them is not true of the used places; 16 where the challenge or a successor was issued before; 17 where under r + 1
+   places are left. */
 uint32_t mschap_open(uint8_t identifier,
                      const uint8_t *challenge, size_t challenge_size,
                      uint8_t retries, uint8_t lm,
+                     uint8_t *list, size_t list_size,
+                     size_t *used,
+                     uint16_t *counts, size_t counts_size,
                      uint8_t *conversation, size_t conversation_size,
                      uint8_t *reply, size_t reply_size);
 

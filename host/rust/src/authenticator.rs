@@ -1,7 +1,7 @@
 //! The authenticator: a conversation, from its Challenge to its end.
 
 use crate::account::mark;
-use crate::{length, part, sys, Account, Challenge, Refusal};
+use crate::{length, part, sys, Account, Challenge, Issued, Refusal};
 
 /// What a conversation waits for.
 #[derive(Clone, Copy, Debug, PartialEq, Eq)]
@@ -32,19 +32,33 @@ pub struct Judged {
 impl Conversation {
     /// Opens a conversation, and writes its Challenge at the front of `reply` (17 octets or more).
     /// The challenge is to be one that nobody can foretell. With no number of retries there are 2;
-    /// with no choice for LM it is allowed. Gives the conversation and the size of the packet.
+    /// with no choice for LM it is allowed. The challenge and a successor for each retry are added to
+    /// the list `issued`; where one of them was there, it is refused as [`Refusal::Spent`]. Gives the
+    /// conversation and the size of the packet.
     pub fn open(
         identifier: u8,
         challenge: &Challenge,
         retries: Option<u8>,
         lm: Option<bool>,
+        issued: &mut Issued,
         reply: &mut [u8],
     ) -> Result<(Conversation, usize), Refusal> {
         let mut octets = [0; sys::CONVERSATION_SIZE];
         // 255 retries, if asked for, are too many: they must not be taken for the default.
         let retries = retries.map_or(sys::DEFAULT, |count| count.min(sys::DEFAULT - 1));
         let lm = lm.map_or(sys::DEFAULT, u8::from);
-        let number = sys::open(identifier, challenge, retries, lm, &mut octets, reply);
+        let (list, used, counts) = issued.lend();
+        let number = sys::open(
+            identifier,
+            challenge,
+            retries,
+            lm,
+            list,
+            used,
+            counts,
+            &mut octets,
+            reply,
+        );
         Refusal::check(number)?;
         Ok((Conversation(octets), length(reply)))
     }

@@ -4,20 +4,29 @@
 //! a [`Refusal`]; nothing here panics.
 //!
 //! ```
-//! use mschap::{nt_hash, Account, Conversation, Reading, Turn, REPLY_SIZE, RESPONSE_PACKET};
+//! use mschap::{nt_hash, Account, Conversation, Issued, Reading, Refusal, Turn};
+//! use mschap::{REPLY_SIZE, RESPONSE_PACKET};
 //!
 //! let password = b"P\0w\0";
 //! let account = Account { nt_hash: Some(nt_hash(password)?), ..Account::default() };
 //! let mut reply = [0; REPLY_SIZE];
 //! let mut packet = [0; RESPONSE_PACKET];
 //!
+//! // The list of issued challenges, for all boxes: 3 places for each opening with 2 retries.
+//! let mut issued = Issued::new(300);
 //! // An example only: a real challenge is one that nobody can foretell.
-//! let (mut conversation, size) = Conversation::open(1, &[0; 8], None, None, &mut reply)?;
+//! let challenge = [0; 8];
+//! let opening = Conversation::open(1, &challenge, None, None, &mut issued, &mut reply);
+//! let (mut conversation, size) = opening?;
 //! let turn = Turn::read_challenge(&reply[..size])?;
 //! let size = turn.write_response(password, b"DOM\\User", &mut packet)?;
 //! let judged = conversation.step(&packet[..size], Some(&account), &mut reply)?;
 //! assert_eq!(turn.sent().read_reply(&reply[..judged.size])?, Reading::Success);
-//! # Ok::<(), mschap::Refusal>(())
+//!
+//! // Another box cannot issue the same challenge.
+//! let opening = Conversation::open(1, &challenge, None, None, &mut issued, &mut reply);
+//! assert_eq!((opening, issued.used()), (Err(Refusal::Spent), 3));
+//! # Ok::<(), Refusal>(())
 //! ```
 
 #![deny(unsafe_code)]
@@ -27,6 +36,7 @@ mod account;
 mod authenticator;
 mod cipher;
 mod hash;
+mod issued;
 mod peer;
 mod refusal;
 #[allow(unsafe_code)]
@@ -36,6 +46,7 @@ pub use account::Account;
 pub use authenticator::{account_of, domain_of, Awaited, Conversation, Judged};
 pub use cipher::{des_decrypt, des_encrypt, md4, rc4};
 pub use hash::{challenge_response, lm_hash, nt_hash};
+pub use issued::Issued;
 pub use peer::{Call, Reading, Sent, Turn};
 pub use refusal::Refusal;
 
@@ -46,6 +57,8 @@ pub type Hash = [u8; sys::HASH_SIZE];
 /// The octets of a response, without its packet.
 pub type Response = [u8; sys::RESPONSE_SIZE];
 
+/// The most places of a list of issued challenges.
+pub const LIST_PLACES: usize = sys::LIST_PLACES;
 /// The least room for a reply of the authenticator.
 pub const REPLY_SIZE: usize = sys::REPLY_SIZE;
 /// Room for the longest Response.

@@ -32,6 +32,12 @@ pub enum Refusal {
     Filler,
     /// 13: over 7 retries.
     Retries,
+    /// 16: the challenge or one of its successors was issued before.
+    Spent,
+    /// 17: too few places left in the list of issued challenges.
+    ListFull,
+    /// 24: no list of issued challenges. An [`Issued`](crate::Issued) always is one.
+    List,
     /// Any other number. The types here leave no way to it.
     Unexpected(u32),
 }
@@ -53,6 +59,9 @@ impl Refusal {
             Refusal::Reading => 11,
             Refusal::Filler => 12,
             Refusal::Retries => 13,
+            Refusal::Spent => 16,
+            Refusal::ListFull => 17,
+            Refusal::List => 24,
             Refusal::Unexpected(number) => number,
         }
     }
@@ -74,6 +83,9 @@ impl Refusal {
             11 => Refusal::Reading,
             12 => Refusal::Filler,
             13 => Refusal::Retries,
+            16 => Refusal::Spent,
+            17 => Refusal::ListFull,
+            24 => Refusal::List,
             other => Refusal::Unexpected(other),
         })
     }

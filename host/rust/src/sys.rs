@@ -31,6 +31,10 @@ pub const ACCOUNT_SIZE: usize = 38;
 pub const RECORD_SIZE: usize = 39;
 /// Octets of a conversation.
 pub const CONVERSATION_SIZE: usize = 50;
+/// The most places of a list of issued challenges, of [`CHALLENGE_SIZE`] octets each.
+pub const LIST_PLACES: usize = 4096;
+/// The counts beside a list: their number, not their octets.
+pub const COUNTS_SIZE: usize = 256;
 /// Octets of a turn, and of what was sent.
 pub const TURN_SIZE: usize = 9;
 /// Octets of what a reply says.
@@ -100,13 +104,18 @@ pub mod raw {
             response: *mut u8,
             response_size: usize,
         ) -> u32;
-        /// Opens a conversation, and writes its Challenge into reply.
+        /// Opens a conversation, adds its challenges to list, and writes its Challenge into reply.
         pub fn mschap_open(
             identifier: u8,
             challenge: *const u8,
             challenge_size: usize,
             retries: u8,
             lm: u8,
+            list: *mut u8,
+            list_size: usize,
+            used: *mut usize,
+            counts: *mut u16,
+            counts_size: usize,
             conversation: *mut u8,
             conversation_size: usize,
             reply: *mut u8,
@@ -274,16 +283,20 @@ pub fn challenge_response(hash: &[u8], challenge: &[u8], response: &mut [u8]) ->
     }
 }
 
-/// Opens a conversation, and writes its Challenge into reply.
+/// Opens a conversation, adds its challenges to list, and writes its Challenge into reply.
+#[allow(clippy::too_many_arguments)]
 pub fn open(
     identifier: u8,
     challenge: &[u8],
     retries: u8,
     lm: u8,
+    list: &mut [u8],
+    used: &mut usize,
+    counts: &mut [u16],
     conversation: &mut [u8],
     reply: &mut [u8],
 ) -> u32 {
-    // SAFETY: slices, as said above.
+    // SAFETY: slices, as said above, and `used` is a reference of its own.
     unsafe {
         raw::mschap_open(
             identifier,
@@ -291,6 +304,11 @@ pub fn open(
             challenge.len(),
             retries,
             lm,
+            list.as_mut_ptr(),
+            list.len(),
+            used,
+            counts.as_mut_ptr(),
+            counts.len(),
             conversation.as_mut_ptr(),
             conversation.len(),
             reply.as_mut_ptr(),

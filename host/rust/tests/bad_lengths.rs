@@ -1,5 +1,6 @@
 //! Wrong sizes and wrong octets at the C interface: each is answered with 100 before any refusal,
-//! and changes nothing. A run of no octets may have any pointer, the null pointer too.
+//! and changes nothing; a list of issued challenges that is none is refused with 24, and changes
+//! nothing either. A run of no octets may have any pointer, the null pointer too.
 
 use mschap::sys;
 use std::ptr::{null, null_mut};
@@ -44,38 +45,146 @@ fn ciphers_and_hashes() {
     misfits(24, |out| sys::challenge_response(&[0; 16], &challenge, out));
 }
 
-#[test]
-fn openings() {
-    let open = |challenge: &[u8], retries, lm, conversation: &mut [u8], reply: &mut [u8]| {
-        sys::open(7, challenge, retries, lm, conversation, reply)
-    };
-    misfits(8, |challenge| {
-        open(challenge, 2, 1, &mut [0; 50], &mut [0; 17])
-    });
-    misfits(50, |run| open(&[0; 8], 2, 1, run, &mut [0; 17]));
-    misfits(50, |run| open(&[0; 8], 8, 1, run, &mut [0; 16]));
-    for lm in 2..255 {
-        let mut conversation = [FILL; 50];
-        let mut reply = [FILL; 17];
-        let number = open(&[0; 8], 8, lm, &mut conversation, &mut reply);
-        assert_eq!(number, sys::MISFIT, "LM {lm}");
-        assert_eq!((conversation, reply), ([FILL; 50], [FILL; 17]));
+/// A list of issued challenges as it is lent.
+#[derive(Clone, Debug, PartialEq)]
+struct Lent {
+    list: Vec<u8>,
+    used: usize,
+    counts: Vec<u16>,
+}
+
+impl Lent {
+    /// A list whose used places, if it has any, hold octets FILL, as do the others.
+    fn new(places: usize, used: usize) -> Lent {
+        let mut counts = vec![0; sys::COUNTS_SIZE];
+        counts[usize::from(FILL)] = used as u16;
+        Lent {
+            list: vec![FILL; places * sys::CHALLENGE_SIZE],
+            used,
+            counts,
+        }
     }
-    // a refusal leaves both runs alone too
-    for (retries, size, refusal) in [(8, 0, 13), (254, 17, 13), (7, 16, 2), (255, 0, 2)] {
+
+    /// An opening over this list.
+    fn open(
+        &mut self,
+        challenge: &[u8],
+        retries: u8,
+        lm: u8,
+        conversation: &mut [u8],
+        reply: &mut [u8],
+    ) -> u32 {
+        sys::open(
+            7,
+            challenge,
+            retries,
+            lm,
+            &mut self.list,
+            &mut self.used,
+            &mut self.counts,
+            conversation,
+            reply,
+        )
+    }
+
+    /// One opening with this answer, which is not 0: all that was lent is as it was.
+    fn refused(&self, challenge: &[u8], retries: u8, lm: u8, size: usize, answer: u32) {
+        let mut after = self.clone();
         let mut conversation = [FILL; 50];
         let mut reply = vec![FILL; size];
-        let number = open(&[0; 8], retries, 255, &mut conversation, &mut reply);
-        assert_eq!(number, refusal);
+        let number = after.open(challenge, retries, lm, &mut conversation, &mut reply);
+        assert_eq!(number, answer, "retries {retries}, LM {lm}, reply {size}");
+        assert_eq!(&after, self);
         assert_eq!(conversation, [FILL; 50]);
         assert_eq!(reply, vec![FILL; size]);
     }
 }
 
+#[test]
+fn openings() {
+    let fresh = Lent::new(3, 0);
+    // 100 comes before the refusals: of the retries, the reply and the list
+    let unfit = Lent::new(3, 4);
+    for (lent, retries, size) in [(&fresh, 2, 17), (&unfit, 2, 17), (&unfit, 8, 16)] {
+        let open = |challenge: &[u8], conversation: &mut [u8]| {
+            let mut after = lent.clone();
+            let number = after.open(challenge, retries, 1, conversation, &mut vec![0; size]);
+            assert_eq!(&after, lent);
+            number
+        };
+        misfits(8, |challenge| open(challenge, &mut [0; 50]));
+        misfits(50, |conversation| open(&[0; 8], conversation));
+        for lm in 2..255 {
+            lent.refused(&[0; 8], retries, lm, size, sys::MISFIT);
+        }
+    }
+    // a refusal leaves all alone too, and these two come before that of the list
+    for lent in [&fresh, &unfit] {
+        for (retries, size, refusal) in [(8, 0, 13), (254, 17, 13), (7, 16, 2), (255, 0, 2)] {
+            lent.refused(&[0; 8], retries, 255, size, refusal);
+        }
+    }
+}
+
+#[test]
+fn lists() {
+    // whole places only, and 4,096 of them at most
+    for size in (0..=64).chain(32_756..=32_780).chain([65_536]) {
+        let mut lent = Lent::new(0, 0);
+        lent.list.resize(size, FILL);
+        let whole = size % 8 == 0 && size <= 32_768;
+        if !whole {
+            lent.refused(&[0; 8], 2, 1, 17, 24);
+        } else if size < 24 {
+            lent.refused(&[0; 8], 2, 1, 17, 17);
+        } else {
+            let before = lent.clone();
+            let number = lent.open(&[0; 8], 2, 1, &mut [0; 50], &mut [0; 17]);
+            assert_eq!((number, lent.used, lent.counts[0]), (sys::OK, 3, 3));
+            assert_eq!(lent.list[..8], [0; 8]);
+            assert_eq!(lent.list[8..16], [23, 0, 0, 0, 0, 0, 0, 0]);
+            assert_eq!(lent.list[16..24], [46, 0, 0, 0, 0, 0, 0, 0]);
+            assert_eq!(lent.list[24..], before.list[24..]);
+            assert_eq!(lent.counts[1..], before.counts[1..]);
+        }
+    }
+    // more places used than there are
+    for used in [4, 5, 255, 256, 4096, 4097, 65_536, usize::MAX] {
+        Lent::new(3, used).refused(&[0; 8], 2, 1, 17, 24);
+        let mut lent = Lent::new(3, 3);
+        lent.used = used;
+        lent.refused(&[0; 8], 2, 1, 17, 24);
+    }
+    // another number of counts
+    for size in others(sys::COUNTS_SIZE) {
+        for used in [0, 1] {
+            let mut lent = Lent::new(4, used);
+            lent.counts.resize(size, 0);
+            lent.refused(&[0; 8], 2, 1, 17, 24);
+        }
+    }
+    // a count that is not true, and all of them true
+    for octet in 0..sys::COUNTS_SIZE {
+        let mut lent = Lent::new(5, 2);
+        for untrue in [1, 2, 3, 256, 65_535] {
+            let count = lent.counts[octet];
+            lent.counts[octet] = count.wrapping_add(untrue);
+            lent.refused(&[0; 8], 2, 1, 17, 24);
+            lent.counts[octet] = count;
+        }
+        let number = lent.open(&[0; 8], 2, 1, &mut [0; 50], &mut [0; 17]);
+        assert_eq!((number, lent.used), (sys::OK, 5));
+    }
+    // a challenge that was issued before comes before too few places
+    Lent::new(2, 2).refused(&[FILL; 8], 2, 1, 17, 16);
+    Lent::new(2, 2).refused(&[0; 8], 2, 1, 17, 17);
+    Lent::new(3, 1).refused(&[0; 8], 2, 1, 17, 17);
+}
+
 /// A conversation that awaits a Response, and a Response for it.
 fn opened() -> ([u8; 50], Vec<u8>) {
     let mut conversation = [0; 50];
-    let number = sys::open(7, &[0; 8], 2, 1, &mut conversation, &mut [0; 17]);
+    let number = Lent::new(3, 0).open(&[0; 8], 2, 1, &mut conversation, &mut [0; 17]);
     assert_eq!(number, sys::OK);
     let mut packet = vec![0; 55];
     assert_eq!(
@@ -197,10 +306,26 @@ fn null_with_no_octets() {
         assert_eq!(mschap_des_decrypt(n, 0, n, 0, m, 0), sys::MISFIT);
         assert_eq!(mschap_challenge_response(n, 0, n, 0, m, 0), sys::MISFIT);
 
-        assert_eq!(mschap_open(7, n, 0, 2, 1, m, 0, m, 0), sys::MISFIT);
+        let nc = null_mut();
+        let mut used = 0;
+        let u: *mut usize = &mut used;
+        assert_eq!(
+            mschap_open(7, n, 0, 2, 1, m, 0, u, nc, 0, m, 0, m, 0),
+            sys::MISFIT
+        );
         let challenge = [0; 8];
-        let number = mschap_open(7, challenge.as_ptr(), 8, 2, 1, run.as_mut_ptr(), 50, m, 0);
-        assert_eq!((number, run), (2, [FILL; 50]));
+        let mut counts = [0; sys::COUNTS_SIZE];
+        let (q, c, r) = (challenge.as_ptr(), run.as_mut_ptr(), out.as_mut_ptr());
+        let full = counts.as_mut_ptr();
+        // no reply, no counts, no place
+        assert_eq!(mschap_open(7, q, 8, 2, 1, m, 0, u, nc, 0, c, 50, m, 0), 2);
+        assert_eq!(mschap_open(7, q, 8, 2, 1, m, 0, u, nc, 0, c, 50, r, 17), 24);
+        assert_eq!(
+            mschap_open(7, q, 8, 2, 1, m, 0, u, full, 256, c, 50, r, 17),
+            17
+        );
+        assert_eq!((run, out), ([FILL; 50], [FILL; 64]));
+        assert_eq!((used, counts), (0, [0; sys::COUNTS_SIZE]));
         assert_eq!(mschap_step(m, 0, n, 0, n, 0, m, 0, m, 0), sys::MISFIT);
         let record = [0; 39];
         let (c, r, o) = (next.as_mut_ptr(), record.as_ptr(), out.as_mut_ptr());

@@ -27,6 +27,8 @@ fn sizes() {
         ("ACCOUNT_SIZE", sys::ACCOUNT_SIZE),
         ("RECORD_SIZE", sys::RECORD_SIZE),
         ("CONVERSATION_SIZE", sys::CONVERSATION_SIZE),
+        ("LIST_PLACES", sys::LIST_PLACES),
+        ("COUNTS_SIZE", sys::COUNTS_SIZE),
         ("TURN_SIZE", sys::TURN_SIZE),
         ("FIELDS_SIZE", sys::FIELDS_SIZE),
         ("REPLY_SIZE", sys::REPLY_SIZE),
@@ -56,6 +58,9 @@ fn refusals() {
         ("READING", Refusal::Reading),
         ("FILLER", Refusal::Filler),
         ("RETRIES", Refusal::Retries),
+        ("SPENT", Refusal::Spent),
+        ("LIST_FULL", Refusal::ListFull),
+        ("LIST", Refusal::List),
     ];
     for (name, refusal) in refusals {
         let number = refusal.number() as usize;

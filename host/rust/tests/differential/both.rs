@@ -2,8 +2,9 @@
 //! to both.
 
 use crate::random::Random;
-use mschap::{sys, Awaited, Call, Conversation, Reading, Refusal, Turn};
+use mschap::{sys, Awaited, Call, Challenge, Conversation, Issued, Reading, Refusal, Turn};
 use reference::authenticator::{self as their, Phase};
+use reference::issued;
 use reference::message;
 use reference::peer::{self, Verdict};
 
@@ -86,6 +87,81 @@ pub fn account_octets(account: &their::Account, random: &mut Random) -> [u8; sys
         octets[18..34].copy_from_slice(&random.array::<16>());
     }
     octets
+}
+
+/// A list of issued challenges as either is lent it.
+#[derive(Clone, Debug, PartialEq, Eq)]
+pub struct Lent {
+    pub list: Vec<u8>,
+    pub used: usize,
+    pub counts: Vec<u16>,
+}
+
+/// What an opening is lent beside its list and its buffers. 255 stands for the default.
+#[derive(Clone, Copy, Debug)]
+pub struct Terms {
+    pub id: u8,
+    pub challenge: Challenge,
+    pub retries: u8,
+    pub lm: u8,
+}
+
+impl Lent {
+    /// So many places of octets 0, none of them used.
+    pub fn empty(places: usize) -> Lent {
+        Lent {
+            list: vec![0; places * sys::CHALLENGE_SIZE],
+            used: 0,
+            counts: vec![0; sys::COUNTS_SIZE],
+        }
+    }
+
+    /// The used places, which must lie in the list.
+    pub fn octets(&self) -> &[u8] {
+        &self.list[..self.used * sys::CHALLENGE_SIZE]
+    }
+
+    /// An opening of ours over this list.
+    pub fn our_open(&mut self, terms: &Terms, conversation: &mut [u8], reply: &mut [u8]) -> u32 {
+        sys::open(
+            terms.id,
+            &terms.challenge,
+            terms.retries,
+            terms.lm,
+            &mut self.list,
+            &mut self.used,
+            &mut self.counts,
+            conversation,
+            reply,
+        )
+    }
+
+    /// An opening of theirs over this list.
+    pub fn their_open(
+        &mut self,
+        id: u8,
+        challenge: &Challenge,
+        retries: Option<u8>,
+        lm: Option<bool>,
+        reply: &mut [u8],
+    ) -> their::Opening {
+        let mut lent = issued::Issued {
+            list: &mut self.list,
+            used: self.used,
+            counts: &mut self.counts,
+        };
+        let opening = their::open(id, challenge, retries, lm, &mut lent, reply);
+        self.used = lent.used;
+        opening
+    }
+
+    /// A list of ours holds the same.
+    pub fn agrees(&self, ours: &Issued) {
+        let places = self.list.len() / sys::CHALLENGE_SIZE;
+        assert_eq!((ours.places(), ours.used()), (places, self.used));
+        assert_eq!(ours.left(), places - self.used);
+        assert_eq!(ours.octets(), self.octets(), "the issued challenges");
+    }
 }
 
 /// A conversation in both implementations.

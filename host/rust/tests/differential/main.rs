@@ -3,6 +3,7 @@
 
 mod both;
 mod functions;
+mod lists;
 mod packets;
 mod random;
 mod readers;

@@ -1,10 +1,10 @@
 //! Whole series from opening to end: our peer against their box, their peer against our box.
 
-use crate::both::{our_reading, our_turn, plain, their_conversation, Boxes};
+use crate::both::{our_reading, our_turn, plain, their_conversation, Boxes, Lent};
 use crate::packets;
 use crate::random::Random;
 use crate::run::{run, Seen};
-use mschap::{sys, Conversation, Turn};
+use mschap::{sys, Conversation, Issued, Turn};
 use reference::authenticator::{self as their, Account};
 use reference::message::Call;
 use reference::peer::{self, Verdict};
@@ -64,7 +64,7 @@ impl Peers {
     }
 }
 
-/// Opens in both, with the same octets in both buffers.
+/// Opens in both, with the same octets in both buffers, and a list with room for the one opening.
 fn open(random: &mut Random) -> (Boxes, Peers) {
     let id = random.octet();
     let challenge = random.array();
@@ -73,10 +73,15 @@ fn open(random: &mut Random) -> (Boxes, Peers) {
     let size = random.between(17, 40);
     let mut our_reply = random.octets(size);
     let mut their_reply = our_reply.clone();
-    let ours = Conversation::open(id, &challenge, retries, lm, &mut our_reply);
-    let theirs = their::open(id, &challenge, retries, lm, &mut their_reply);
+    let places = usize::from(retries.unwrap_or(their::DEFAULT_RETRIES)) + 1;
+    let mut issued = Issued::new(places);
+    let mut lent = Lent::empty(places);
+    let ours = Conversation::open(id, &challenge, retries, lm, &mut issued, &mut our_reply);
+    let theirs = lent.their_open(id, &challenge, retries, lm, &mut their_reply);
     let (conversation, written) = plain(ours).expect("an opening");
     assert_eq!((0, written), (theirs.refusal, theirs.written));
+    assert_eq!(issued.left(), 0);
+    lent.agrees(&issued);
     assert_eq!(
         our_reply, their_reply,
         "the Challenge and what lies behind it"
@@ -255,33 +260,60 @@ fn series_agree() {
     seen.expect(&["password changed", "later conversation"]);
 }
 
-/// Openings, with retries over the limit and buffers that are too small.
+/// Openings over one list, with retries over the limit, buffers that are too small, challenges that
+/// were issued before and too few places.
 #[test]
 fn openings_agree() {
     let seen = run("openings", 100_000, |random, seen| {
-        let id = random.octet();
-        let challenge = random.array();
-        let retries = match random.below(20) {
-            0..=4 => None,
-            5 => Some(255),
-            6 => Some(random.octet()),
-            _ => Some(random.below(10) as u8),
-        };
-        let lm = random.pick(&[None, Some(false), Some(true)]);
-        let size = random.between(0, 30);
-        let mut ours = random.octets(size);
-        let mut theirs = ours.clone();
-        let answer = plain(Conversation::open(id, &challenge, retries, lm, &mut ours));
-        let opening = their::open(id, &challenge, retries, lm, &mut theirs);
-        assert_eq!(ours, theirs);
-        match answer {
-            Ok((conversation, written)) => {
-                assert_eq!((0, written), (opening.refusal, opening.written));
-                assert_eq!(their_conversation(&conversation), opening.conversation);
+        let places = random.below(16);
+        let mut issued = Issued::new(places);
+        let mut lent = Lent::empty(places);
+        let mut challenge = random.array();
+        for _ in 0..random.between(1, 4) {
+            opening(random, &challenge, &mut issued, &mut lent, seen);
+            match random.below(4) {
+                0 => {}
+                1 => challenge = reference::grown(&challenge),
+                _ => challenge = random.array(),
             }
-            Err(refusal) => assert_eq!(refusal, opening.refusal),
+            if random.chance(5) {
+                issued.empty();
+                lent = Lent::empty(places);
+            }
         }
-        seen.note(format!("opening {}", opening.refusal));
     });
-    seen.expect(&["opening 0", "opening 2", "opening 13"]);
+    for refusal in [0, 2, 13, 16, 17] {
+        seen.expect(&[&format!("opening {refusal}")]);
+    }
+}
+
+fn opening(
+    random: &mut Random,
+    challenge: &[u8; 8],
+    issued: &mut Issued,
+    lent: &mut Lent,
+    seen: &mut Seen,
+) {
+    let id = random.octet();
+    let retries = match random.below(20) {
+        0..=4 => None,
+        5 => Some(255),
+        6 => Some(random.octet()),
+        _ => Some(random.below(10) as u8),
+    };
+    let lm = random.pick(&[None, Some(false), Some(true)]);
+    let mut ours = packets::buffer(random);
+    let mut theirs = ours.clone();
+    let answer = Conversation::open(id, challenge, retries, lm, issued, &mut ours);
+    let opening = lent.their_open(id, challenge, retries, lm, &mut theirs);
+    assert_eq!(ours, theirs);
+    lent.agrees(issued);
+    match plain(answer) {
+        Ok((conversation, written)) => {
+            assert_eq!((0, written), (opening.refusal, opening.written));
+            assert_eq!(their_conversation(&conversation), opening.conversation);
+        }
+        Err(refusal) => assert_eq!(refusal, opening.refusal),
+    }
+    seen.note(format!("opening {}", opening.refusal));
 }
