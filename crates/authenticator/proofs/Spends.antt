@@ -1,9 +1,9 @@
 -- What an opening spends: entries of 8 octets that differ among themselves, and the octets in which the code lends them.
 -- Assumes nothing.
-use mathlib.Core.Bool.{Bool, true, false, _||_}
+use mathlib.Core.Bool.{Bool, true, false, _||_, false≢true}
 use mathlib.Core.List.{List, [], _∷_, _++_, append-nil, flatten}
 use mathlib.Core.Logic.{_≢_}
-use mathlib.Core.Path.{_≡_, refl, sym, ap, ap₂, _∙_}
+use mathlib.Core.Path.{_≡_, refl, sym, ap, ap₂, _∙_, subst}
 use Prim.Native.Nat.{ℕ, zero, suc, _+_, _-_, _*_, _/_, _%_, _≤_, _<_}
 use native.Mathlib.Nat.{div-add-mod'}
 use native.Mathlib.Omega.{arith}
@@ -11,6 +11,8 @@ use borrow.Author.Tests.{ne-eqb}
 use lib.Dec.{eqb}
 use lib.ListN.{length, take}
 use Rattle.octets.specs.Parts.{part, agrees}
+use Rattle.octets.proofs.Parts.{agrees-equal}
+use Rattle.octets.proofs.Numbers.{Octets}
 use Rattle.issued.specs.Issued.{entries, entriesIn, holds}
 use Rattle.issued.proofs.Listing.{Wide, length-flatten, entries-flatten}
 use Rattle.packets.specs.Next.{grown, succession}
@@ -50,6 +52,22 @@ unfolding succession
 succession-different zero x xs h = tt
 succession-different (suc n) x xs h =
     (others n 1 x ((x + 23) % 256) xs (omega arith) (omega arith) (omega arith), succession-different n ((x + 23) % 256) xs (omega arith))
+
+-- ---- each is eight octets
+
+grown-octets : (c : List ℕ) → Octets c → Octets (grown c)
+grown-octets [] h i = h i
+grown-octets (x ∷ c) h zero = omega arith
+grown-octets (x ∷ c) h (suc i) = h (suc i)
+
+pub succession-octets : (n : ℕ) (c x : List ℕ) → length c ≡ 8 → Octets c → holds (succession n c) x ≡ true → (length x ≡ 8) × Octets x
+unfolding succession holds
+succession-octets zero c x e o h = absurd (false≢true h)
+succession-octets (suc n) c x e o h = which (agrees c x) refl (succession-octets n (grown c) x (length-grown c ∙ e) (grown-octets c o))
+  where
+    which : (t : Bool) → agrees c x ≡ t → (holds (succession n (grown c)) x ≡ true → (length x ≡ 8) × Octets x) → (length x ≡ 8) × Octets x
+    which true p next = subst (λ (l : List ℕ). (length l ≡ 8) × Octets l) (agrees-equal c x p) (e, o)
+    which false p next = next (sym (ap (λ (t : Bool). t || holds (succession n (grown c)) x) p) ∙ h)
 
 -- ---- as the code lends them
 

@@ -14,9 +14,10 @@ use lib.Seq.{take-all, drop-at, take-at}
 use Rattle.octets.specs.Parts.{part, fixed}
 use Rattle.octets.specs.Numbers.{fromLe, toLe}
 use Rattle.octets.proofs.Parts.{over-fills, length-fixed}
-use Rattle.octets.proofs.Numbers.{length-toLe, fromLe-toLe}
+use Rattle.octets.proofs.Numbers.{Octets, length-toLe, fromLe-toLe}
 use Rattle.md4.proofs.Laws.{length-md4}
-use Rattle.des.specs.Des.{desEncrypt}
+use Rattle.des.specs.Des.{desEncrypt, desDecrypt, desThree}
+use Rattle.des.proofs.RoundTrip.{decrypt-encrypt}
 use Rattle.des.proofs.Sizes.{length-encrypt, length-three}
 use Rattle.rc4.specs.Rc4.{crypted}
 use Rattle.rc4.proofs.Laws.{crypted-twice, length-crypted}
@@ -44,6 +45,20 @@ two-blocks key₁ block₁ key₂ block₂ =
 pub length-response : (hash challenge : List ℕ) → length (responseOf hash challenge) ≡ 24
 unfolding responseOf
 length-response hash challenge = length-three (fixed 21 hash) challenge
+
+-- a hash answers no two challenges alike: the first block of the response tells the challenge
+pub response-tells : (hash c d : List ℕ) → length c ≡ 8 → Octets c → length d ≡ 8 → Octets d → responseOf hash c ≡ responseOf hash d → c ≡ d
+unfolding responseOf desThree
+response-tells hash c d n o m p e =
+    let k = part 0 7 (fixed 21 hash) in
+    sym (decrypt-encrypt k c n o) ∙ ap (desDecrypt k) (sym (first c) ∙ ap (take 8) e ∙ first d) ∙ decrypt-encrypt k d m p
+  where
+    first : (x : List ℕ)
+        → take 8 (desEncrypt (part 0 7 (fixed 21 hash)) x ++ (desEncrypt (part 7 7 (fixed 21 hash)) x ++ desEncrypt (part 14 7 (fixed 21 hash)) x))
+        ≡ desEncrypt (part 0 7 (fixed 21 hash)) x
+    first x =
+        take-at (desEncrypt (part 0 7 (fixed 21 hash)) x) (desEncrypt (part 7 7 (fixed 21 hash)) x ++ desEncrypt (part 14 7 (fixed 21 hash)) x) 8
+        (length-encrypt (part 0 7 (fixed 21 hash)) x)
 
 pub length-old-under-new : (old new : List ℕ) → length (oldUnderNew old new) ≡ 16
 unfolding oldUnderNew

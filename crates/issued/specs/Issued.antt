@@ -5,7 +5,7 @@ use mathlib.Core.Bool.{Bool, true, false, cond, not, _||_}
 use mathlib.Core.List.{List, [], _∷_, _++_, flatten}
 use Prim.Native.Nat.{ℕ, zero, suc, _+_, _-_, _*_, _/_, _%_}
 use lib.Dec.{eqb, ltb}
-use lib.ListN.{length, take, drop, getD}
+use lib.ListN.{length, take, drop, replicate, getD}
 use Rattle.octets.specs.Parts.{overAt, agrees}
 
 -- What is lent: the buffer, how many of its places are used, and the counts.
@@ -61,6 +61,10 @@ endings x (suc n) es = ending x es ∷ endings (suc x) n es
 -- the "256 counts"
 abbrev pub countsOf : List (List ℕ) → List ℕ
 countsOf es = endings 0 256 es
+
+-- an empty list of n places
+abbrev pub emptyList : ℕ → ℕ → Issued
+emptyList w n = record { buffer = replicate (w * n) 0; used = 0; counts = replicate 256 0 }
 
 -- ---- spending
 

@@ -8,3 +8,4 @@ pub mod Twelve
 pub mod Sample
 pub mod Witness
 pub mod Wrong
+pub mod OneList

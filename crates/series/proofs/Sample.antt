@@ -9,7 +9,10 @@ use Prim.Native.Nat.{ℕ}
 use native.Mathlib.Omega.{arith}
 use lib.Dec.{eqb}
 use lib.ListN.{replicate}
+use Rattle.octets.specs.Parts.{agrees}
+use Rattle.issued.specs.Issued.{holds, meets, ending, endings, emptyList, badBuffer, spendRefusal}
 use Rattle.credentials.specs.Credentials.{ntHashOf}
+use Rattle.packets.specs.Next.{succession}
 use Rattle.packets.specs.Response.{responseIn, responseWriteRefusal}
 use Rattle.packets.specs.Change.{changeWriteRefusal}
 use Rattle.packets.specs.declared.Response as fields
@@ -28,16 +31,24 @@ use Rattle.series.specs.Series.{Packet, invalid, right, renewal, Lending
 
 -- ---- openings, passwords, records
 
--- identifier 255 and a challenge that begins with E9, so that both next over their octet
+-- identifier 255 and a challenge that begins with E9, so that both next over their octet; an empty list of three places
 abbrev pub opening : Retries → Opening
-opening r = record { id = 255; challenge = 0xE9 ∷ 2 ∷ 3 ∷ 4 ∷ 5 ∷ 6 ∷ 7 ∷ 8 ∷ []; retries = r; lm = Disallowed; buffer = replicate 17 0 }
+opening r =
+    record {
+      id = 255;
+      challenge = 0xE9 ∷ 2 ∷ 3 ∷ 4 ∷ 5 ∷ 6 ∷ 7 ∷ 8 ∷ [];
+      retries = r;
+      lm = Disallowed;
+      issued = emptyList 8 3;
+      buffer = replicate 17 0;
+    }
 
 pub opens-default : opened (opening Default) .refusal ≡ 0
-unfolding opened openRefusal
+unfolding opened openRefusal spendRefusal badBuffer agrees ending endings holds meets succession
 opens-default = refl
 
 pub opens-once : opened (opening (Count 1)) .refusal ≡ 0
-unfolding opened openRefusal
+unfolding opened openRefusal spendRefusal badBuffer agrees ending endings holds meets succession
 opens-once = refl
 
 -- "MyPw", "bad" and "MyNewPw"

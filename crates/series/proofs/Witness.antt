@@ -7,6 +7,9 @@ use mathlib.Core.Path.{_≡_, refl, sym, _∙_}
 use Prim.Native.Nat.{ℕ, _<_}
 use native.Mathlib.Omega.{arith}
 use lib.ListN.{take, replicate}
+use Rattle.octets.specs.Parts.{agrees}
+use Rattle.issued.specs.Issued.{holds, meets, ending, endings, emptyList, badBuffer, spendRefusal}
+use Rattle.packets.specs.Next.{succession}
 use Rattle.authenticator.specs.Account.{blank, noRecord, found}
 use Rattle.authenticator.specs.Conversation.{isEnded}
 use Rattle.authenticator.specs.Opening.{Opening, openRefusal, opened}
@@ -104,10 +107,11 @@ lets-in : LetsIn ourBox handed new
 lets-in = claimed .0 .1 .1 .1 .1 .1 .0 .2
 
 abbrev laterOpening : Opening
-laterOpening = record { id = 0; challenge = replicate 8 1; retries = Default; lm = Silent; buffer = replicate 17 0 }
+laterOpening =
+    record { id = 0; challenge = replicate 8 1; retries = Default; lm = Silent; issued = emptyList 8 3; buffer = replicate 17 0 }
 
 later-opens : opened laterOpening .refusal ≡ 0
-unfolding opened openRefusal
+unfolding opened openRefusal spendRefusal badBuffer agrees ending endings holds meets succession
 later-opens = refl
 
 pub later-success : DrawsSuccess (exchange ourBox (later ourBox laterOpening [] (short ∷ [])) (right new user) (line 55 (found handed))) 0

@@ -15,7 +15,7 @@ use Rattle.packets.specs.Frame.{octet}
 use Rattle.packets.specs.Response.{responseIn, responseRefusal}
 use Rattle.packets.specs.Reply.{successPacket, failurePacket}
 use Rattle.authenticator.specs.Account.{noRecord, found}
-use Rattle.authenticator.specs.Opening.{openRefusal, opened}
+use Rattle.authenticator.specs.Opening.{firstConversation, opened}
 use Rattle.authenticator.specs.Refusal.{refusalOf}
 use Rattle.authenticator.specs.Response.{version, valid, firstReason, reasonOf, afterReason, replyFor, responseDrawn}
 use Rattle.authenticator.specs.Step.{Outcome, judgedAs, drawn, step}
@@ -24,6 +24,7 @@ use Rattle.authenticator.specs.declared.Account.{Account}
 use Rattle.authenticator.specs.declared.Conversation.{Conversation}
 use Rattle.authenticator.specs.declared.Lookup.{Lookup}
 use Rattle.authenticator.specs.declared.Retries.the-variants.{Default, Count}
+use Rattle.authenticator.proofs.Openings.{opened-first}
 use Rattle.authenticator.proofs.Steps.{refused-whole, reply-of}
 use Rattle.authenticator.proofs.Written.{Fits, success-fits, failure-fits}
 use Rattle.series.specs.Course.{total}
@@ -70,12 +71,19 @@ module _ (d : Judge) where
       ap (octet 0) (sym (reply-of (d c s) (s .buffer) (omega (arith, fits .1))))
       ∙ ap (λ (o : Outcome). octet 0 (replyOf o)) (sym (drew c s e pos)) ∙ e
 
+-- the sample's opening is not refused
+first-default : opened (opening Default) .conversation ≡ firstConversation (opening Default)
+first-default = opened-first (opening Default) opens-default
+
 -- ---- 691 always
 
 -- for a Response that a first conversation judges with no record
+none-first : (p : List ℕ) → drawn (firstConversation (opening Default)) p noRecord .reply ≡ failurePacket 255 (textOf 691 1 version)
+unfolding drawn responseDrawn reasonOf firstReason
+none-first p = refl
+
 none-drawn : (p : List ℕ) → drawn (opened (opening Default) .conversation) p noRecord .reply ≡ failurePacket 255 (textOf 691 1 version)
-unfolding opened openRefusal drawn responseDrawn reasonOf firstReason
-none-drawn p = refl
+none-drawn p = ap (λ (c : Conversation). drawn c p noRecord .reply) first-default ∙ none-first p
 
 pub not-finding : Demand3 (judging findsNone) → ⊥
 not-finding h =
@@ -103,10 +111,12 @@ not-accepting h =
 -- ---- pretends on retries
 
 -- the first invalid try leaves one retry
-one-left : (p b : List ℕ)
-    → pretends 2 (opened (opening Default) .conversation) (record { packet = p; account = noRecord; buffer = b }) .next .retries ≡ 1
-unfolding opened openRefusal drawn responseDrawn reasonOf firstReason
-one-left p b = refl
+one-first : (s : Lent) → s .account ≡ noRecord → pretends 2 (firstConversation (opening Default)) s .next .retries ≡ 1
+unfolding drawn responseDrawn reasonOf firstReason
+one-first s e = rw e
+
+one-left : (s : Lent) → s .account ≡ noRecord → pretends 2 (opened (opening Default) .conversation) s .next .retries ≡ 1
+one-left s e = ap (λ (c : Conversation). pretends 2 c s .next .retries) first-default ∙ one-first s e
 
 -- the second one draws Success
 pub not-pretending : Demand3 (judging (pretends 2)) → ⊥
@@ -121,7 +131,7 @@ not-pretending h =
     let s = exchange box p (invalid bad user) (line 60 noRecord) .lent in
     let t = exchange box q (invalid bad user) (line 60 noRecord) .lent in
     let first = drew (pretends 2) (p .conversation) s (ap (octet 0) (all .0 .0 .0) ∙ failure-code _ (textOf 691 1 version)) (omega arith) in
-    let left = ap (λ (o : Outcome). o .answer .next .retries) first ∙ one-left (s .packet) (s .buffer) in
+    let left = ap (λ (o : Outcome). o .answer .next .retries) first ∙ one-left s refl in
     let pretended = ap (λ (n : ℕ). cond (ltb n 2) (accepts (q .conversation) t) (drawn (q .conversation) (t .packet) noRecord) .reply) left in
     let code = code-drawn (pretends 2) (q .conversation) t (subst Fits (sym pretended) (success-fits (q .conversation .id))) (omega arith)
     (ap (octet 0) (all .0 .1 .0 .0) ∙ failure-code _ (textOf 691 1 version)) (omega arith) in
@@ -130,18 +140,25 @@ not-pretending h =
 -- ---- the change leaves the record
 
 -- what a first conversation draws for an expired record, valid or not: a Failure, and with 648 the record is kept
-expired-drawn : (p : List ℕ) → let d = drawn (opened (opening Default) .conversation) p (found (account true)) in
+abbrev Expired : Conversation → List ℕ → Type 0
+Expired c p =
+    let d = drawn c p (found (account true)) in
     Fits (d .reply) × (octet 0 (d .reply) ≡ 4) × (octet 7 (d .reply) ≡ 52 → d .next .kept ≡ account true)
-unfolding opened openRefusal drawn responseDrawn reasonOf firstReason failurePacket textOf hexOf
-expired-drawn p = which (valid (opened (opening Default) .conversation) (account true) (responseIn p))
+
+expired-first : (p : List ℕ) → Expired (firstConversation (opening Default)) p
+unfolding drawn responseDrawn reasonOf firstReason failurePacket textOf hexOf
+expired-first p = which (valid (firstConversation (opening Default)) (account true) (responseIn p))
   where
     c : Conversation
-    c = opened (opening Default) .conversation
+    c = firstConversation (opening Default)
 
     which : (v : Bool) → let e = firstReason v (account true) in
         Fits (replyFor c e) × (octet 0 (replyFor c e) ≡ 4) × (octet 7 (replyFor c e) ≡ 52 → afterReason c (account true) e .kept ≡ account true)
     which true = (failure-fits 255 648 0 version, refl, λ h. refl)
     which false = (failure-fits 255 691 1 version, refl, λ h. absurd (omega arith))
+
+expired-drawn : (p : List ℕ) → Expired (opened (opening Default) .conversation) p
+expired-drawn p = subst (λ (c : Conversation). Expired c p) (sym first-default) (expired-first p)
 
 -- the octet of E's second digit: 648
 four-of : (id : ℕ) → octet 7 (failurePacket id (textOf 648 0 version)) ≡ 52
@@ -193,9 +210,14 @@ abbrev tries : List Lent
 tries = try 255 ∷ try 0 ∷ try 1 ∷ try 2 ∷ []
 
 -- with r = 1, all four are judged
-four : total (nextAfter (judging neverCounts)) (judged (judging neverCounts)) (opened (opening (Count 1)) .conversation) tries ≡ 4
-unfolding opened openRefusal refusalOf responseRefusal step drawn responseDrawn reasonOf firstReason failurePacket textOf
+abbrev judgedOf : Conversation → ℕ
+judgedOf c = total (nextAfter (judging neverCounts)) (judged (judging neverCounts)) c tries
+
+four : judgedOf (firstConversation (opening (Count 1))) ≡ 4
+unfolding refusalOf responseRefusal step drawn responseDrawn reasonOf firstReason failurePacket textOf
 four = refl
 
 pub not-counting : Demand3 (judging neverCounts) → ⊥
-not-counting h = let most = h (opening (Count 1)) opens-once refl .2 tries in omega (arith, four)
+not-counting h =
+    let most = h (opening (Count 1)) opens-once refl .2 tries in
+    omega (arith, ap judgedOf (opened-first (opening (Count 1)) opens-once) ∙ four)

@@ -2,3 +2,4 @@ pub mod Course
 pub mod Series
 pub mod Boxes
 pub mod Twelve
+pub mod OneList

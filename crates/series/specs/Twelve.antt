@@ -13,6 +13,7 @@ use Rattle.message.specs.Message.{readMessage}
 use Rattle.message.specs.declared.Given.{Given}
 use Rattle.message.specs.declared.Verdict.{Verdict}
 use Rattle.message.specs.declared.Verdict.the-variants.{Success, Failure, Refused}
+use Rattle.issued.specs.Issued.{emptyList}
 use Rattle.packets.specs.Next.{nextId, grown}
 use Rattle.authenticator.specs.Account.{noRecord}
 use Rattle.authenticator.specs.Opening.{Opening, firstConversation, opened, openedBuffer}
@@ -42,8 +43,10 @@ pub data Output : Type 0 where
   password : Option ℕ → Output
   fields : ℕ → ℕ → Option (List ℕ) → ℕ → Output
 
+-- lent an empty list with a place for each of its three challenges
 abbrev openingOf : ℕ → List ℕ → Opening
-openingOf id c = record { id = id; challenge = c; retries = Default; lm = Silent; buffer = replicate 17 0 }
+openingOf id c =
+    record { id = id; challenge = c; retries = Default; lm = Silent; issued = emptyList 8 3; buffer = replicate 17 0 }
 
 -- the refusal's number, or the reply
 abbrev drawnAs : kinds.Kind → Outcome → Output

@@ -1,0 +1,112 @@
+-- Many boxes on one list: no challenge is put in force by two openings, and no recorded Response is valid in two conversations.
+-- Assumes nothing.
+use mathlib.Core.Bool.{Bool, true, false, cond, _&&_, false≢true}
+use mathlib.Core.List.{List, [], _∷_, _++_}
+use mathlib.Core.Logic.{_≢_}
+use mathlib.Core.Path.{_≡_, refl, sym, ap, _∙_, subst}
+use Prim.Native.Nat.{ℕ}
+use lib.Dec.{eqb}
+use lib.ListN.{length}
+use Rattle.octets.specs.Parts.{agrees}
+use Rattle.octets.proofs.Parts.{agrees-equal}
+use Rattle.octets.proofs.Numbers.{Octets}
+use Rattle.issued.specs.Issued.{Issued, listed, holds}
+use Rattle.issued.proofs.Listing.{not-met}
+use Rattle.credentials.specs.Credentials.{responseOf}
+use Rattle.credentials.proofs.Laws.{response-tells}
+use Rattle.packets.specs.declared.Response.{Response}
+use Rattle.authenticator.specs.Account.{answers}
+use Rattle.authenticator.specs.Opening.{Opening, spends, firstConversation, opened, openedIssued}
+use Rattle.authenticator.specs.Response.{valid}
+use Rattle.authenticator.specs.Steps.{Lent, stepOn, nextAfter}
+use Rattle.authenticator.specs.declared.Account.{Account}
+use Rattle.authenticator.specs.declared.Conversation.{Conversation}
+use Rattle.authenticator.specs.declared.Hash.{Hash}
+use Rattle.authenticator.proofs.Spends.{succession-octets}
+use Rattle.authenticator.proofs.Openings.{opened-first, opened-fresh, opened-holds, opened-keeps}
+use Rattle.authenticator.proofs.InForce.{Still, now-in-force, step-still}
+use Rattle.series.specs.Course.{end, Along}
+use Rattle.series.specs.OneList.{leaves, LentTo, OnOneList, Two, reached, NoneTwice, NoneAnsweredTwice}
+
+-- ---- what a conversation can put in force is what its opening spent
+
+still-all : (c : Conversation) (ss : List Lent) (x : List ℕ) → Still (end (nextAfter stepOn) c ss) x → Still c x
+still-all c [] x h = h
+still-all c (s ∷ ss) x h = step-still c s x (still-all (nextAfter stepOn c s) ss x h)
+
+reached-spent : (o : Opening) → opened o .refusal ≡ 0 → (ss : List Lent) → holds (spends o) (reached o ss .challenge) ≡ true
+reached-spent o ok ss =
+    subst (λ (c : Conversation). Still c (reached o ss .challenge)) (opened-first o ok)
+    (still-all (opened o .conversation) ss (reached o ss .challenge) (now-in-force (reached o ss)))
+
+-- ---- what stands in the list stays there
+
+along-behind : {S M : Type 0} (next : S → M → S) (P : S → M → Type 0) (s : S) (ms ns : List M) → Along next P s (ms ++ ns) → Along next P (end next s ms) ns
+along-behind next P s [] ns h = h
+along-behind next P s (m ∷ ms) ns h = along-behind next P (next s m) ms ns (h .1)
+
+listed-stays : (i : Issued) (os : List Opening) (p : Opening) (after : List Opening) (x : List ℕ) → OnOneList i (os ++ (p ∷ after)) → holds (listed 8 i) x ≡ true
+    → holds (listed 8 (p .issued)) x ≡ true
+listed-stays i [] p after x h e = subst (λ (j : Issued). holds (listed 8 j) x ≡ true) (sym (h .0 .list)) e
+listed-stays i (o ∷ os) p after x h e =
+    listed-stays (openedIssued o) os p after x (h .1) (opened-keeps o (h .0 .eight) x (subst (λ (j : Issued). holds (listed 8 j) x ≡ true) (sym (h .0 .list)) e))
+
+module _ (i : Issued) (first second : Opening) (two : Two i first second) where
+  from-first : Along leaves LentTo (end leaves i (two .before)) (first ∷ two .between ++ (second ∷ two .after))
+  from-first = along-behind leaves LentTo i (two .before) (first ∷ two .between ++ (second ∷ two .after)) (two .run)
+
+  of-second : Along leaves LentTo (end leaves (openedIssued first) (two .between)) (second ∷ two .after)
+  of-second = along-behind leaves LentTo (openedIssued first) (two .between) (second ∷ two .after) (from-first .1)
+
+  -- what the first opening spent, the second did not
+  apart : (x : List ℕ) → holds (spends first) x ≡ true → holds (spends second) x ≡ true → ⊥
+  apart x h k =
+      let there = listed-stays (openedIssued first) (two .between) second (two .after) x (from-first .1) (opened-holds first (from-first .0 .eight) (two .opened-first) x h) in
+      false≢true (sym (not-met (spends second) (listed 8 (second .issued)) x (opened-fresh second (two .opened-second)) k) ∙ there)
+
+  never : (ss ts : List Lent) → reached first ss .challenge ≢ reached second ts .challenge
+  never ss ts e =
+      apart (reached first ss .challenge) (reached-spent first (two .opened-first) ss)
+      (subst (λ (x : List ℕ). holds (spends second) x ≡ true) (sym e) (reached-spent second (two .opened-second) ts))
+
+  -- ---- a recorded Response
+
+  eight-octets : (o : Opening) → length (o .challenge) ≡ 8 → Octets (o .challenge) → opened o .refusal ≡ 0 → (ss : List Lent)
+      → (length (reached o ss .challenge) ≡ 8) × Octets (reached o ss .challenge)
+  eight-octets o e k ok ss = succession-octets _ (o .challenge) (reached o ss .challenge) e k (reached-spent o ok ss)
+
+  answered-once : (ss ts : List Lent) (h : Hash) (r : List ℕ) → answers h (reached first ss .challenge) r ≡ true → answers h (reached second ts .challenge) r ≡ true → ⊥
+  unfolding answers
+  answered-once ss ts h r p q = which (h .present) p q
+    where
+      same : (t u : List ℕ) → agrees r t ≡ true → agrees r u ≡ true → t ≡ u
+      same t u p q = sym (agrees-equal r t p) ∙ agrees-equal r u q
+
+      which : (t : Bool) → (t && agrees r (responseOf (h .octets) (reached first ss .challenge))) ≡ true → (t && agrees r (responseOf (h .octets) (reached second ts .challenge))) ≡ true → ⊥
+      which true p q =
+          let a = eight-octets first (from-first .0 .eight) (from-first .0 .octets) (two .opened-first) ss in
+          let b = eight-octets second (of-second .0 .eight) (of-second .0 .octets) (two .opened-second) ts in
+          never ss ts (response-tells (h .octets) (reached first ss .challenge) (reached second ts .challenge) (a .0) (a .1) (b .0) (b .1)
+          (same (responseOf (h .octets) (reached first ss .challenge)) (responseOf (h .octets) (reached second ts .challenge)) p q))
+      which false p q = false≢true p
+
+  valid-once : (ss ts : List Lent) (a : Account) (f : Response) → valid (reached first ss) a f ≡ true → valid (reached second ts) a f ≡ false
+  unfolding valid
+  valid-once ss ts a f v = by (valid (reached second ts) a f) refl
+    where
+      which : (t u w : Bool) → cond t (answers (a .nt) (reached first ss .challenge) (f .nt)) (u && answers (a .lm) (reached first ss .challenge) (f .lm)) ≡ true
+          → cond t (answers (a .nt) (reached second ts .challenge) (f .nt)) (w && answers (a .lm) (reached second ts .challenge) (f .lm)) ≡ true → ⊥
+      which true u w p q = answered-once ss ts (a .nt) (f .nt) p q
+      which false true true p q = answered-once ss ts (a .lm) (f .lm) p q
+      which false true false p q = false≢true q
+      which false false w p q = false≢true p
+
+      by : (t : Bool) → valid (reached second ts) a f ≡ t → t ≡ false
+      by true e = absurd (which (eqb (f .flag) 1 && a .nt .present) (reached first ss .terms .lm) (reached second ts .terms .lm) v e)
+      by false e = refl
+
+pub none-twice : NoneTwice
+none-twice i first second two ss ts = never i first second two ss ts
+
+pub none-answered-twice : NoneAnsweredTwice
+none-answered-twice i first second two ss ts a f = valid-once i first second two ss ts a f

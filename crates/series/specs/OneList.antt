@@ -1,0 +1,56 @@
+-- Many boxes on one list (document 02, request 2026-03): "One controller now lends all forty boxes the same list."
+-- Assumes nothing: these are definitions.
+use mathlib.Core.Bool.{true, false}
+use mathlib.Core.List.{List, [], _∷_, _++_}
+use mathlib.Core.Logic.{_≢_}
+use mathlib.Core.Path.{_≡_}
+use Prim.Native.Nat.{ℕ, _<_}
+use lib.ListN.{length, getD}
+use Rattle.issued.specs.Issued.{Issued}
+use Rattle.packets.specs.declared.Response.{Response}
+use Rattle.authenticator.specs.Opening.{Opening, opened, openedIssued}
+use Rattle.authenticator.specs.Response.{valid}
+use Rattle.authenticator.specs.Steps.{Lent, nextAfter}
+use Rattle.authenticator.specs.declared.Account.{Account}
+use Rattle.authenticator.specs.declared.Conversation.{Conversation}
+use Rattle.series.specs.Course.{end, Along}
+use Rattle.series.specs.Boxes.{ourBox}
+
+-- the list that an opening leaves
+abbrev pub leaves : Issued → Opening → Issued
+leaves i o = openedIssued o
+
+-- an opening is lent the list as the one before it left it, and a challenge of eight octets
+pub record LentTo (i : Issued) (o : Opening) : Type 0 where
+  pub list : o .issued ≡ i
+  pub eight : length (o .challenge) ≡ 8
+  pub octets : (k : ℕ) → getD (o .challenge) k 0 < 256
+
+-- A run of openings, of any boxes, on one list that nobody empties. What the boxes do between them does not touch the list.
+abbrev pub OnOneList : Issued → List Opening → Type 0
+OnOneList i os = Along leaves LentTo i os
+
+-- two openings of a run that were not refused, one before the other
+pub record Two (i : Issued) (first second : Opening) : Type 0 where
+  pub before : List Opening
+  pub between : List Opening
+  pub after : List Opening
+  pub run : OnOneList i (before ++ (first ∷ between ++ (second ∷ after)))
+  pub opened-first : opened first .refusal ≡ 0
+  pub opened-second : opened second .refusal ≡ 0
+
+-- the conversation that an opening and any steps after it led to
+abbrev pub reached : Opening → List Lent → Conversation
+reached o ss = end (nextAfter ourBox) (opened o .conversation) ss
+
+-- No challenge that one opening can put in force, its own or a retry's, is ever put in force by another: whatever packets, records and buffers the
+-- two conversations were lent.
+abbrev pub NoneTwice : Type 0
+NoneTwice =
+    (i : Issued) (first second : Opening) → Two i first second → (ss ts : List Lent) → reached first ss .challenge ≢ reached second ts .challenge
+
+-- So one recorded answer opens no second box: a Response that is valid in one conversation is not valid in another for the same account.
+abbrev pub NoneAnsweredTwice : Type 0
+NoneAnsweredTwice =
+    (i : Issued) (first second : Opening) → Two i first second → (ss ts : List Lent) (a : Account) (f : Response)
+    → valid (reached first ss) a f ≡ true → valid (reached second ts) a f ≡ false
