@@ -12,13 +12,13 @@ use Rattle.credentials.specs.declared.Content.{Content}
 use Rattle.credentials.specs.declared.Content.the-variants.{Over, Odd, Password}
 use Rattle.credentials.specs.declared.Unsealed as blocks
 use Rattle.credentials.proofs.Laws.{length-nt}
-use Rattle.packets.specs.Next.{grown}
+use Rattle.packets.proofs.Growing.{length-grown}
 use Rattle.packets.specs.Response.{responseIn}
 use Rattle.packets.specs.Change.{changeIn}
 use Rattle.packets.specs.declared.Change as changes
 use Rattle.authenticator.specs.Account.{blank}
 use Rattle.authenticator.specs.Conversation.{ended, retried, closed}
-use Rattle.authenticator.specs.Opening.{Opening, openRefusal, firstConversation, openingPacket, opened}
+use Rattle.authenticator.specs.Opening.{Opening, openRefusal, openedIssued, firstConversation, openingPacket, opened}
 use Rattle.authenticator.specs.Refusal.{refusalOf}
 use Rattle.authenticator.specs.Response.{Drawn, mayRetry, reasonOf, afterReason, responseDrawn}
 use Rattle.authenticator.specs.Change.{hashInside, hashIn, proves, proven, newHash, drawnBy, changeDrawn}
@@ -30,7 +30,7 @@ use Rattle.authenticator.specs.declared.Opened as openings
 use Rattle.authenticator.specs.declared.Phase.{Phase}
 use Rattle.authenticator.specs.declared.Phase.the-variants.{Response, Change, Ended}
 use Rattle.mschap.specs.Layout.{conversationRun, conversationIn, recordRun, recordIn, isConversation, isRecord}
-use Rattle.mschap.specs.Conversations.{openingFor, stepOf}
+use Rattle.mschap.specs.Conversations.{stepOf}
 use Rattle.octets.specs.Parts.{part}
 use Rattle.mschap.proofs.RoundTrip.{SizedAccount, SizedConversation, account-sized, conversation-sized, conversation-fits, record-fits}
 
@@ -38,10 +38,6 @@ use Rattle.mschap.proofs.RoundTrip.{SizedAccount, SizedConversation, ac
 
 blank-sized : SizedAccount blank
 blank-sized = record { nt = refl; lm = refl }
-
-length-grown : (l : List ℕ) → length (grown l) ≡ length l
-length-grown [] = refl
-length-grown (x ∷ l) = refl
 
 choice-sized : (b : Bool) {x y : Conversation} → SizedConversation x → SizedConversation y → SizedConversation (cond b x y)
 choice-sized true s t = s
@@ -128,12 +124,11 @@ opened-sized o e = by (eqb (openRefusal o) 0)
   where
     by : (k : Bool)
         → SizedConversation
-        (cond {A = openings.Opened} k (record { refusal = 0; conversation = firstConversation o; written = length (openingPacket o) })
-        (record { refusal = openRefusal o; conversation = closed; written = 0 }) .conversation)
+        (cond {A = openings.Opened} k
+        (record { refusal = 0; conversation = firstConversation o; written = length (openingPacket o); used = openedIssued o .used })
+        (record { refusal = openRefusal o; conversation = closed; written = 0; used = o .issued .used }) .conversation)
     by true = record { challenge = e; kept = blank-sized }
     by false = record { challenge = refl; kept = blank-sized }
 
-pub open-fits : (id retries lm : ℕ) (challenge reply : List ℕ) → length challenge ≡ 8
-    → isConversation (conversationRun (opened (openingFor id challenge retries lm reply) .conversation)) ≡ true
-open-fits id retries lm challenge reply e =
-    conversation-fits (opened (openingFor id challenge retries lm reply) .conversation) (opened-sized (openingFor id challenge retries lm reply) e)
+pub open-fits : (o : Opening) → length (o .challenge) ≡ 8 → isConversation (conversationRun (opened o .conversation)) ≡ true
+open-fits o e = conversation-fits (opened o .conversation) (opened-sized o e)

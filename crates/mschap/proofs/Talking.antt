@@ -1,13 +1,15 @@
 -- What the opening and the step answer and leave, from what their calls answer.
 -- Assumes nothing.
-use mathlib.Core.Path.{_≡_, refl, sym, ap, _∙_}
+use mathlib.Core.Path.{_≡_, refl, sym, ap, _∙_, subst}
 use mathlib.Core.Bool.{Bool, true, false}
 use mathlib.Core.List.{List}
 use Prim.Native.Nat.{ℕ}
 use borrow.Author.Tests.{eq-eqb}
 use lib.Dec.{eqb}
 use lib.ListN.{length}
-use Rattle.authenticator.specs.Opening.{Opening, opened, openedBuffer, openRefusal}
+use Rattle.issued.specs.Issued.{Issued}
+use Rattle.authenticator.specs.Opening.{Opening, opened, openedIssued, openedBuffer, openRefusal}
+use Rattle.authenticator.specs.Opening as authenticated
 use Rattle.authenticator.specs.Refusal.{refusalOf}
 use Rattle.authenticator.specs.Step.{step, numberOf}
 use Rattle.authenticator.specs.declared.Retries.{Retries}
@@ -24,33 +26,38 @@ use Rattle.mschap.proofs.RoundTrip.{length-fitting}
 
 -- ---- the opening
 
-pub opening-same : {c c' : List ℕ} {r r' : Retries} {l l' : LmChoice} (id : ℕ) (buffer : List ℕ) → c ≡ c' → r ≡ r' → l ≡ l'
-    → _≡_ {A = Opening} (record { id = id; challenge = c; retries = r; lm = l; buffer = buffer })
-    (record { id = id; challenge = c'; retries = r'; lm = l'; buffer = buffer })
-opening-same id buffer e₁ e₂ e₃ = cc
+pub opening-same : {c c' : List ℕ} {r r' : Retries} {l l' : LmChoice} (id : ℕ) (issued : Issued) (buffer : List ℕ) → c ≡ c' → r ≡ r' → l ≡ l'
+    → _≡_ {A = Opening} (record { id = id; challenge = c; retries = r; lm = l; issued = issued; buffer = buffer })
+    (record { id = id; challenge = c'; retries = r'; lm = l'; issued = issued; buffer = buffer })
+opening-same id issued buffer e₁ e₂ e₃ = cc
 
--- a refused opening leaves the buffer alone
-open-kept : (o : Opening) → openedBuffer o ≡ left (opened o .refusal) (openedBuffer o) (o .buffer)
-unfolding opened openedBuffer
+-- a refused opening leaves list and buffer alone
+open-kept : (o : Opening) → (openedIssued o ≡ left (opened o .refusal) (openedIssued o) (o .issued)) × (openedBuffer o ≡ left (opened o .refusal) (openedBuffer o) (o .buffer))
+unfolding opened openedIssued openedBuffer
 open-kept o = by (eqb (openRefusal o) 0) refl
   where
-    by : (b : Bool) → eqb (openRefusal o) 0 ≡ b → openedBuffer o ≡ left (opened o .refusal) (openedBuffer o) (o .buffer)
-    by true e = simp e
-    by false e = simp e
+    by : (b : Bool) → eqb (openRefusal o) 0 ≡ b
+        → (openedIssued o ≡ left (opened o .refusal) (openedIssued o) (o .issued)) × (openedBuffer o ≡ left (opened o .refusal) (openedBuffer o) (o .buffer))
+    by true e = (simp e, simp e)
+    by false e = (simp e, simp e)
 
-pub open-called : (o : Opening) (lm : ℕ) (conversation : List ℕ) {answer : Opened} {r : ℕ} {run after buffer : List ℕ}
+pub open-called : (o : Opening) (lm : ℕ) (conversation : List ℕ) {lent : Opening} {answer : Opened} {r : ℕ} {list : Issued} {run after buffer : List ℕ}
     → length (o .challenge) ≡ 8 → isLmChoice lm ≡ true → length conversation ≡ 50 → length run ≡ 50 → run ≡ conversationRun (answer .conversation)
-    → answer ≡ opened o → buffer ≡ openedBuffer o
+    → lent ≡ o → authenticated.Opens lent answer list buffer
     → (r ≡ numbered (sized (length run) conversation) (answer .refusal)) × (after ≡ left r run conversation)
-    → Opens o lm conversation r after buffer
+    → Opens o lm conversation r list after buffer
 unfolding openNumber
-open-called o lm conversation {answer} {r} {run} {after} {buffer} h₁ h₂ h₃ n e f g h =
-    let done = handed conversation n (e ∙ ap (λ (v : Opened). conversationRun (v .conversation)) f) (ap (λ (v : Opened). v .refusal) f) h in
+open-called o lm conversation {lent} {answer} {r} {list} {run} {after} {buffer} h₁ h₂ h₃ n e same given h =
+    let f = subst (λ (x : Opening). authenticated.Opens x answer list buffer) same given in
+    let a = f .answer in
+    let done = handed conversation n (e ∙ ap (λ (v : Opened). conversationRun (v .conversation)) a) (ap (λ (v : Opened). v .refusal) a) h in
     let number : r ≡ opened o .refusal = done .0 ∙ simp (eq-eqb (length conversation) 50 h₃) in
+    let kept = open-kept o in
     record {
       number = done .0 ∙ sym (simp (eq-eqb (length (o .challenge)) 8 h₁, h₂));
+      list = f .list ∙ kept .0 ∙ ap (λ (i : ℕ). left i (openedIssued o) (o .issued)) (sym number);
       first = done .1;
-      reply = g ∙ open-kept o ∙ ap (λ (i : ℕ). left i (openedBuffer o) (o .buffer)) (sym number);
+      reply = f .reply ∙ kept .1 ∙ ap (λ (i : ℕ). left i (openedBuffer o) (o .buffer)) (sym number);
     }
 
 -- ---- the step

@@ -16,9 +16,9 @@ sized n run = eqb (length run) n
 abbrev pub numbered : Bool → ℕ → ℕ
 numbered fit n = cond fit n 100
 
--- what a call that answered r leaves in a lent run: the result where r is 0, else what lay there
-abbrev pub left : ℕ → List ℕ → List ℕ → List ℕ
-left r result run = cond (eqb r 0) result run
+-- what a call that answered r leaves in what was lent: the result where r is 0, else what lay there
+abbrev pub left : {A : Type 0} → ℕ → A → A → A
+left r result lent = cond (eqb r 0) result lent
 
 -- the hash of a password, or its refusal
 abbrev pub ntHashed : List ℕ → Hashed

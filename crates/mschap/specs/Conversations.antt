@@ -5,7 +5,8 @@ use mathlib.Core.List.{List}
 use mathlib.Core.Path.{_≡_}
 use Prim.Native.Nat.{ℕ}
 use lib.Dec.{eqb}
-use Rattle.authenticator.specs.Opening.{Opening, opened, openedBuffer}
+use Rattle.issued.specs.Issued.{Issued}
+use Rattle.authenticator.specs.Opening.{Opening, opened, openedIssued, openedBuffer}
 use Rattle.authenticator.specs.Step.{Outcome, step, numberOf}
 use Rattle.authenticator.specs.declared.Retries.{Retries}
 use Rattle.authenticator.specs.declared.Retries.the-variants.{Default, Count}
@@ -26,17 +27,18 @@ unfoldable pub isLmChoice : ℕ → Bool
 isLmChoice n = eqb n 0 || (eqb n 1 || eqb n 255)
 
 -- what is lent to an opening
-abbrev pub openingFor : ℕ → List ℕ → ℕ → ℕ → List ℕ → Opening
-openingFor id challenge retries lm reply =
-    record { id = id; challenge = challenge; retries = retriesFor retries; lm = lmFor lm; buffer = reply }
+abbrev pub openingFor : ℕ → List ℕ → ℕ → ℕ → Issued → List ℕ → Opening
+openingFor id challenge retries lm issued reply =
+    record { id = id; challenge = challenge; retries = retriesFor retries; lm = lmFor lm; issued = issued; buffer = reply }
 
 unfoldable pub openNumber : Opening → ℕ → List ℕ → ℕ
 openNumber o lm conversation =
     numbered (sized 8 (o .challenge) && (isLmChoice lm && sized 50 conversation)) (opened o .refusal)
 
--- what the opening o, into a run, answers (r) and leaves in the run and in the reply buffer
-pub record Opens (o : Opening) (lm : ℕ) (run : List ℕ) (r : ℕ) (runAfter bufferAfter : List ℕ) : Type 0 where
+-- what the opening o, into a run, answers (r) and leaves in the list, in the run and in the reply buffer
+pub record Opens (o : Opening) (lm : ℕ) (run : List ℕ) (r : ℕ) (listAfter : Issued) (runAfter bufferAfter : List ℕ) : Type 0 where
   pub number : r ≡ openNumber o lm run
+  pub list : listAfter ≡ left r (openedIssued o) (o .issued)
   pub first : runAfter ≡ left r (conversationRun (opened o .conversation)) run
   pub reply : bufferAfter ≡ left r (openedBuffer o) (o .buffer)
 

@@ -42,17 +42,22 @@ fn is_lm_choice(n: u8) -> bool
 }
 
 // Opens a conversation with an identifier, a challenge of eight octets, the retries (255: silent) and whether LM is allowed (0: no, 1: yes,
-// 255: silent), and writes its Challenge into reply and itself into conversation, 50 octets. 13: over 7 retries. 2: reply has under 17 octets.
+// 255: silent), spends the challenge and its successors from the list of issued challenges (places of eight octets, how many are used, 256 counts
+// of last octets), and writes its Challenge into reply and itself into conversation, 50 octets. 13: over 7 retries. 2: reply has under 17 octets.
+// 24: a bad list. 16: a challenge issued before. 17: the list is full.
 #[no_mangle]
 pub extern "C" fn mschap_open(
     id: u8,
     challenge: &[u8],
     retries: u8,
     lm: u8,
+    list: &mut [u8],
+    used: &mut usize,
+    counts: &mut [u16],
     conversation: &mut [u8],
     reply: &mut [u8],
 ) -> u32
-    ensures { λ r. ⌜ Opens (openingFor id (now (challenge .entry)) retries lm (now (reply .entry))) lm (now (conversation .entry)) r (now (conversation .exit)) (now (reply .exit)) ⌝ }
+    ensures { λ r. ⌜ Opens (openingFor id (now (challenge .entry)) retries lm (record { buffer = now (list .entry); used = now (used .entry); counts = now (counts .entry) }) (now (reply .entry))) lm (now (conversation .entry)) r (record { buffer = now (list .exit); used = now (used .exit); counts = now (counts .exit) }) (now (conversation .exit)) (now (reply .exit)) ⌝ }
 {
     if challenge.len() != 8 {
         return 100;
@@ -66,7 +71,9 @@ pub extern "C" fn mschap_open(
     let sent = octets::eight_at(challenge, 0);
     let tries = retries_for(retries);
     let choice = lm_for(lm);
-    let answer = Conversation::open(id, sent, tries, choice, reply);
+    let before = *used;
+    let answer = Conversation::open(id, sent, tries, choice, list, before, counts, reply);
+    *used = answer.used;
     let first = answer.conversation;
     let run = conversation_run(first);
     hand(answer.refusal, &run, conversation)
