@@ -1,4 +1,4 @@
--- `vectors::talks::open_with` meets its contract. What is lent lies within the list's arrays, by what `within` ensures.
+-- `vectors::talks::open_with` meets its contract. What is lent lies within the arrays of the list, by their lengths and what `within` ensures.
 -- Assumes nothing.
 use borrow.Author.Needs.{needs}
 use mathlib.Core.Path.{_≡_}
