@@ -4,6 +4,7 @@
 mod ciphers;
 mod failures;
 mod hashes;
+mod lists;
 mod names;
 mod peers;
 mod published;

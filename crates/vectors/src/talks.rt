@@ -1,4 +1,5 @@
 // The commands of a conversation. Each takes what goes on from command to command, and answers it with the place after its result.
+use super::lists;
 use super::records;
 use super::text;
 use authenticator::Answer;
@@ -8,10 +9,13 @@ use authenticator::LmChoice;
 use authenticator::Lookup;
 use authenticator::Opened;
 use authenticator::Retries;
+use lists::List;
 
-// The current conversation, the record that is lent with a step, and the one that the last step handed out.
+// The current conversation, the list that is lent with an opening, the record that is lent with a step, and the one that the last step handed
+// out.
 pub struct Talk {
     conversation: Conversation,
+    list: List,
     lent: Lookup,
     handed: Lookup,
 }
@@ -22,14 +26,32 @@ pub struct Ran {
     pub talk: Talk,
 }
 
-// At the start: the conversation of a refused opening (there is no room for its Challenge), and no records.
-pub(crate) fn new_talk() -> Talk {
+// The conversation of a refused opening: there is no room for its Challenge, whatever the list is.
+fn refused_conversation() -> Conversation {
+    let mut list = [0u8; 1];
+    let mut counts = [0u16; 1];
     let mut room = [0u8; 1];
-    let opened = Conversation::open(0, [0; 8], Retries::Default, LmChoice::Silent, &mut room);
-    let conversation = opened.conversation;
+    let opened = Conversation::open(
+        0,
+        [0; 8],
+        Retries::Default,
+        LmChoice::Silent,
+        &mut list,
+        0,
+        &mut counts,
+        &mut room,
+    );
+    opened.conversation
+}
+
+// At the start: the conversation of a refused opening, eight empty places, and no records.
+pub(crate) fn new_talk() -> Talk {
+    let conversation = refused_conversation();
+    let list = lists::empty(8);
     let none = records::lookup(b"account -");
     Talk {
         conversation,
+        list,
         lent: none,
         handed: none,
     }
@@ -45,9 +67,11 @@ pub(crate) fn same(at: usize, talk: Talk) -> Ran {
 // The record is lent from now on.
 fn lend(lent: Lookup, talk: Talk) -> Talk {
     let conversation = talk.conversation;
+    let list = talk.list;
     let handed = talk.handed;
     Talk {
         conversation,
+        list,
         lent,
         handed,
     }
@@ -60,6 +84,21 @@ fn relend(talk: Talk) -> Talk {
         return lend(handed, talk);
     }
     talk
+}
+
+// ---- list and places
+
+// The list is lent from now on.
+fn lend_list(list: List, talk: Talk) -> Talk {
+    let conversation = talk.conversation;
+    let lent = talk.lent;
+    let handed = talk.handed;
+    Talk {
+        conversation,
+        list,
+        lent,
+        handed,
+    }
 }
 
 // ---- open
@@ -84,25 +123,59 @@ fn lm_choice(line: &[u8]) -> LmChoice {
     LmChoice::Silent
 }
 
-// REFUSAL WRITTEN BUFFER CONVERSATION
-fn put_opened(opened: Opened, reply: &[u8], out: &mut [u8], at: usize) -> usize {
+// REFUSAL WRITTEN BUFFER CONVERSATION LIST
+fn put_opened(opened: Opened, list: List, reply: &[u8], out: &mut [u8], at: usize) -> usize {
     let conversation = opened.conversation;
     let start = text::put(out, at, b" = ");
-    let end = text::put_written(out, start, opened.refusal, opened.written, reply);
-    let next = text::put(out, end, b" ");
-    records::put_conversation(out, next, conversation)
+    let a = text::put_written(out, start, opened.refusal, opened.written, reply);
+    let b = text::put(out, a, b" ");
+    let c = records::put_conversation(out, b, conversation);
+    let d = text::put(out, c, b" ");
+    lists::put_list(out, d, list)
 }
 
-// The opening becomes the current conversation.
-fn open_into(line: &[u8], reply: &mut [u8], talk: Talk, out: &mut [u8], at: usize) -> Ran {
+// An opening's answer, and the list as it left it.
+struct Opening {
+    opened: Opened,
+    list: List,
+}
+
+// Opens a conversation with the list.
+fn open_with(line: &[u8], list: List, reply: &mut [u8]) -> Opening {
+    let mut octets = list.octets;
+    let mut counts = list.counts;
+    let size = lists::within(list.size, 1024);
+    let number = lists::within(list.number, 512);
     let opened = Conversation::open(
         text::octet(line, 1),
         text::eight(line, 2),
         retries(line),
         lm_choice(line),
+        &mut octets[..size],
+        list.used,
+        &mut counts[..number],
         reply,
     );
-    let end = put_opened(opened, reply, out, at);
+    let used = opened.used;
+    Opening {
+        opened,
+        list: List {
+            octets,
+            size,
+            used,
+            counts,
+            number,
+        },
+    }
+}
+
+// The opening becomes the current conversation, and the list goes on as it left it.
+fn open_into(line: &[u8], reply: &mut [u8], talk: Talk, out: &mut [u8], at: usize) -> Ran {
+    let before = talk.list;
+    let opening = open_with(line, before, reply);
+    let opened = opening.opened;
+    let list = opening.list;
+    let end = put_opened(opened, list, reply, out, at);
     let conversation = opened.conversation;
     let lent = talk.lent;
     let handed = talk.handed;
@@ -110,6 +183,7 @@ fn open_into(line: &[u8], reply: &mut [u8], talk: Talk, out: &mut [u8], at: usiz
         at: end,
         talk: Talk {
             conversation,
+            list,
             lent,
             handed,
         },
@@ -161,6 +235,7 @@ fn put_answer(answer: Answer, reply: &[u8], out: &mut [u8], at: usize) -> usize 
 // The next conversation becomes the current one.
 fn step_into(packet: &[u8], reply: &mut [u8], talk: Talk, out: &mut [u8], at: usize) -> Ran {
     let conversation = talk.conversation;
+    let list = talk.list;
     let lent = talk.lent;
     let answer = conversation.step(packet, lent, reply);
     let end = put_answer(answer, reply, out, at);
@@ -170,6 +245,7 @@ fn step_into(packet: &[u8], reply: &mut [u8], talk: Talk, out: &mut [u8], at: us
         at: end,
         talk: Talk {
             conversation: next,
+            list,
             lent,
             handed,
         },
@@ -193,6 +269,12 @@ pub(crate) fn run(line: &[u8], talk: Talk, out: &mut [u8], at: usize) -> Ran {
     }
     if octets::agree(name, b"relend") {
         return same(at, relend(talk));
+    }
+    if octets::agree(name, b"list") {
+        return same(at, lend_list(lists::read_list(line), talk));
+    }
+    if octets::agree(name, b"places") {
+        return same(at, lend_list(lists::empty(text::octet(line, 1)), talk));
     }
     if octets::agree(name, b"open") {
         return open(line, talk, out, at);
