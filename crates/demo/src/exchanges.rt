@@ -1,5 +1,6 @@
 // The six exchanges of RFC 2433, B.1.
 use crate::lines::packet;
+use crate::lines::refused_opening;
 use crate::lines::say;
 use crate::lines::title;
 use crate::lines::verdict;
@@ -54,20 +55,59 @@ pub(crate) fn account(expired: bool) -> Lookup {
     }
 }
 
-// The opening: the box sends a Challenge, and the peer reads it.
-pub(crate) fn opening(id: u8, challenge: [u8; 8], retries: Retries) -> Talk {
+// An opening: its refusal (0 is none), how many places of the list are used then, and both ends.
+pub struct Started {
+    pub refusal: u8,
+    pub used: usize,
+    pub talk: Talk,
+}
+
+// The opening, on a list of issued challenges: the box sends a Challenge, and the peer reads it; or the box refuses to open.
+pub(crate) fn opening_on(
+    id: u8,
+    challenge: [u8; 8],
+    retries: Retries,
+    list: &mut [u8],
+    used: usize,
+    counts: &mut [u16],
+) -> Started {
     let mut reply = [0u8; 17];
-    let opened = Conversation::open(id, challenge, retries, LmChoice::Silent, &mut reply);
+    let opened = Conversation::open(
+        id,
+        challenge,
+        retries,
+        LmChoice::Silent,
+        list,
+        used,
+        counts,
+        &mut reply,
+    );
     let sent = octets::part_of(&reply, 0, opened.written);
-    packet(b"   <- ", sent);
+    if opened.refusal == 0 {
+        packet(b"   <- ", sent);
+    } else {
+        refused_opening(opened.refusal, challenge);
+    }
     let turn = peer::first_turn(packets::read_challenge(sent));
     let conversation = opened.conversation;
     let handed = account(false);
-    Talk {
-        conversation,
-        turn,
-        handed,
+    Started {
+        refusal: opened.refusal,
+        used: opened.used,
+        talk: Talk {
+            conversation,
+            turn,
+            handed,
+        },
     }
+}
+
+// The opening of a box that is alone on its list.
+pub(crate) fn opening(id: u8, challenge: [u8; 8], retries: Retries) -> Talk {
+    let mut list = [0u8; 64];
+    let mut counts = [0u16; 256];
+    let started = opening_on(id, challenge, retries, &mut list, 0, &mut counts);
+    started.talk
 }
 
 // The box takes a packet of the peer and answers, and the peer reads the answer.
@@ -131,6 +171,11 @@ pub(crate) fn challenge() -> [u8; 8] {
     [0x10, 0x2d, 0xb5, 0xdf, 0x08, 0x5d, 0x30, 0x41]
 }
 
+// One that none of the 23 rule's turns makes of it.
+pub(crate) fn another_challenge() -> [u8; 8] {
+    [0xd0, 0x2e, 0x43, 0x86, 0xbc, 0xe9, 0x12, 0x26]
+}
+
 // A Response from the right password, and one from a wrong one.
 pub(crate) fn rightly(talk: Talk, expired: bool) -> Talk {
     let password = right();
@@ -172,7 +217,11 @@ fn changed() {
     let record = after.handed;
     say(b"   The box hands out a record with the new password's hash. In a later conversation:");
     let new = new_one();
-    response(opening(8, challenge(), Retries::Default), &new, record);
+    response(
+        opening(8, another_challenge(), Retries::Default),
+        &new,
+        record,
+    );
 }
 
 fn retried_and_changed() {

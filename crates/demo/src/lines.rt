@@ -48,6 +48,28 @@ pub(crate) fn place(whose: &[u8], at: usize, octets: &[u8]) {
     say_octets(octets);
 }
 
+// The list of issued challenges, of which so many places are used.
+pub(crate) fn issued(list: &[u8], used: usize) {
+    put(b"      The list has ");
+    io::print_decimal(STDOUT_FILENO, used as u64);
+    put(b" challenges: ");
+    say_octets(octets::part_of(list, 0, octets_of(used)));
+}
+
+// The octets of so many challenges, of which the lists here have few.
+fn octets_of(challenges: usize) -> usize {
+    if challenges < 64 { 8 * challenges } else { 512 }
+}
+
+// An opening that was refused, with the challenge that it was lent.
+pub(crate) fn refused_opening(refusal: u8, challenge: [u8; 8]) {
+    put(b"      The box does not open with ");
+    say_octets(&challenge);
+    put(b"      Refusal ");
+    io::print_decimal(STDOUT_FILENO, refusal as u64);
+    say(b": it was issued before, or one of its successors was. No Challenge is sent.");
+}
+
 fn kind(code: u8) -> [u8; 15] {
     match code {
         1 => *b"Challenge      ",

@@ -1,16 +1,19 @@
 // What students get wrong, and what the box does: the slips of docs/SLIPS.md.
 use crate::exchanges::account;
+use crate::exchanges::another_challenge;
 use crate::exchanges::answered;
 use crate::exchanges::challenge;
 use crate::exchanges::new_one;
 use crate::exchanges::no_record;
 use crate::exchanges::opening;
+use crate::exchanges::opening_on;
 use crate::exchanges::response;
 use crate::exchanges::right;
 use crate::exchanges::rightly;
 use crate::exchanges::write_change;
 use crate::exchanges::write_response;
 use crate::exchanges::wrong;
+use crate::lines::issued;
 use crate::lines::place;
 use crate::lines::say;
 use crate::lines::title;
@@ -20,23 +23,50 @@ use authenticator::Retries;
 
 // ---- the challenge
 
-fn shared() {
-    title(
-        b"Slip: one challenge shared by two boxes. The Response that was recorded at the first opens the second.",
+// A second box, on the list that the first was lent: neither its challenge nor the next one, which a retry would answer, can be had again.
+fn refused_twice(list: &mut [u8], used: usize, counts: &mut [u16]) {
+    say(
+        b"   A second box on the same list, with the same challenge, and with the one that a retry at the first would answer:",
     );
+    let again = opening_on(7, challenge(), Retries::Default, list, used, counts);
+    let next = packets::grown_challenge(challenge());
+    opening_on(7, next, Retries::Count(0), list, again.used, counts);
+}
+
+// With a challenge of its own it opens.
+fn with_its_own(list: &mut [u8], used: usize, counts: &mut [u16], recorded: &[u8]) {
+    say(
+        b"   With a challenge of its own it opens, and the recorded Response is a wrong one there:",
+    );
+    let own = another_challenge();
+    let opened = opening_on(7, own, Retries::Default, list, used, counts);
+    issued(list, opened.used);
+    let talk = opened.talk;
+    answered(talk, recorded, account(false));
+}
+
+// Boxes on one list, as a controller lends it.
+fn on_one_list(list: &mut [u8], counts: &mut [u16]) {
+    let first = opening_on(7, challenge(), Retries::Default, list, 0, counts);
+    issued(list, first.used);
     let password = right();
     let mut out = [0u8; 310];
-    let first = opening(7, challenge(), Retries::Default);
-    let turn = first.turn;
+    let talk = first.talk;
+    let turn = talk.turn;
     let n = write_response(turn, &password, &mut out);
     let recorded = octets::part_of(&out, 0, n);
-    answered(first, recorded, account(false));
-    say(b"   At the second box:");
-    let second = opening(7, challenge(), Retries::Default);
-    answered(second, recorded, account(false));
-    say(
-        b"   So each opening is lent a challenge of its own; the box does not remember those of other openings.",
+    answered(talk, recorded, account(false));
+    refused_twice(list, first.used, counts);
+    with_its_own(list, first.used, counts, recorded);
+}
+
+fn shared() {
+    title(
+        b"Slip: one challenge shared by two boxes. A Response recorded at the first would open the second.",
     );
+    let mut list = [0u8; 64];
+    let mut counts = [0u16; 256];
+    on_one_list(&mut list, &mut counts);
 }
 
 fn carry() {
