@@ -10,9 +10,9 @@ use native.Mathlib.Omega.{arith}
 use borrow.Author.Tests.{eqb-true, eqb-false, ne-eqb, ltb-false}
 use lib.Dec.{eqb, ltb}
 use lib.ListN.{length, take}
-use Rattle.issued.specs.Issued.{Issued, listed, holds, meets, countsOf, spendRefusal, spent}
+use Rattle.issued.specs.Issued.{Issued, listed, holds, meets, countsOf, badBuffer, untrue, spendRefusal, spent}
 use Rattle.issued.proofs.Listing.{Wide}
-use Rattle.issued.proofs.Spending.{accepted, spent-added, spent-listed, spent-holds, spent-keeps, spent-true}
+use Rattle.issued.proofs.Spending.{accepted, spent-added, spent-listed, spent-holds, spent-keeps, spent-true, spent-good}
 use Rattle.packets.specs.Frame.{headed}
 use Rattle.packets.specs.Next.{succession}
 use Rattle.packets.specs.Reply.{challengePacket}
@@ -119,6 +119,11 @@ module _ (o : Opening) where
     -- counts that are true are true afterwards
     pub opened-true : o .issued .counts ≡ countsOf (listed 8 (o .issued)) → openedIssued o .counts ≡ countsOf (listed 8 (openedIssued o))
     opened-true e = either (λ (i : Issued). i .counts ≡ countsOf (listed 8 i)) (spent-true 8 (spends o) (o .issued) wide e) e
+
+    -- and the list that an opening leaves draws no 24 at the next
+    pub opened-good : opened o .refusal ≡ 0 → (badBuffer 8 (openedIssued o .buffer) (openedIssued o .used) ≡ false) × (untrue 8 (openedIssued o) ≡ false)
+    opened-good ok =
+        subst (λ (i : Issued). (badBuffer 8 (i .buffer) (i .used) ≡ false) × (untrue 8 i ≡ false)) (sym (opened-spent ok)) (spent-good 8 (spends o) (o .issued) wide (passed ok .2))
 
   -- what an opening with at most 7 retries spends differs among itself
   pub opened-different : (x : ℕ) (xs : List ℕ) → o .challenge ≡ x ∷ xs → opened o .refusal ≡ 0 → Different (spends o)

@@ -1,18 +1,18 @@
 -- Entries that are not refused: what is known then, and that the list has them behind those that it had, with counts that are true.
 -- Assumes nothing.
 use mathlib.Core.Bool.{Bool, true, false, cond, not, _||_, or-true, false≢true}
-use mathlib.Core.List.{List, _++_}
+use mathlib.Core.List.{List, _++_, flatten}
 use mathlib.Core.Logic.{_≢_}
 use mathlib.Core.Path.{_≡_, refl, sym, ap, _∙_}
-use Prim.Native.Nat.{ℕ, _+_, _-_, _*_, _%_, _≤_, _<_}
+use Prim.Native.Nat.{ℕ, _+_, _-_, _*_, _/_, _%_, _≤_, _<_}
 use native.Mathlib.Nat.{mul-le-mul-left, mul-div-le}
 use native.Mathlib.Omega.{arith}
-use borrow.Author.Tests.{eqb-true, eqb-false, ne-eqb, ltb-false}
+use borrow.Author.Tests.{eqb-true, eqb-false, ne-eqb, le-ltb, ltb-false}
 use lib.Dec.{eqb, ltb}
 use lib.ListN.{length}
 use Rattle.octets.specs.Parts.{agrees}
-use Rattle.octets.proofs.Parts.{agrees-equal}
-use Rattle.issued.specs.Issued.{Issued, places, listed, holds, meets, countsOf, badBuffer, full, spendRefusal, added, spent}
+use Rattle.octets.proofs.Parts.{length-over-at, agrees-refl, agrees-equal}
+use Rattle.issued.specs.Issued.{Issued, places, listed, holds, meets, countsOf, badBuffer, untrue, full, spendRefusal, added, spent}
 use Rattle.issued.proofs.Listing.{Wide, entries-laid, holds-append}
 
 -- ---- what is known of a buffer that is not refused
@@ -34,6 +34,19 @@ good w l used h = which (eqb w 0) (eqb (length l % w) 0) (ltb 4096 (places w l))
         let n = eqb-false w 0 p₁ in
         record { wide = omega arith; few = ltb-false 4096 (places w l) p₃; fits = ltb-false (places w l) used z }
 
+-- a buffer of the same length, with as many used as it has places for
+still-good : (w : ℕ) (l m : List ℕ) (used more : ℕ) → length l ≡ length m → badBuffer w l used ≡ false → more ≤ places w l → badBuffer w m more ≡ false
+unfolding badBuffer
+still-good w l m used more e h fits =
+    ap (λ (n : ℕ). eqb w 0 || (not (eqb (n % w) 0) || (ltb 4096 (n / w) || ltb (n / w) more))) (sym e)
+    ∙ which (eqb w 0) (eqb (length l % w) 0) (ltb 4096 (places w l)) (ltb (places w l) used) (ltb (places w l) more) (le-ltb (places w l) more fits) h
+  where
+    which : (t₁ t₂ t₃ t₄ t₅ : Bool) → t₅ ≡ false → (t₁ || (not t₂ || (t₃ || t₄))) ≡ false → (t₁ || (not t₂ || (t₃ || t₅))) ≡ false
+    which true t₂ t₃ t₄ t₅ p z = z
+    which false false t₃ t₄ t₅ p z = z
+    which false true true t₄ t₅ p z = z
+    which false true false t₄ t₅ p z = p
+
 -- where n places are there, so are their octets
 pub places-fit : (w n : ℕ) (l : List ℕ) → n ≤ places w l → w * n ≤ length l
 places-fit w n l h = omega (arith, mul-le-mul-left w h, mul-div-le (length l) w)
@@ -41,6 +54,7 @@ places-fit w n l h = omega (arith, mul-le-mul-left w h, mul-div-le (length l) w)
 -- ---- what is known of entries that are not refused
 
 pub record Accepted (w : ℕ) (cs : List (List ℕ)) (i : Issued) : Type 0 where
+  pub sound : badBuffer w (i .buffer) (i .used) ≡ false
   pub buffer : Good w (i .buffer) (i .used)
   pub counts : i .counts ≡ countsOf (listed w i)
   pub fresh : meets cs (listed w i) ≡ false
@@ -60,7 +74,7 @@ accepted w cs i h =
     which false true false false p₁ p₂ p₃ p₄ z =
         let g = good w (i .buffer) (i .used) p₁ in
         let r = ltb-false (places w (i .buffer) - i .used) (length cs) p₄ in
-        record { buffer = g; counts = sym (agrees-equal (countsOf (listed w i)) (i .counts) p₂); fresh = p₃; room = omega (arith, g .fits) }
+        record { sound = p₁; buffer = g; counts = sym (agrees-equal (countsOf (listed w i)) (i .counts) p₂); fresh = p₃; room = omega (arith, g .fits) }
 
 -- ---- the list afterwards
 
@@ -107,3 +121,14 @@ module _ (w : ℕ) (cs : List (List ℕ)) (i : Issued) where
   spent-holds wide h c e =
       ap (λ (es : List (List ℕ)). holds es c) (spent-listed wide h)
       ∙ holds-append (listed w i) cs c ∙ ap (λ (t : Bool). holds (listed w i) c || t) e ∙ or-true (holds (listed w i) c)
+
+  -- and leave a buffer, a number and counts that draw no 24
+  pub spent-good : Wide w cs → spendRefusal w cs i ≡ 0 → (badBuffer w (spent w cs i .buffer) (spent w cs i .used) ≡ false) × (untrue w (spent w cs i) ≡ false)
+  spent-good wide h =
+      let a = accepted w cs i h in
+      let e = spent-added h in
+      let long = ap (λ (x : Issued). length (x .buffer)) e ∙ length-over-at (w * i .used) (flatten cs) (i .buffer) in (
+        ap (badBuffer w (spent w cs i .buffer)) (ap (λ (x : Issued). x .used) e) ∙ still-good w (i .buffer) (spent w cs i .buffer) (i .used) (i .used + length cs) (sym long) (a .sound) (a .room),
+        ap (λ (l : List ℕ). not (agrees (countsOf (listed w (spent w cs i))) l)) (spent-true wide (a .counts))
+            ∙ ap not (agrees-refl (countsOf (listed w (spent w cs i)))),
+      )

@@ -4,7 +4,9 @@ mod counts;
 mod entries;
 
 ghost use mathlib.Core.Path.{_≡_};
-ghost use Rattle.issued.specs.Issued.{entriesIn, badBuffer, spendRefusal, spent};
+ghost use Prim.Native.Nat.{_-_, _≤_, _<_};
+ghost use lib.Dec.{ltb};
+ghost use Rattle.issued.specs.Issued.{entriesIn, places, badBuffer, spendRefusal, spent};
 
 // What spending answers: the refusal (0 is none), and how many places are used then.
 pub struct Spent {
@@ -29,6 +31,14 @@ fn is_bad_buffer(buffer: &[u8], used: usize, width: usize) -> bool
     places < used
 }
 
+// Whether fewer than n places are left.
+fn is_full(buffer: &[u8], used: usize, width: usize, n: usize) -> bool
+    requires { ⌜ (0 < width) × (used ≤ places width (now buffer)) ⌝ }
+    ensures { λ r. ⌜ r ≡ ltb (places width (now (buffer .entry)) - used) n ⌝ }
+{
+    buffer.len() / width - used < n
+}
+
 // The refusal of the entries of run, 24, 16 or 17 in that order; 0 is none. The list is passed over once.
 fn refusal(buffer: &[u8], used: usize, counts: &[u16], width: usize, run: &[u8]) -> u8
     ensures { λ r. ⌜ r ≡ spendRefusal width (entriesIn width (now (run .entry))) (record { buffer = now (buffer .entry); used = used; counts = now (counts .entry) }) ⌝ }
@@ -41,13 +51,14 @@ fn refusal(buffer: &[u8], used: usize, counts: &[u16], width: usize, run: &[u8])
     entries::mark(run, n, width, &mut marks);
     let mut tally = [0u16; 256];
     let met = entries::scan(buffer, used, width, run, n, &marks, &mut tally);
+    let full = is_full(buffer, used, width, n);
     if !counts::agree(&tally, counts) {
         return 24;
     }
     if met {
         return 16;
     }
-    if buffer.len() / width - used < n {
+    if full {
         return 17;
     }
     0

@@ -9,3 +9,4 @@ pub mod Sample
 pub mod Witness
 pub mod Wrong
 pub mod OneList
+pub mod Shared

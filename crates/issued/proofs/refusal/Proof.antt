@@ -3,14 +3,15 @@
 use mathlib.Core.Bool.{false}
 use mathlib.Core.List.{List}
 use mathlib.Core.Path.{_≡_, refl, sym, ap, _∙_}
-use Prim.Native.Nat.{ℕ}
+use Prim.Native.Nat.{ℕ, _-_}
 use native.Mathlib.Nat.{mul-div-le}
 use native.Mathlib.Omega.{arith}
 use borrow.Author.Needs.{needs}
-use borrow.Author.Tests.{lt-ltb, le-ltb, not-true, not-false}
+use borrow.Author.Tests.{not-true, not-false}
+use lib.Dec.{ltb}
 use lib.ListN.{length, length-replicate}
 use Rattle.octets.specs.Parts.{agrees}
-use Rattle.issued.specs.Issued.{Issued, entriesIn, listed, meets, countsOf, badBuffer, spendRefusal}
+use Rattle.issued.specs.Issued.{Issued, places, entriesIn, listed, meets, countsOf, badBuffer, full, spendRefusal}
 use Rattle.issued.proofs.Listing.{length-entries}
 use Rattle.issued.proofs.Counting.{counted, zeros-room}
 use Rattle.issued.proofs.Spending.{Good, good, places-fit}
@@ -60,16 +61,24 @@ scan-requires c κs =
       zeros-room (given e .used) (omega (arith, g .fits, g .few)),
     )
 
+is-full-requires : tie.Need-is-full-requires
+is-full-requires c κs = let e = c .before .before .before .before .before .before .before in (fine e .wide, fine e .fits)
+
 -- ---- behind the pass
 
 abbrev first : tie.After-agree → tie.Else1
-first c = c .before .before .before .before .before .before .before .before .before
+first c = c .before .before .before .before .before .before .before .before .before .before
 
-met-told : (c : tie.After-agree) → c .before .before .before .scan .result ≡ meets (entriesIn (width (first c)) (run (first c))) (listed (width (first c)) (given (first c)))
-met-told c = c .before .before .before .scan .ensures .0
+met-told : (c : tie.After-agree) → c .before .before .before .before .scan .result ≡ meets (entriesIn (width (first c)) (run (first c))) (listed (width (first c)) (given (first c)))
+met-told c = c .before .before .before .before .scan .ensures .0
 
 counts-told : (c : tie.After-agree) → c .agree .result ≡ agrees (countsOf (listed (width (first c)) (given (first c)))) (given (first c) .counts)
-counts-told c = c .agree .ensures ∙ ap (λ (l : List ℕ). agrees l (given (first c) .counts)) (counted (listed (width (first c)) (given (first c))) (c .before .before .before .scan .ensures .1))
+counts-told c = c .agree .ensures ∙ ap (λ (l : List ℕ). agrees l (given (first c) .counts)) (counted (listed (width (first c)) (given (first c))) (c .before .before .before .before .scan .ensures .1))
+
+full-told : (c : tie.After-agree) → c .before .before .is-full .result ≡ full (width (first c)) (entriesIn (width (first c)) (run (first c))) (given (first c))
+full-told c =
+    c .before .before .is-full .ensures
+    ∙ ap (ltb (places (width (first c)) (given (first c) .buffer) - given (first c) .used)) (sym (length-entries (width (first c)) (places (width (first c)) (run (first c))) (run (first c))))
 
 returns-2 : tie.Need-returns-2
 unfolding spendRefusal
@@ -83,27 +92,21 @@ returns-3 c =
     let k = c .before .before in
     sym (simp (not-bad (first k), sym (counts-told k) ∙ not-false _ (c .before .if2 .left), sym (met-told k) ∙ c .if3 .taken))
 
-div-if4 : tie.Need-div-if4
-div-if4 c = fine (first (c .before .before)) .wide
-
-sub-if4 : tie.Need-sub-if4
-sub-if4 c = fine (first (c .before .before)) .fits
-
 returns-4 : tie.Need-returns-4
 unfolding spendRefusal
 returns-4 c =
     let k = c .before .before .before in
-    sym (simp (not-bad (first k), sym (counts-told k) ∙ not-false _ (c .before .before .if2 .left), sym (met-told k) ∙ c .before .if3 .left, length-entries, lt-ltb _ _ (c .if4 .taken)))
+    sym (simp (not-bad (first k), sym (counts-told k) ∙ not-false _ (c .before .before .if2 .left), sym (met-told k) ∙ c .before .if3 .left, sym (full-told k) ∙ c .if4 .taken))
 
 returns-5 : tie.Need-returns-5
 unfolding spendRefusal
 returns-5 c =
     let k = c .before .before .before in
-    sym (simp (not-bad (first k), sym (counts-told k) ∙ not-false _ (c .before .before .if2 .left), sym (met-told k) ∙ c .before .if3 .left, length-entries, le-ltb _ _ (c .if4 .left)))
+    sym (simp (not-bad (first k), sym (counts-told k) ∙ not-false _ (c .before .before .if2 .left), sym (met-told k) ∙ c .before .if3 .left, sym (full-told k) ∙ c .if4 .left))
 
 pub refusal-spec : {M : Type 1} → statement M
 refusal-spec =
     tie.close
     (tie.spec
-    (λ c κs. search needs) returns div-n (λ c. search needs) mark-requires (λ c. search needs) (λ c. search needs) scan-requires (λ c. search needs)
-    (λ c κs. search needs) returns-2 returns-3 div-if4 sub-if4 returns-4 returns-5)
+    (λ c κs. search needs) returns div-n (λ c. search needs) mark-requires (λ c. search needs) (λ c. search needs) scan-requires is-full-requires
+    (λ c. search needs) (λ c κs. search needs) returns-2 returns-3 returns-4 returns-5)
