@@ -4,7 +4,7 @@ use mathlib.Core.Bool.{Bool, true, false, cond, _||_, _&&_, or-true}
 use mathlib.Core.List.{List}
 use mathlib.Core.Option.{Option, none, some}
 use mathlib.Core.Path.{_≡_, refl, sym, ap, _∙_, subst}
-use Prim.Native.Nat.{ℕ, zero, suc, _-_, _<_}
+use Prim.Native.Nat.{ℕ, suc, _-_, _<_}
 use native.Mathlib.Omega.{arith}
 use borrow.Author.Tests.{eqb-true, eqb-false, ltb-true}
 use lib.Dec.{eqb, ltb}
@@ -15,7 +15,6 @@ use Rattle.packets.specs.Next.{grown, succession}
 use Rattle.packets.specs.Response.{responseIn}
 use Rattle.packets.specs.declared.Response as fields
 use Rattle.packets.specs.declared.Change as changes
-use Rattle.packets.proofs.Growing.{succession-next}
 use Rattle.authenticator.specs.Conversation.{ended, retried, keeping}
 use Rattle.authenticator.specs.Refusal.{refusalOf}
 use Rattle.authenticator.specs.Response.{reasonOf, afterReason, responseDrawn}

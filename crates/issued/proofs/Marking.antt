@@ -1,6 +1,6 @@
 -- Marks of the octets in which entries end, and the search that goes by them.
 -- Assumes nothing.
-use mathlib.Core.Bool.{Bool, true, false, cond, _||_, or-assoc, or-false, false≢true}
+use mathlib.Core.Bool.{Bool, true, false, _||_, or-assoc, or-false, false≢true}
 use mathlib.Core.List.{List, _∷_}
 use mathlib.Core.Logic.{_≢_}
 use mathlib.Core.Path.{_≡_, refl, sym, ap, ap₂, _∙_, subst}

@@ -1,7 +1,7 @@
 -- The list of issued challenges. Words in quotes are document 02's, request 2026-03. All is said over w, the octets of an entry, which are 8
 -- in MS-CHAP version 1.
 -- Assumes nothing: these are definitions.
-use mathlib.Core.Bool.{Bool, true, false, cond, not, _||_}
+use mathlib.Core.Bool.{Bool, false, cond, not, _||_}
 use mathlib.Core.List.{List, [], _∷_, _++_, flatten}
 use Prim.Native.Nat.{ℕ, zero, suc, _+_, _-_, _*_, _/_, _%_}
 use lib.Dec.{eqb, ltb}

@@ -6,7 +6,7 @@ ghost use Rattle.octets.specs.Parts.{agrees};
 ghost use Rattle.issued.specs.Code.{raisedAt};
 
 // Whether a and b are the same counts.
-pub fn agree(a: &[u16], b: &[u16]) -> bool
+pub(crate) fn agree(a: &[u16], b: &[u16]) -> bool
     ensures { λ r. ⌜ r ≡ agrees (now (a .entry)) (now (b .entry)) ⌝ }
 {
     if a.len() != b.len() {
@@ -22,7 +22,7 @@ pub fn agree(a: &[u16], b: &[u16]) -> bool
 }
 
 // Raises the count of an octet.
-pub fn raise(counts: &mut [u16], octet: u8)
+pub(crate) fn raise(counts: &mut [u16], octet: u8)
     requires { ⌜ (length (now counts) ≡ 256) × (getD (now counts) octet 0 < 65535) ⌝ }
     ensures { λ _. ⌜ now (counts .exit) ≡ raisedAt (now (counts .entry)) octet ⌝ }
 {

@@ -26,7 +26,7 @@ fn holds(run: &[u8], n: usize, entry: &[u8]) -> bool
 }
 
 // Marks the octets in which the first n entries of run end.
-pub fn mark(run: &[u8], n: usize, width: usize, marks: &mut [bool])
+pub(crate) fn mark(run: &[u8], n: usize, width: usize, marks: &mut [bool])
     requires { ⌜ (0 < width) × (width * n ≤ length (now run)) × (now marks ≡ replicate 256 false) ⌝ }
     ensures { λ _. ⌜ (length (now (marks .exit)) ≡ 256) × Marked (now (marks .exit)) (entries width n (now (run .entry))) ⌝ }
 {
@@ -41,7 +41,7 @@ pub fn mark(run: &[u8], n: usize, width: usize, marks: &mut [bool])
 }
 
 // Raises, for each of the first n entries of run, the count of its last octet.
-pub fn count(run: &[u8], n: usize, width: usize, counts: &mut [u16])
+pub(crate) fn count(run: &[u8], n: usize, width: usize, counts: &mut [u16])
     requires { ⌜ (0 < width) × (width * n ≤ length (now run)) × (length (now counts) ≡ 256) × Room (now counts) n ⌝ }
     ensures { λ _. ⌜ now (counts .exit) ≡ raised (now (counts .entry)) (entries width n (now (run .entry))) ⌝ }
 {
@@ -64,7 +64,7 @@ fn either(a: bool, b: bool) -> bool
 }
 
 // Whether entry is one of the first n entries of run. The octets in which those end are marked: so most entries are told by their own last octet.
-fn is_one(entry: &[u8], run: &[u8], n: usize, marks: &[bool]) -> bool
+fn is_sought(entry: &[u8], run: &[u8], n: usize, marks: &[bool]) -> bool
     requires { ⌜ (0 < length (now entry)) × (length (now entry) * n ≤ length (now run)) × (length (now marks) ≡ 256) × Marked (now marks) (entries (length (now entry)) n (now run)) ⌝ }
     ensures { λ r. ⌜ r ≡ holds (entries (length (now (entry .entry))) n (now (run .entry))) (now (entry .entry)) ⌝ }
 {
@@ -77,7 +77,7 @@ fn is_one(entry: &[u8], run: &[u8], n: usize, marks: &[bool]) -> bool
 
 // One pass over the list, which is the first used entries of buffer: raises the counts of their last octets, and tells whether one of them is among
 // the first n of run.
-pub fn scan(
+pub(crate) fn scan(
     buffer: &[u8],
     used: usize,
     width: usize,
@@ -94,7 +94,7 @@ pub fn scan(
     let mut left = used;
     while 0 < left {
         raise(counts, rest[width - 1]);
-        met = either(met, is_one(&rest[..width], run, n, marks));
+        met = either(met, is_sought(&rest[..width], run, n, marks));
         rest = &rest[width..];
         left -= 1;
     }

@@ -3,7 +3,7 @@
 use mathlib.Core.Bool.{Bool, true, false, cond, _&&_, false≢true}
 use mathlib.Core.List.{List, [], _∷_, _++_}
 use mathlib.Core.Logic.{_≢_}
-use mathlib.Core.Path.{_≡_, refl, sym, ap, _∙_, subst}
+use mathlib.Core.Path.{_≡_, refl, sym, _∙_, subst}
 use Prim.Native.Nat.{ℕ}
 use lib.Dec.{eqb}
 use lib.ListN.{length}
@@ -16,7 +16,7 @@ use Rattle.credentials.specs.Credentials.{responseOf}
 use Rattle.credentials.proofs.Laws.{response-tells}
 use Rattle.packets.specs.declared.Response.{Response}
 use Rattle.authenticator.specs.Account.{answers}
-use Rattle.authenticator.specs.Opening.{Opening, spends, firstConversation, opened, openedIssued}
+use Rattle.authenticator.specs.Opening.{Opening, spends, opened, openedIssued}
 use Rattle.authenticator.specs.Response.{valid}
 use Rattle.authenticator.specs.Steps.{Lent, stepOn, nextAfter}
 use Rattle.authenticator.specs.declared.Account.{Account}

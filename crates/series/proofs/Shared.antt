@@ -16,7 +16,7 @@ use Rattle.authenticator.specs.Opening.{Opening, openRefusal, opened, openedIss
 use Rattle.authenticator.specs.declared.Retries.{Retries}
 use Rattle.authenticator.specs.declared.Retries.the-variants.{Default, Count}
 use Rattle.authenticator.specs.declared.LmChoice.the-variants.{Silent}
-use Rattle.series.specs.OneList.{LentTo, Two}
+use Rattle.series.specs.OneList.{Two}
 
 -- ---- three boxes
 

@@ -1,7 +1,7 @@
 -- Many boxes on one list (document 02, request 2026-03): "One controller now lends all forty boxes the same list."
 -- Assumes nothing: these are definitions.
 use mathlib.Core.Bool.{true, false}
-use mathlib.Core.List.{List, [], _∷_, _++_}
+use mathlib.Core.List.{List, _∷_, _++_}
 use mathlib.Core.Logic.{_≢_}
 use mathlib.Core.Path.{_≡_}
 use Prim.Native.Nat.{ℕ, _<_}

@@ -1,14 +1,14 @@
 -- `issued::spend` meets its contract.
 -- Assumes nothing.
-use mathlib.Core.List.{List, _++_}
-use mathlib.Core.Path.{_≡_, refl, sym, ap, _∙_, subst}
+use mathlib.Core.List.{List}
+use mathlib.Core.Path.{_≡_, sym, ap, _∙_, subst}
 use Prim.Native.Nat.{ℕ, _+_, _*_, _/_, _<_}
 use native.Mathlib.Nat.{mul-div-le}
 use native.Mathlib.Omega.{arith}
 use borrow.Author.Needs.{needs}
 use lib.ListN.{length}
 use Rattle.octets.specs.Parts.{overAt}
-use Rattle.issued.specs.Issued.{Issued, entriesIn, listed, countsOf, spendRefusal, spent}
+use Rattle.issued.specs.Issued.{Issued, entriesIn, listed, spendRefusal}
 use Rattle.issued.specs.Code.{raised, Room}
 use Rattle.issued.proofs.Listing.{length-entries, flatten-entries}
 use Rattle.issued.proofs.Counting.{length-endings, raised-counts, counts-room}

@@ -1,6 +1,6 @@
 -- `issued::entries::count` meets its contract. The loop's invariant: the entries that are left are still to be counted.
 -- Assumes nothing.
-use mathlib.Core.Path.{_≡_, refl, sym, _∙_}
+use mathlib.Core.Path.{refl, sym, _∙_}
 use native.Mathlib.Omega.{arith}
 use borrow.Author.Needs.{needs}
 use Rattle.issued.specs.Issued.{entries}

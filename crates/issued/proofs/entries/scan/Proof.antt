@@ -34,13 +34,13 @@ shared-slice-read-raise c = let h = c .before .before .before .loop in omega (ar
 raise-requires : tie.Need-raise-requires Inv-loop μ-loop
 raise-requires c κs = raise-fits _ _ _ _ _ (omega arith) (c .before .before .before .loop .inv .0) _
 
-slice-aggregate-is-one : tie.Need-slice-aggregate-is-one Inv-loop μ-loop
-slice-aggregate-is-one c =
+slice-aggregate-is-sought : tie.Need-slice-aggregate-is-sought Inv-loop μ-loop
+slice-aggregate-is-sought c =
     let h = c .before .before .before .before .before .before .before in
     sym (length-take-le (h .before .before .before .before .before .args .width) (h .loop .rest .now) (first-fits _ _ _ _ _ (omega arith) (h .loop .inv .0)))
 
-is-one-requires : tie.Need-is-one-requires Inv-loop μ-loop
-is-one-requires c κs =
+is-sought-requires : tie.Need-is-sought-requires Inv-loop μ-loop
+is-sought-requires c κs =
     let h = c .before .before .before .before .before .before .before in
     let s = h .before .before .before .before .before in
     subst
@@ -65,7 +65,7 @@ loop-again c =
     let w = s .args .width in
     let l = h .loop .rest .now in
     let long = length-take-le w l (first-fits _ _ _ _ _ (omega arith) (h .loop .inv .0)) in
-    let one = o .is-one .ensures ∙ ap (λ (n : ℕ). holds (entries n (s .args .n) (s .args .run .now)) (take w l)) long in (
+    let one = o .is-sought .ensures ∙ ap (λ (n : ℕ). holds (entries n (s .args .n) (s .args .run .now)) (take w l)) long in (
       raise-next _ _ _ _ _ (omega arith) (h .loop .inv .0) (k .raise .ensures),
       met-next w (h .loop .left) l (entries w (s .args .n) (s .args .run .now)) (h .loop .met) (omega arith) (e .either .ensures) one ∙ h .loop .inv .1,
     )
@@ -85,5 +85,5 @@ pub scan-spec : {M : Type 1} → statement M
 scan-spec =
     tie.close
     (tie.spec
-    Inv-loop μ-loop loop-holds (λ c. search needs) shared-slice-read-raise raise-requires slice-aggregate-is-one is-one-requires (λ c κs. search needs)
+    Inv-loop μ-loop loop-holds (λ c. search needs) shared-slice-read-raise raise-requires slice-aggregate-is-sought is-sought-requires (λ c κs. search needs)
     sub-rest part-rest-start (λ c. search needs) (λ c. search needs) (λ c. search needs) loop-again same-length returns)
