@@ -7,20 +7,21 @@ use mathlib.Core.Logic.{_≢_}
 use mathlib.Core.Path.{_≡_, refl, sym, ap, _∙_, subst}
 use Prim.Native.Nat.{ℕ, suc, _+_, _≤_}
 use native.Mathlib.Omega.{arith}
-use borrow.Author.Tests.{eqb-true, eqb-false, ne-eqb, ltb-false}
+use borrow.Author.Tests.{eqb-true, eqb-false, ne-eqb, le-ltb, ltb-false}
 use lib.Dec.{eqb, ltb}
-use lib.ListN.{length, take}
-use Rattle.issued.specs.Issued.{Issued, listed, holds, meets, countsOf, badBuffer, untrue, spendRefusal, spent}
+use lib.ListN.{length, take, replicate}
+use Rattle.issued.specs.Issued.{Issued, places, listed, holds, Different, meets, countsOf, badBuffer, untrue, spendRefusal, spent}
 use Rattle.issued.proofs.Listing.{Wide}
-use Rattle.issued.proofs.Spending.{accepted, spent-added, spent-listed, spent-holds, spent-keeps, spent-true, spent-good}
+use Rattle.issued.proofs.Spending.{accepted, accepts, empty-accepts, spent-added, spent-listed, spent-holds, spent-keeps, spent-true, spent-good}
 use Rattle.packets.specs.Frame.{headed}
 use Rattle.packets.specs.Next.{succession}
 use Rattle.packets.specs.Reply.{challengePacket}
+use Rattle.packets.proofs.Growing.{length-succession}
 use Rattle.packets.proofs.Writing.{taken}
 use Rattle.authenticator.specs.Conversation.{closed}
 use Rattle.authenticator.specs.Opening.{Opening, retriesOf, badRoom, spends, openRefusal, openedIssued, firstConversation, openingPacket, openedBy, opened, openedBuffer, Opens}
 use Rattle.authenticator.specs.declared.Opened.{Opened}
-use Rattle.authenticator.proofs.Spends.{Different, succession-wide, succession-different}
+use Rattle.authenticator.proofs.Spends.{succession-wide, succession-different}
 
 -- the answer's number is the refusal
 pub opened-number : (o : Opening) → opened o .refusal ≡ openRefusal o
@@ -130,6 +131,26 @@ module _ (o : Opening) where
   opened-different x xs e ok =
       let few = ltb-false 7 (retriesOf (o .retries)) (passed ok .0) in
       subst (λ (c : List ℕ). Different (succession (suc (retriesOf (o .retries))) c)) (sym e) (succession-different (suc (retriesOf (o .retries))) x xs (omega arith))
+
+-- ---- what is not refused
+
+module _ (o : Opening) (few : retriesOf (o .retries) ≤ 7) (room : 17 ≤ length (o .buffer)) where
+  opens-by : spendRefusal 8 (spends o) (o .issued) ≡ 0 → opened o .refusal ≡ 0
+  unfolding openRefusal
+  opens-by e = opened-number o ∙ simp (le-ltb 7 (retriesOf (o .retries)) few, le-ltb (length (o .buffer)) 17 room, e)
+
+  -- on a sound list, with challenges that were not issued and places for them
+  pub opens : badBuffer 8 (o .issued .buffer) (o .issued .used) ≡ false → o .issued .counts ≡ countsOf (listed 8 (o .issued))
+      → meets (spends o) (listed 8 (o .issued)) ≡ false → o .issued .used + suc (retriesOf (o .retries)) ≤ places 8 (o .issued .buffer)
+      → opened o .refusal ≡ 0
+  opens sound counts fresh left =
+      opens-by (accepts 8 (spends o) (o .issued) sound counts fresh (omega (arith, length-succession (suc (retriesOf (o .retries))) (o .challenge))))
+
+  -- on an empty one, whatever lies in its places
+  pub opens-empty : badBuffer 8 (o .issued .buffer) (o .issued .used) ≡ false → o .issued .used ≡ 0 → o .issued .counts ≡ replicate 256 0
+      → suc (retriesOf (o .retries)) ≤ places 8 (o .issued .buffer) → opened o .refusal ≡ 0
+  opens-empty sound none zeros left =
+      opens-by (empty-accepts 8 (spends o) (o .issued) sound none zeros (omega (arith, length-succession (suc (retriesOf (o .retries))) (o .challenge))))
 
 -- ---- what the code has to show of an answer r and of what it leaves
 

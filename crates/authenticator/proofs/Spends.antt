@@ -13,7 +13,7 @@ use lib.ListN.{length, take}
 use Rattle.octets.specs.Parts.{part, agrees}
 use Rattle.octets.proofs.Parts.{agrees-equal}
 use Rattle.octets.proofs.Numbers.{Octets}
-use Rattle.issued.specs.Issued.{entries, entriesIn, holds}
+use Rattle.issued.specs.Issued.{entries, entriesIn, holds, Different}
 use Rattle.issued.proofs.Listing.{Wide, length-flatten, entries-flatten}
 use Rattle.packets.specs.Next.{grown, succession}
 use Rattle.packets.proofs.Growing.{length-grown, length-succession, succession-front}
@@ -24,11 +24,6 @@ succession-wide zero c e = tt
 succession-wide (suc n) c e = (e, succession-wide n (grown c) (length-grown c ∙ e))
 
 -- ---- the entries differ among themselves
-
--- each is none of those behind it
-abbrev pub Different : List (List ℕ) → Type 0
-Different [] = Unit {0}
-Different (c ∷ cs) = (holds cs c ≡ false) × Different cs
 
 -- 23 * k is no multiple of 256
 no-multiple : (k q : ℕ) → 23 * k ≡ q * 256 → 0 < k → k ≤ 11 → ⊥

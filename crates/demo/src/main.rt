@@ -8,6 +8,9 @@ fn main() {
     lines::say(
         b"A box and a peer talk. <- is a packet of the box (authenticator), -> one of the peer.",
     );
+    lines::say(
+        b"Each exchange has an empty list of issued challenges of its own, so that all may use the same challenge.",
+    );
     exchanges::all();
     slips::all();
 }

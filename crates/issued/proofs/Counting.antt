@@ -112,7 +112,7 @@ raised-counts es (c ∷ cs) =
     ap (λ (l : List ℕ). raised l cs) (raised-one es c) ∙ raised-counts (es ++ (c ∷ [])) cs ∙ ap countsOf (append-snoc es c cs)
 
 -- from counts of 0, they are those of cs alone
-none-counted : replicate 256 0 ≡ countsOf []
+pub none-counted : replicate 256 0 ≡ countsOf []
 unfolding endings ending
 none-counted = refl
 

@@ -100,6 +100,11 @@ abbrev pub Wide : ℕ → List (List ℕ) → Type 0
 Wide w [] = Unit {0}
 Wide w (c ∷ cs) = (length c ≡ w) × Wide w cs
 
+pub entries-wide : (w n : ℕ) (l : List ℕ) → w * n ≤ length l → Wide w (entries w n l)
+entries-wide w zero l h = tt
+entries-wide w (suc n) l h =
+    (length-take-le w l (omega (arith, mul-suc w n)), entries-wide w n (drop w l) (omega (arith, mul-suc w n, length-drop w l)))
+
 pub length-flatten : (w : ℕ) (cs : List (List ℕ)) → Wide w cs → length (flatten cs) ≡ w * length cs
 unfolding flatten
 length-flatten w [] h = sym (mul-zero w)

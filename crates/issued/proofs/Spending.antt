@@ -1,7 +1,7 @@
 -- Entries that are not refused: what is known then, and that the list has them behind those that it had, with counts that are true.
 -- Assumes nothing.
 use mathlib.Core.Bool.{Bool, true, false, cond, not, _||_, or-true, false≢true}
-use mathlib.Core.List.{List, _++_, flatten}
+use mathlib.Core.List.{List, [], _++_, flatten}
 use mathlib.Core.Logic.{_≢_}
 use mathlib.Core.Path.{_≡_, refl, sym, ap, _∙_}
 use Prim.Native.Nat.{ℕ, _+_, _-_, _*_, _/_, _%_, _≤_, _<_}
@@ -9,11 +9,12 @@ use native.Mathlib.Nat.{mul-le-mul-left, mul-div-le}
 use native.Mathlib.Omega.{arith}
 use borrow.Author.Tests.{eqb-true, eqb-false, ne-eqb, le-ltb, ltb-false}
 use lib.Dec.{eqb, ltb}
-use lib.ListN.{length}
+use lib.ListN.{length, replicate}
 use Rattle.octets.specs.Parts.{agrees}
 use Rattle.octets.proofs.Parts.{length-over-at, agrees-refl, agrees-equal}
-use Rattle.issued.specs.Issued.{Issued, places, listed, holds, meets, countsOf, badBuffer, untrue, full, spendRefusal, added, spent}
-use Rattle.issued.proofs.Listing.{Wide, entries-laid, holds-append}
+use Rattle.issued.specs.Issued.{Issued, entries, places, listed, holds, meets, countsOf, badBuffer, untrue, full, spendRefusal, added, spent}
+use Rattle.issued.proofs.Listing.{Wide, entries-laid, holds-append, meets-none}
+use Rattle.issued.proofs.Counting.{none-counted}
 
 -- ---- what is known of a buffer that is not refused
 
@@ -75,6 +76,21 @@ accepted w cs i h =
         let g = good w (i .buffer) (i .used) p₁ in
         let r = ltb-false (places w (i .buffer) - i .used) (length cs) p₄ in
         record { sound = p₁; buffer = g; counts = sym (agrees-equal (countsOf (listed w i)) (i .counts) p₂); fresh = p₃; room = omega (arith, g .fits) }
+
+-- and where that is so, they are not refused
+pub accepts : (w : ℕ) (cs : List (List ℕ)) (i : Issued) → badBuffer w (i .buffer) (i .used) ≡ false → i .counts ≡ countsOf (listed w i)
+    → meets cs (listed w i) ≡ false → i .used + length cs ≤ places w (i .buffer) → spendRefusal w cs i ≡ 0
+unfolding spendRefusal
+accepts w cs i sound counts fresh room =
+    let told = ap (agrees (countsOf (listed w i))) counts ∙ agrees-refl (countsOf (listed w i)) in
+    simp (sound, told, fresh, le-ltb (places w (i .buffer) - i .used) (length cs) (omega arith))
+
+-- an empty list, whatever lies in its places
+pub empty-accepts : (w : ℕ) (cs : List (List ℕ)) (i : Issued) → badBuffer w (i .buffer) (i .used) ≡ false → i .used ≡ 0 → i .counts ≡ replicate 256 0
+    → length cs ≤ places w (i .buffer) → spendRefusal w cs i ≡ 0
+empty-accepts w cs i sound none zeros room =
+    let empty : listed w i ≡ [] = ap (λ (n : ℕ). entries w n (i .buffer)) none in
+    accepts w cs i sound (zeros ∙ none-counted ∙ ap countsOf (sym empty)) (ap (meets cs) empty ∙ meets-none cs) (omega arith)
 
 -- ---- the list afterwards
 

@@ -3,6 +3,7 @@
 -- Assumes nothing: these are definitions.
 use mathlib.Core.Bool.{Bool, false, cond, not, _||_}
 use mathlib.Core.List.{List, [], _∷_, _++_, flatten}
+use mathlib.Core.Path.{_≡_}
 use Prim.Native.Nat.{ℕ, zero, suc, _+_, _-_, _*_, _/_, _%_}
 use lib.Dec.{eqb, ltb}
 use lib.ListN.{length, take, drop, replicate, getD}
@@ -42,6 +43,11 @@ holds (e ∷ es) c = agrees e c || holds es c
 unfoldable pub meets : List (List ℕ) → List (List ℕ) → Bool
 meets [] es = false
 meets (c ∷ cs) es = holds es c || meets cs es
+
+-- entries of which none stands there twice
+abbrev pub Different : List (List ℕ) → Type 0
+Different [] = Unit {0}
+Different (e ∷ es) = (holds es e ≡ false) × Different es
 
 -- ---- counts
 

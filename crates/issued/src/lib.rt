@@ -64,8 +64,9 @@ fn refusal(buffer: &[u8], used: usize, counts: &[u16], width: usize, run: &[u8])
     0
 }
 
-// Spends the entries of run, width octets each: adds them behind the used places of buffer and raises the counts of their last octets. Refusals,
-// which leave all as it was: 24 (the buffer, used or the counts), 16 (one of them stands in the list), 17 (too few places are left).
+// Spends the entries of run, width octets each: adds them behind the used places of buffer and raises the counts of their last octets. What of run is
+// no whole entry is left out. Refusals, which leave all as it was: 24 (the buffer, used or the counts), 16 (one of them stands in the list), 17 (too
+// few places are left). Entries of run are not compared with each other.
 pub fn spend(buffer: &mut [u8], used: usize, counts: &mut [u16], width: usize, run: &[u8]) -> Spent
     ensures { λ r. ⌜ (r .refusal ≡ spendRefusal width (entriesIn width (now (run .entry))) (record { buffer = now (buffer .entry); used = used; counts = now (counts .entry) })) × (record { buffer = now (buffer .exit); used = r .used; counts = now (counts .exit) } ≡ spent width (entriesIn width (now (run .entry))) (record { buffer = now (buffer .entry); used = used; counts = now (counts .entry) })) ⌝ }
 {

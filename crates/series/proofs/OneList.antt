@@ -26,7 +26,7 @@ use Rattle.authenticator.proofs.Spends.{succession-octets}
 use Rattle.authenticator.proofs.Openings.{opened-first, opened-fresh, opened-holds, opened-keeps}
 use Rattle.authenticator.proofs.InForce.{Still, now-in-force, step-still}
 use Rattle.series.specs.Course.{end, Along}
-use Rattle.series.specs.OneList.{leaves, LentTo, OnOneList, Two, reached, NoneTwice, NoneAnsweredTwice}
+use Rattle.series.specs.OneList.{LentTo, OnOneList, Two, reached, NoneTwice, NoneAnsweredTwice, NoneValidTwice, ourOpener}
 
 -- ---- what a conversation can put in force is what its opening spent
 
@@ -34,10 +34,10 @@ still-all : (c : Conversation) (ss : List Lent) (x : List ℕ) → Still (end (n
 still-all c [] x h = h
 still-all c (s ∷ ss) x h = step-still c s x (still-all (nextAfter stepOn c s) ss x h)
 
-reached-spent : (o : Opening) → opened o .refusal ≡ 0 → (ss : List Lent) → holds (spends o) (reached o ss .challenge) ≡ true
+reached-spent : (o : Opening) → opened o .refusal ≡ 0 → (ss : List Lent) → holds (spends o) (reached ourOpener o ss .challenge) ≡ true
 reached-spent o ok ss =
-    subst (λ (c : Conversation). Still c (reached o ss .challenge)) (opened-first o ok)
-    (still-all (opened o .conversation) ss (reached o ss .challenge) (now-in-force (reached o ss)))
+    subst (λ (c : Conversation). Still c (reached ourOpener o ss .challenge)) (opened-first o ok)
+    (still-all (opened o .conversation) ss (reached ourOpener o ss .challenge) (now-in-force (reached ourOpener o ss)))
 
 -- ---- what stands in the list stays there
 
@@ -45,13 +45,15 @@ along-behind : {S M : Type 0} (next : S → M → S) (P : S → M → Type 0) (s
 along-behind next P s [] ns h = h
 along-behind next P s (m ∷ ms) ns h = along-behind next P (next s m) ms ns (h .1)
 
-listed-stays : (i : Issued) (os : List Opening) (p : Opening) (after : List Opening) (x : List ℕ) → OnOneList i (os ++ (p ∷ after)) → holds (listed 8 i) x ≡ true
-    → holds (listed 8 (p .issued)) x ≡ true
-listed-stays i [] p after x h e = subst (λ (j : Issued). holds (listed 8 j) x ≡ true) (sym (h .0 .list)) e
-listed-stays i (o ∷ os) p after x h e =
-    listed-stays (openedIssued o) os p after x (h .1) (opened-keeps o (h .0 .eight) x (subst (λ (j : Issued). holds (listed 8 j) x ≡ true) (sym (h .0 .list)) e))
+abbrev leaves : Issued → Opening → Issued
+leaves i o = openedIssued o
 
-module _ (i : Issued) (first second : Opening) (two : Two i first second) where
+listed-stays : (i : Issued) (os : List Opening) (p : Opening) (after : List Opening) (x : List ℕ) → OnOneList ourOpener i (os ++ (p ∷ after))
+    → holds (listed 8 i) x ≡ true → holds (listed 8 (p .issued)) x ≡ true
+listed-stays i [] p after x h e = h .0 .kept x e
+listed-stays i (o ∷ os) p after x h e = listed-stays (openedIssued o) os p after x (h .1) (opened-keeps o (h .0 .eight) x (h .0 .kept x e))
+
+module _ (i : Issued) (first second : Opening) (two : Two ourOpener i first second) where
   from-first : Along leaves LentTo (end leaves i (two .before)) (first ∷ two .between ++ (second ∷ two .after))
   from-first = along-behind leaves LentTo i (two .before) (first ∷ two .between ++ (second ∷ two .after)) (two .run)
 
@@ -64,49 +66,61 @@ module _ (i : Issued) (first second : Opening) (two : Two i first second) where
       let there = listed-stays (openedIssued first) (two .between) second (two .after) x (from-first .1) (opened-holds first (from-first .0 .eight) (two .opened-first) x h) in
       false≢true (sym (not-met (spends second) (listed 8 (second .issued)) x (opened-fresh second (two .opened-second)) k) ∙ there)
 
-  never : (ss ts : List Lent) → reached first ss .challenge ≢ reached second ts .challenge
-  never ss ts e =
-      apart (reached first ss .challenge) (reached-spent first (two .opened-first) ss)
-      (subst (λ (x : List ℕ). holds (spends second) x ≡ true) (sym e) (reached-spent second (two .opened-second) ts))
+  module _ (ss ts : List Lent) where
+    abbrev in-first : Conversation
+    in-first = reached ourOpener first ss
 
-  -- ---- a recorded Response
+    abbrev in-second : Conversation
+    in-second = reached ourOpener second ts
 
-  eight-octets : (o : Opening) → length (o .challenge) ≡ 8 → Octets (o .challenge) → opened o .refusal ≡ 0 → (ss : List Lent)
-      → (length (reached o ss .challenge) ≡ 8) × Octets (reached o ss .challenge)
-  eight-octets o e k ok ss = succession-octets _ (o .challenge) (reached o ss .challenge) e k (reached-spent o ok ss)
+    never : in-first .challenge ≢ in-second .challenge
+    never e =
+        apart (in-first .challenge) (reached-spent first (two .opened-first) ss)
+        (subst (λ (x : List ℕ). holds (spends second) x ≡ true) (sym e) (reached-spent second (two .opened-second) ts))
 
-  answered-once : (ss ts : List Lent) (h : Hash) (r : List ℕ) → answers h (reached first ss .challenge) r ≡ true → answers h (reached second ts .challenge) r ≡ true → ⊥
-  unfolding answers
-  answered-once ss ts h r p q = which (h .present) p q
-    where
-      same : (t u : List ℕ) → agrees r t ≡ true → agrees r u ≡ true → t ≡ u
-      same t u p q = sym (agrees-equal r t p) ∙ agrees-equal r u q
+    -- ---- a recorded answer
 
-      which : (t : Bool) → (t && agrees r (responseOf (h .octets) (reached first ss .challenge))) ≡ true → (t && agrees r (responseOf (h .octets) (reached second ts .challenge))) ≡ true → ⊥
-      which true p q =
-          let a = eight-octets first (from-first .0 .eight) (from-first .0 .octets) (two .opened-first) ss in
-          let b = eight-octets second (of-second .0 .eight) (of-second .0 .octets) (two .opened-second) ts in
-          never ss ts (response-tells (h .octets) (reached first ss .challenge) (reached second ts .challenge) (a .0) (a .1) (b .0) (b .1)
-          (same (responseOf (h .octets) (reached first ss .challenge)) (responseOf (h .octets) (reached second ts .challenge)) p q))
-      which false p q = false≢true p
+    eight-octets : (o : Opening) → length (o .challenge) ≡ 8 → Octets (o .challenge) → opened o .refusal ≡ 0 → (us : List Lent)
+        → (length (reached ourOpener o us .challenge) ≡ 8) × Octets (reached ourOpener o us .challenge)
+    eight-octets o e k ok us = succession-octets _ (o .challenge) (reached ourOpener o us .challenge) e k (reached-spent o ok us)
 
-  valid-once : (ss ts : List Lent) (a : Account) (f : Response) → valid (reached first ss) a f ≡ true → valid (reached second ts) a f ≡ false
-  unfolding valid
-  valid-once ss ts a f v = by (valid (reached second ts) a f) refl
-    where
-      which : (t u w : Bool) → cond t (answers (a .nt) (reached first ss .challenge) (f .nt)) (u && answers (a .lm) (reached first ss .challenge) (f .lm)) ≡ true
-          → cond t (answers (a .nt) (reached second ts .challenge) (f .nt)) (w && answers (a .lm) (reached second ts .challenge) (f .lm)) ≡ true → ⊥
-      which true u w p q = answered-once ss ts (a .nt) (f .nt) p q
-      which false true true p q = answered-once ss ts (a .lm) (f .lm) p q
-      which false true false p q = false≢true q
-      which false false w p q = false≢true p
+    answered-both : (h : Hash) (r : List ℕ) → answers h (in-first .challenge) r ≡ true → answers h (in-second .challenge) r ≡ true → ⊥
+    unfolding answers
+    answered-both h r p q = which (h .present) p q
+      where
+        same : (t u : List ℕ) → agrees r t ≡ true → agrees r u ≡ true → t ≡ u
+        same t u p q = sym (agrees-equal r t p) ∙ agrees-equal r u q
 
-      by : (t : Bool) → valid (reached second ts) a f ≡ t → t ≡ false
-      by true e = absurd (which (eqb (f .flag) 1 && a .nt .present) (reached first ss .terms .lm) (reached second ts .terms .lm) v e)
-      by false e = refl
+        which : (t : Bool) → (t && agrees r (responseOf (h .octets) (in-first .challenge))) ≡ true
+            → (t && agrees r (responseOf (h .octets) (in-second .challenge))) ≡ true → ⊥
+        which true p q =
+            let a = eight-octets first (from-first .0 .eight) (from-first .0 .octets) (two .opened-first) ss in
+            let b = eight-octets second (of-second .0 .eight) (of-second .0 .octets) (two .opened-second) ts in
+            never (response-tells (h .octets) (in-first .challenge) (in-second .challenge) (a .0) (a .1) (b .0) (b .1)
+            (same (responseOf (h .octets) (in-first .challenge)) (responseOf (h .octets) (in-second .challenge)) p q))
+        which false p q = false≢true p
 
-pub none-twice : NoneTwice
+    valid-both : (a : Account) (f : Response) → valid in-first a f ≡ true → valid in-second a f ≡ true → ⊥
+    unfolding valid
+    valid-both a f p q = which (eqb (f .flag) 1 && a .nt .present) (in-first .terms .lm) (in-second .terms .lm) p q
+      where
+        which : (t u w : Bool) → cond t (answers (a .nt) (in-first .challenge) (f .nt)) (u && answers (a .lm) (in-first .challenge) (f .lm)) ≡ true
+            → cond t (answers (a .nt) (in-second .challenge) (f .nt)) (w && answers (a .lm) (in-second .challenge) (f .lm)) ≡ true → ⊥
+        which true u w p q = answered-both (a .nt) (f .nt) p q
+        which false true true p q = answered-both (a .lm) (f .lm) p q
+        which false true false p q = false≢true q
+        which false false w p q = false≢true p
+
+-- what is not true is false
+not-both : (t : Bool) → (t ≡ true → ⊥) → t ≡ false
+not-both true h = absurd (h refl)
+not-both false h = refl
+
+pub none-twice : NoneTwice ourOpener
 none-twice i first second two ss ts = never i first second two ss ts
 
-pub none-answered-twice : NoneAnsweredTwice
-none-answered-twice i first second two ss ts a f = valid-once i first second two ss ts a f
+pub none-answered-twice : NoneAnsweredTwice ourOpener
+none-answered-twice i first second two ss ts h r p = not-both (answers h (reached ourOpener second ts .challenge) r) (answered-both i first second two ss ts h r p)
+
+pub none-valid-twice : NoneValidTwice ourOpener
+none-valid-twice i first second two ss ts a f p = not-both (valid (reached ourOpener second ts) a f) (valid-both i first second two ss ts a f p)
