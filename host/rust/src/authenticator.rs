@@ -14,7 +14,8 @@ pub enum Awaited {
     Nothing,
 }
 
-/// All that the authenticator keeps between two packets. It may be stored and continued later.
+/// All that the authenticator keeps between two packets. It may be stored and continued later. It is
+/// continued once, since from two copies it would take two answers to one challenge.
 #[derive(Clone, Copy, Debug, PartialEq, Eq)]
 pub struct Conversation([u8; sys::CONVERSATION_SIZE]);
 

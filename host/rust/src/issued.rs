@@ -10,7 +10,9 @@ use std::fmt;
 /// `places / (r + 1)` openings. Once it is full, openings are refused until it is emptied. Each
 /// opening passes once over all used places.
 ///
-/// There is no way to clone it: of two copies neither would know what is issued by the other.
+/// It is no `Clone`: of two copies neither would know what is issued by the other. To outlast a
+/// restart, its [`octets`](Issued::octets) are stored after each opening, before the Challenge is
+/// sent, and the list is [`restored`](Issued::restored) from them.
 pub struct Issued {
     list: Vec<u8>,
     used: usize,
@@ -25,6 +27,26 @@ impl Issued {
             used: 0,
             counts: [0; sys::COUNTS_SIZE],
         }
+    }
+
+    /// The list of so many places whose used ones are these stored entries, the
+    /// [`octets`](Issued::octets) of a list that is no longer lent. None where the entries are not
+    /// whole, where they are more than the places, or where over 4,096 places are asked for.
+    pub fn restored(places: usize, entries: &[u8]) -> Option<Issued> {
+        let used = entries.len() / sys::CHALLENGE_SIZE;
+        let whole = used * sys::CHALLENGE_SIZE == entries.len();
+        if !whole || used > places || places > sys::LIST_PLACES {
+            return None;
+        }
+        let mut list = entries.to_vec();
+        list.resize(places * sys::CHALLENGE_SIZE, 0);
+        let mut counts = [0; sys::COUNTS_SIZE];
+        for entry in entries.chunks(sys::CHALLENGE_SIZE) {
+            if let [.., last] = entry {
+                counts[usize::from(*last)] += 1;
+            }
+        }
+        Some(Issued { list, used, counts })
     }
 
     /// How many places it has.
@@ -42,7 +64,8 @@ impl Issued {
         self.places().saturating_sub(self.used)
     }
 
-    /// The challenges that were issued, 8 octets each, the earliest first.
+    /// The used places, and no others: the challenges that were issued, 8 octets each, the earliest
+    /// first. This is what is stored for [`restored`](Issued::restored).
     pub fn octets(&self) -> &[u8] {
         let end = self.used.saturating_mul(sys::CHALLENGE_SIZE);
         self.list.get(..end).unwrap_or_default()
@@ -66,5 +89,28 @@ impl fmt::Debug for Issued {
             .field("places", &self.places())
             .field("used", &self.used)
             .finish_non_exhaustive()
+    }
+}
+
+#[cfg(test)]
+mod tests {
+    use super::Issued;
+    use crate::{Conversation, REPLY_SIZE};
+
+    #[test]
+    fn restored_counts_are_those_that_openings_left() {
+        let mut issued = Issued::new(4096);
+        for octet in 0..=255 {
+            let challenge = [octet, 2, 3, 4, 5, 6, octet, octet & 0xF3];
+            let retries = Some(octet % 8);
+            let mut reply = [0; REPLY_SIZE];
+            Conversation::open(1, &challenge, retries, None, &mut issued, &mut reply)
+                .expect("an opening");
+        }
+        let restored = Issued::restored(4096, issued.octets()).expect("a list");
+        assert_eq!(restored.used, 1152);
+        assert_eq!(restored.used, issued.used);
+        assert_eq!(restored.counts, issued.counts);
+        assert!(restored.list == issued.list, "the places");
     }
 }

@@ -78,3 +78,55 @@ fn at_most_4096_places() {
         assert_eq!(issued.left(), 4088);
     }
 }
+
+#[test]
+fn a_stored_list_is_restored() {
+    let mut issued = Issued::new(6);
+    assert_eq!(open(&mut issued, 0x01, 2), Ok(()));
+    assert_eq!(open(&mut issued, 0xEA, 0), Ok(()));
+    let stored = issued.octets().to_vec();
+    drop(issued);
+
+    // at least as many places as entries
+    for places in [4, 6, LIST_PLACES] {
+        let mut issued = Issued::restored(places, &stored).expect("a list");
+        assert_eq!(issued.places(), places);
+        holds(&issued, &[0x01, 0x18, 0x2F, 0xEA]);
+        for spent in [0x01, 0x18, 0x2F, 0xEA] {
+            assert_eq!(open(&mut issued, spent, 0), Err(Refusal::Spent));
+        }
+        if places == 4 {
+            assert_eq!(open(&mut issued, 0x50, 0), Err(Refusal::ListFull));
+        } else {
+            assert_eq!(open(&mut issued, 0x50, 1), Ok(()));
+            holds(&issued, &[0x01, 0x18, 0x2F, 0xEA, 0x50, 0x67]);
+        }
+    }
+    holds(&Issued::restored(6, &[]).expect("an empty list"), &[]);
+}
+
+#[test]
+fn what_is_no_stored_list() {
+    let entries = vec![0; (LIST_PLACES + 1) * 8];
+    for (places, size) in [
+        // not whole
+        (6, 1),
+        (6, 7),
+        (6, 9),
+        (LIST_PLACES, LIST_PLACES * 8 - 1),
+        // more than the places
+        (0, 8),
+        (2, 24),
+        (LIST_PLACES, LIST_PLACES * 8 + 8),
+        // too many places
+        (LIST_PLACES + 1, 0),
+        (LIST_PLACES + 1, LIST_PLACES * 8 + 8),
+        (usize::MAX, 8),
+    ] {
+        let issued = Issued::restored(places, &entries[..size]);
+        assert!(issued.is_none(), "{places} places, {size} octets");
+    }
+    let mut issued = Issued::restored(LIST_PLACES, &entries[8..]).expect("a list");
+    assert_eq!(issued.left(), 0);
+    assert_eq!(open(&mut issued, 1, 0), Err(Refusal::ListFull));
+}

@@ -1,5 +1,6 @@
 //! Openings over lists of issued challenges, by runs: lists of every fill, lists that are none, and
-//! one list that forty boxes fill. Answer, conversation, reply, list, used and counts must agree.
+//! one list that forty boxes fill. Answer, conversation, reply, list, used and counts must agree,
+//! and the answer must be the one that the case was made for.
 
 use crate::both::{their_conversation, Lent, Terms};
 use crate::random::Random;
@@ -223,8 +224,14 @@ fn spoil(random: &mut Random, lent: &mut Lent) -> &'static str {
             "used: one over"
         }
         3 => {
+            let before = lent.used;
             lent.used = random.pick(&[places + 2, 2 * places + 1, 4096, 4097, 65_536, usize::MAX]);
-            "used: any"
+            // all of 4,096 places may have been used before
+            if lent.used == before {
+                "a list"
+            } else {
+                "used: any"
+            }
         }
         4 => {
             lent.counts.pop();
@@ -282,6 +289,20 @@ fn opening(random: &mut Random, seen: &mut Seen, places: usize) {
     let mut theirs = lent.clone();
     let number = open(random, &terms, size, &mut lent, &mut theirs);
 
+    let answer = if (8..sys::DEFAULT).contains(&terms.retries) {
+        13
+    } else if size < 17 {
+        2
+    } else if spoiled != "a list" || places > sys::LIST_PLACES {
+        24
+    } else if planted.starts_with("spent") {
+        16
+    } else if few {
+        17
+    } else {
+        sys::OK
+    };
+    assert_eq!(number, answer, "{planted}; {spoiled}; {terms:?}");
     seen.note(format!("answer {number}"));
     seen.note(format!("{spoiled}: {number}"));
     if spoiled == "a list" && terms.retries != 8 {

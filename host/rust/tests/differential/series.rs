@@ -261,7 +261,7 @@ fn series_agree() {
 }
 
 /// Openings over one list, with retries over the limit, buffers that are too small, challenges that
-/// were issued before and too few places.
+/// were issued before and too few places. Now and then the list is stored and restored.
 #[test]
 fn openings_agree() {
     let seen = run("openings", 100_000, |random, seen| {
@@ -280,11 +280,16 @@ fn openings_agree() {
                 issued.empty();
                 lent = Lent::empty(places);
             }
+            if random.chance(20) {
+                issued = Issued::restored(places, issued.octets()).expect("a list");
+                seen.note("restored");
+            }
         }
     });
     for refusal in [0, 2, 13, 16, 17] {
         seen.expect(&[&format!("opening {refusal}")]);
     }
+    seen.expect(&["restored"]);
 }
 
 fn opening(
