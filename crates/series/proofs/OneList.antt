@@ -26,7 +26,7 @@ use Rattle.authenticator.proofs.Spends.{succession-octets}
 use Rattle.authenticator.proofs.Openings.{opened-first, opened-fresh, opened-holds, opened-keeps}
 use Rattle.authenticator.proofs.InForce.{Still, now-in-force, step-still}
 use Rattle.series.specs.Course.{end, Along}
-use Rattle.series.specs.OneList.{LentTo, OnOneList, Two, reached, NoneTwice, NoneAnsweredTwice, NoneValidTwice, ourOpener}
+use Rattle.series.specs.OneList.{LentTo, OnOneList, Two, reached, NoneTwice, NoneAnsweredTwice, NoneValidTwice, spending, ourOpener}
 
 -- ---- what a conversation can put in force is what its opening spent
 
@@ -34,10 +34,10 @@ still-all : (c : Conversation) (ss : List Lent) (x : List ℕ) → Still (end (n
 still-all c [] x h = h
 still-all c (s ∷ ss) x h = step-still c s x (still-all (nextAfter stepOn c s) ss x h)
 
-reached-spent : (o : Opening) → opened o .refusal ≡ 0 → (ss : List Lent) → holds (spends o) (reached ourOpener o ss .challenge) ≡ true
+reached-spent : (o : Opening) → opened o .refusal ≡ 0 → (ss : List Lent) → holds (spends o) (reached spending o ss .challenge) ≡ true
 reached-spent o ok ss =
-    subst (λ (c : Conversation). Still c (reached ourOpener o ss .challenge)) (opened-first o ok)
-    (still-all (opened o .conversation) ss (reached ourOpener o ss .challenge) (now-in-force (reached ourOpener o ss)))
+    subst (λ (c : Conversation). Still c (reached spending o ss .challenge)) (opened-first o ok)
+    (still-all (opened o .conversation) ss (reached spending o ss .challenge) (now-in-force (reached spending o ss)))
 
 -- ---- what stands in the list stays there
 
@@ -48,12 +48,12 @@ along-behind next P s (m ∷ ms) ns h = along-behind next P (next s m) ms ns (h 
 abbrev leaves : Issued → Opening → Issued
 leaves i o = openedIssued o
 
-listed-stays : (i : Issued) (os : List Opening) (p : Opening) (after : List Opening) (x : List ℕ) → OnOneList ourOpener i (os ++ (p ∷ after))
+listed-stays : (i : Issued) (os : List Opening) (p : Opening) (after : List Opening) (x : List ℕ) → OnOneList spending i (os ++ (p ∷ after))
     → holds (listed 8 i) x ≡ true → holds (listed 8 (p .issued)) x ≡ true
 listed-stays i [] p after x h e = h .0 .kept x e
 listed-stays i (o ∷ os) p after x h e = listed-stays (openedIssued o) os p after x (h .1) (opened-keeps o (h .0 .eight) x (h .0 .kept x e))
 
-module _ (i : Issued) (first second : Opening) (two : Two ourOpener i first second) where
+module _ (i : Issued) (first second : Opening) (two : Two spending i first second) where
   from-first : Along leaves LentTo (end leaves i (two .before)) (first ∷ two .between ++ (second ∷ two .after))
   from-first = along-behind leaves LentTo i (two .before) (first ∷ two .between ++ (second ∷ two .after)) (two .run)
 
@@ -68,10 +68,10 @@ module _ (i : Issued) (first second : Opening) (two : Two ourOpener i first seco
 
   module _ (ss ts : List Lent) where
     abbrev in-first : Conversation
-    in-first = reached ourOpener first ss
+    in-first = reached spending first ss
 
     abbrev in-second : Conversation
-    in-second = reached ourOpener second ts
+    in-second = reached spending second ts
 
     never : in-first .challenge ≢ in-second .challenge
     never e =
@@ -81,8 +81,8 @@ module _ (i : Issued) (first second : Opening) (two : Two ourOpener i first seco
     -- ---- a recorded answer
 
     eight-octets : (o : Opening) → length (o .challenge) ≡ 8 → Octets (o .challenge) → opened o .refusal ≡ 0 → (us : List Lent)
-        → (length (reached ourOpener o us .challenge) ≡ 8) × Octets (reached ourOpener o us .challenge)
-    eight-octets o e k ok us = succession-octets _ (o .challenge) (reached ourOpener o us .challenge) e k (reached-spent o ok us)
+        → (length (reached spending o us .challenge) ≡ 8) × Octets (reached spending o us .challenge)
+    eight-octets o e k ok us = succession-octets _ (o .challenge) (reached spending o us .challenge) e k (reached-spent o ok us)
 
     answered-both : (h : Hash) (r : List ℕ) → answers h (in-first .challenge) r ≡ true → answers h (in-second .challenge) r ≡ true → ⊥
     unfolding answers
@@ -112,15 +112,15 @@ module _ (i : Issued) (first second : Opening) (two : Two ourOpener i first seco
         which false false w p q = false≢true p
 
 -- what is not true is false
-not-both : (t : Bool) → (t ≡ true → ⊥) → t ≡ false
-not-both true h = absurd (h refl)
-not-both false h = refl
+refuted : (t : Bool) → (t ≡ true → ⊥) → t ≡ false
+refuted true h = absurd (h refl)
+refuted false h = refl
 
 pub none-twice : NoneTwice ourOpener
 none-twice i first second two ss ts = never i first second two ss ts
 
 pub none-answered-twice : NoneAnsweredTwice ourOpener
-none-answered-twice i first second two ss ts h r p = not-both (answers h (reached ourOpener second ts .challenge) r) (answered-both i first second two ss ts h r p)
+none-answered-twice i first second two ss ts h r p = refuted (answers h (reached ourOpener second ts .challenge) r) (answered-both i first second two ss ts h r p)
 
 pub none-valid-twice : NoneValidTwice ourOpener
-none-valid-twice i first second two ss ts a f p = not-both (valid (reached ourOpener second ts) a f) (valid-both i first second two ss ts a f p)
+none-valid-twice i first second two ss ts a f p = refuted (valid (reached ourOpener second ts) a f) (valid-both i first second two ss ts a f p)

@@ -92,6 +92,10 @@ sparing =
       leaves = λ o. openedIssued (alone o);
     }
 
--- ours: what the promise of the authenticator's `open` says
+-- one that does what the promise of the authenticator's `open` says
+abbrev pub spending : Opener
+spending = record { answer = opened; leaves = openedIssued }
+
+-- ours
 abbrev pub ourOpener : Opener
-ourOpener = record { answer = opened; leaves = openedIssued }
+ourOpener = spending
