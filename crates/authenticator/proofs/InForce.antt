@@ -29,56 +29,56 @@ use Rattle.authenticator.specs.declared.Phase.the-variants.{Response, Ch
 use Rattle.authenticator.proofs.Steps.{judged-step, number-step, refused-same}
 
 -- x is the challenge in force, or can be after a retry
-abbrev pub Still : Conversation → List ℕ → Type 0
-Still c x = holds (succession (suc (c .retries)) (c .challenge)) x ≡ true
+abbrev pub CanBeInForce : Conversation → List ℕ → Type 0
+CanBeInForce c x = holds (succession (suc (c .retries)) (c .challenge)) x ≡ true
 
-pub now-in-force : (c : Conversation) → Still c (c .challenge)
+pub now-in-force : (c : Conversation) → CanBeInForce c (c .challenge)
 unfolding holds succession
 now-in-force c = ap (λ (t : Bool). t || holds (succession (c .retries) (grown (c .challenge))) (c .challenge)) (agrees-refl (c .challenge))
 
-retried-still : (c : Conversation) (x : List ℕ) → 0 < c .retries → Still (retried c) x → Still c x
+retried-adds-none : (c : Conversation) (x : List ℕ) → 0 < c .retries → CanBeInForce (retried c) x → CanBeInForce c x
 unfolding holds succession
-retried-still c x more h =
+retried-adds-none c x more h =
     let e : suc (c .retries - 1) ≡ c .retries = omega arith in
     ap (λ (t : Bool). agrees (c .challenge) x || t) (subst (λ (n : ℕ). holds (succession n (grown (c .challenge))) x ≡ true) e h) ∙ or-true (agrees (c .challenge) x)
 
-after-still : (c : Conversation) (a : Account) (e : ℕ) (x : List ℕ) → Still (afterReason c a e) x → Still c x
-after-still c a e x = which (eqb e 691) (ltb 0 (c .retries)) (eqb e 648) refl
+after-adds-none : (c : Conversation) (a : Account) (e : ℕ) (x : List ℕ) → CanBeInForce (afterReason c a e) x → CanBeInForce c x
+after-adds-none c a e x = which (eqb e 691) (ltb 0 (c .retries)) (eqb e 648) refl
   where
-    which : (t u v : Bool) → ltb 0 (c .retries) ≡ u → Still (cond (t && u) (retried c) (cond v (keeping c a) (ended c))) x → Still c x
-    which true true v p h = retried-still c x (ltb-true 0 (c .retries) p) h
+    which : (t u v : Bool) → ltb 0 (c .retries) ≡ u → CanBeInForce (cond (t && u) (retried c) (cond v (keeping c a) (ended c))) x → CanBeInForce c x
+    which true true v p h = retried-adds-none c x (ltb-true 0 (c .retries) p) h
     which true false true p h = h
     which true false false p h = h
     which false u true p h = h
     which false u false p h = h
 
-response-still : (c : Conversation) (l : Lookup) (f : fields.Response) (x : List ℕ) → Still (responseDrawn c l f .next) x → Still c x
+response-adds-none : (c : Conversation) (l : Lookup) (f : fields.Response) (x : List ℕ) → CanBeInForce (responseDrawn c l f .next) x → CanBeInForce c x
 unfolding responseDrawn
-response-still c l f x h = after-still c (l .account) (reasonOf c l f) x h
+response-adds-none c l f x h = after-adds-none c (l .account) (reasonOf c l f) x h
 
-change-still : (c : Conversation) (f : changes.Change) (x : List ℕ) → Still (changeDrawn c f .next) x → Still c x
+change-adds-none : (c : Conversation) (f : changes.Change) (x : List ℕ) → CanBeInForce (changeDrawn c f .next) x → CanBeInForce c x
 unfolding changeDrawn
-change-still c f x = which (newHash c f)
+change-adds-none c f x = which (newHash c f)
   where
-    which : (o : Option (List ℕ)) → Still (drawnBy c o .next) x → Still c x
+    which : (o : Option (List ℕ)) → CanBeInForce (drawnBy c o .next) x → CanBeInForce c x
     which none h = h
     which (some v) h = h
 
-phase-still : (ph : Phase) (c : Conversation) (p : List ℕ) (l : Lookup) (x : List ℕ) → Still (drawnIn ph c p l .next) x → Still c x
-phase-still Response c p l x h = response-still c l (responseIn p) x h
-phase-still Change c p l x h = change-still _ _ x h
-phase-still Ended c p l x h = h
+phase-adds-none : (ph : Phase) (c : Conversation) (p : List ℕ) (l : Lookup) (x : List ℕ) → CanBeInForce (drawnIn ph c p l .next) x → CanBeInForce c x
+phase-adds-none Response c p l x h = response-adds-none c l (responseIn p) x h
+phase-adds-none Change c p l x h = change-adds-none _ _ x h
+phase-adds-none Ended c p l x h = h
 
-drawn-still : (c : Conversation) (p : List ℕ) (l : Lookup) (x : List ℕ) → Still (drawn c p l .next) x → Still c x
+drawn-adds-none : (c : Conversation) (p : List ℕ) (l : Lookup) (x : List ℕ) → CanBeInForce (drawn c p l .next) x → CanBeInForce c x
 unfolding drawn
-drawn-still c p l x h = phase-still (c .phase) c p l x h
+drawn-adds-none c p l x h = phase-adds-none (c .phase) c p l x h
 
 -- for any packet, record and buffer
-pub step-still : (c : Conversation) (s : Lent) (x : List ℕ) → Still (nextAfter stepOn c s) x → Still c x
-step-still c s x h = which (eqb (refusalAt stepOn c s) 0) refl
+pub step-adds-none : (c : Conversation) (s : Lent) (x : List ℕ) → CanBeInForce (nextAfter stepOn c s) x → CanBeInForce c x
+step-adds-none c s x h = which (eqb (refusalAt stepOn c s) 0) refl
   where
-    which : (t : Bool) → eqb (refusalAt stepOn c s) 0 ≡ t → Still c x
+    which : (t : Bool) → eqb (refusalAt stepOn c s) 0 ≡ t → CanBeInForce c x
     which true e =
         let ok : refusalOf c (s .packet) (s .buffer) ≡ 0 = sym (number-step c (s .packet) (s .account) (s .buffer)) ∙ eqb-true (refusalAt stepOn c s) 0 e in
-        drawn-still c (s .packet) (s .account) x (subst (λ (o : Outcome). Still (o .answer .next) x) (judged-step c (s .packet) (s .account) (s .buffer) ok) h)
-    which false e = subst (λ (d : Conversation). Still d x) (refused-same c s (eqb-false (refusalAt stepOn c s) 0 e)) h
+        drawn-adds-none c (s .packet) (s .account) x (subst (λ (o : Outcome). CanBeInForce (o .answer .next) x) (judged-step c (s .packet) (s .account) (s .buffer) ok) h)
+    which false e = subst (λ (d : Conversation). CanBeInForce d x) (refused-same c s (eqb-false (refusalAt stepOn c s) 0 e)) h

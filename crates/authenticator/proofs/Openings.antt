@@ -2,7 +2,7 @@
 -- them was. A refused one: an ended conversation of fixed values, and buffer and list as they were. Either leaves true counts true.
 -- Assumes nothing.
 use mathlib.Core.Bool.{Bool, true, false, cond}
-use mathlib.Core.List.{List, _∷_, _++_}
+use mathlib.Core.List.{List, _++_}
 use mathlib.Core.Logic.{_≢_}
 use mathlib.Core.Path.{_≡_, refl, sym, ap, _∙_, subst}
 use Prim.Native.Nat.{ℕ, suc, _+_, _≤_}
@@ -10,18 +10,17 @@ use native.Mathlib.Omega.{arith}
 use borrow.Author.Tests.{eqb-true, eqb-false, ne-eqb, le-ltb, ltb-false}
 use lib.Dec.{eqb, ltb}
 use lib.ListN.{length, take, replicate}
-use Rattle.issued.specs.Issued.{Issued, places, listed, holds, Different, meets, countsOf, badBuffer, untrue, spendRefusal, spent}
+use Rattle.issued.specs.Issued.{Issued, places, listed, holds, Distinct, meets, countsOf, badBuffer, untrue, spendRefusal, spent}
 use Rattle.issued.proofs.Listing.{Wide}
-use Rattle.issued.proofs.Spending.{accepted, accepts, empty-accepts, spent-added, spent-listed, spent-holds, spent-keeps, spent-true, spent-good}
+use Rattle.issued.proofs.Spending.{accepted, accepts, empty-accepts, same-issued, spent-added, spent-listed, spent-holds, spent-keeps, spent-true, spent-sound}
 use Rattle.packets.specs.Frame.{headed}
-use Rattle.packets.specs.Next.{succession}
 use Rattle.packets.specs.Reply.{challengePacket}
 use Rattle.packets.proofs.Growing.{length-succession}
 use Rattle.packets.proofs.Writing.{taken}
 use Rattle.authenticator.specs.Conversation.{closed}
 use Rattle.authenticator.specs.Opening.{Opening, retriesOf, badRoom, spends, openRefusal, openedIssued, firstConversation, openingPacket, openedBy, opened, openedBuffer, Opens}
 use Rattle.authenticator.specs.declared.Opened.{Opened}
-use Rattle.authenticator.proofs.Spends.{succession-wide, succession-different}
+use Rattle.authenticator.proofs.Spends.{succession-wide, succession-distinct}
 
 -- the answer's number is the refusal
 pub opened-number : (o : Opening) → opened o .refusal ≡ openRefusal o
@@ -37,10 +36,6 @@ none : (t₁ t₂ : Bool) (n : ℕ) → cond t₁ 13 (cond t₂ 2 n) ≡ 0 → (
 none true t₂ n h = absurd (omega arith)
 none false true n h = absurd (omega arith)
 none false false n h = (refl, refl, h)
-
-same-issued : {b b' c c' : List ℕ} {u u' : ℕ} → b ≡ b' → u ≡ u' → c ≡ c'
-    → _≡_ {A = Issued} (record { buffer = b; used = u; counts = c }) (record { buffer = b'; used = u'; counts = c' })
-same-issued p q r = cc
 
 module _ (o : Opening) where
   module _ (ok : opened o .refusal ≡ 0) where
@@ -122,42 +117,42 @@ module _ (o : Opening) where
     opened-true e = either (λ (i : Issued). i .counts ≡ countsOf (listed 8 i)) (spent-true 8 (spends o) (o .issued) wide e) e
 
     -- and the list that an opening leaves draws no 24 at the next
-    pub opened-good : opened o .refusal ≡ 0 → (badBuffer 8 (openedIssued o .buffer) (openedIssued o .used) ≡ false) × (untrue 8 (openedIssued o) ≡ false)
-    opened-good ok =
-        subst (λ (i : Issued). (badBuffer 8 (i .buffer) (i .used) ≡ false) × (untrue 8 i ≡ false)) (sym (opened-spent ok)) (spent-good 8 (spends o) (o .issued) wide (passed ok .2))
+    pub opened-sound : opened o .refusal ≡ 0 → (badBuffer 8 (openedIssued o .buffer) (openedIssued o .used) ≡ false) × (untrue 8 (openedIssued o) ≡ false)
+    opened-sound ok =
+        subst (λ (i : Issued). (badBuffer 8 (i .buffer) (i .used) ≡ false) × (untrue 8 i ≡ false)) (sym (opened-spent ok)) (spent-sound 8 (spends o) (o .issued) wide (passed ok .2))
 
-  -- what an opening with at most 7 retries spends differs among itself
-  pub opened-different : (x : ℕ) (xs : List ℕ) → o .challenge ≡ x ∷ xs → opened o .refusal ≡ 0 → Different (spends o)
-  opened-different x xs e ok =
-      let few = ltb-false 7 (retriesOf (o .retries)) (passed ok .0) in
-      subst (λ (c : List ℕ). Different (succession (suc (retriesOf (o .retries))) c)) (sym e) (succession-different (suc (retriesOf (o .retries))) x xs (omega arith))
+    -- what it spends is distinct
+    pub opened-distinct : opened o .refusal ≡ 0 → Distinct (spends o)
+    opened-distinct ok =
+        let few = ltb-false 7 (retriesOf (o .retries)) (passed ok .0) in
+        succession-distinct (suc (retriesOf (o .retries))) (o .challenge) (omega arith) (omega arith)
 
 -- ---- what is not refused
 
 module _ (o : Opening) (few : retriesOf (o .retries) ≤ 7) (room : 17 ≤ length (o .buffer)) where
-  opens-by : spendRefusal 8 (spends o) (o .issued) ≡ 0 → opened o .refusal ≡ 0
+  may-open-by : spendRefusal 8 (spends o) (o .issued) ≡ 0 → opened o .refusal ≡ 0
   unfolding openRefusal
-  opens-by e = opened-number o ∙ simp (le-ltb 7 (retriesOf (o .retries)) few, le-ltb (length (o .buffer)) 17 room, e)
+  may-open-by e = opened-number o ∙ simp (le-ltb 7 (retriesOf (o .retries)) few, le-ltb (length (o .buffer)) 17 room, e)
 
   -- on a sound list, with challenges that were not issued and places for them
-  pub opens : badBuffer 8 (o .issued .buffer) (o .issued .used) ≡ false → o .issued .counts ≡ countsOf (listed 8 (o .issued))
+  pub may-open : badBuffer 8 (o .issued .buffer) (o .issued .used) ≡ false → o .issued .counts ≡ countsOf (listed 8 (o .issued))
       → meets (spends o) (listed 8 (o .issued)) ≡ false → o .issued .used + suc (retriesOf (o .retries)) ≤ places 8 (o .issued .buffer)
       → opened o .refusal ≡ 0
-  opens sound counts fresh left =
-      opens-by (accepts 8 (spends o) (o .issued) sound counts fresh (omega (arith, length-succession (suc (retriesOf (o .retries))) (o .challenge))))
+  may-open sound counts fresh left =
+      may-open-by (accepts 8 (spends o) (o .issued) sound counts fresh (omega (arith, length-succession (suc (retriesOf (o .retries))) (o .challenge))))
 
   -- on an empty one, whatever lies in its places
-  pub opens-empty : badBuffer 8 (o .issued .buffer) (o .issued .used) ≡ false → o .issued .used ≡ 0 → o .issued .counts ≡ replicate 256 0
+  pub may-open-empty : badBuffer 8 (o .issued .buffer) (o .issued .used) ≡ false → o .issued .used ≡ 0 → o .issued .counts ≡ replicate 256 0
       → suc (retriesOf (o .retries)) ≤ places 8 (o .issued .buffer) → opened o .refusal ≡ 0
-  opens-empty sound none zeros left =
-      opens-by (empty-accepts 8 (spends o) (o .issued) sound none zeros (omega (arith, length-succession (suc (retriesOf (o .retries))) (o .challenge))))
+  may-open-empty sound none zeros left =
+      may-open-by (empty-accepts 8 (spends o) (o .issued) sound none zeros (omega (arith, length-succession (suc (retriesOf (o .retries))) (o .challenge))))
 
--- ---- what the code has to show of an answer r and of what it leaves
+-- ---- how the code shows its promise at a return
 
 module _ (o : Opening) {r : Opened} {list counts buffer : List ℕ} where
-  pub refused-opens : (n : ℕ) → openRefusal o ≡ n → n ≢ 0 → r ≡ record { refusal = n; conversation = closed; written = 0; used = o .issued .used }
+  pub refused-promise : (n : ℕ) → openRefusal o ≡ n → n ≢ 0 → r ≡ record { refusal = n; conversation = closed; written = 0; used = o .issued .used }
       → list ≡ o .issued .buffer → counts ≡ o .issued .counts → buffer ≡ o .buffer → Opens o r (record { buffer = list; used = r .used; counts = counts }) buffer
-  refused-opens n e not e₁ e₂ e₃ e₄ =
+  refused-promise n e not e₁ e₂ e₃ e₄ =
       let k = opened-not o (λ f. not (sym e ∙ sym (opened-number o) ∙ f)) in
       let u = ap (λ (x : Opened). x .used) e₁ in
       record {
@@ -166,10 +161,10 @@ module _ (o : Opening) {r : Opened} {list counts buffer : List ℕ} where
         reply = e₄ ∙ sym (k .2);
       }
 
-  pub accepted-opens : openRefusal o ≡ 0 → record { buffer = list; used = r .used; counts = counts } ≡ spent 8 (spends o) (o .issued)
+  pub accepted-promise : openRefusal o ≡ 0 → record { buffer = list; used = r .used; counts = counts } ≡ spent 8 (spends o) (o .issued)
       → r ≡ record { refusal = 0; conversation = firstConversation o; written = length (openingPacket o); used = r .used }
       → buffer ≡ headed (openingPacket o) (o .buffer) → Opens o r (record { buffer = list; used = r .used; counts = counts }) buffer
-  accepted-opens e h e₁ e₂ =
+  accepted-promise e h e₁ e₂ =
       let ok = opened-number o ∙ e in
       let after = h ∙ sym (opened-spent o ok) in
       record {

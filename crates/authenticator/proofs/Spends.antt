@@ -13,10 +13,10 @@ use lib.ListN.{length, take}
 use Rattle.octets.specs.Parts.{part, agrees}
 use Rattle.octets.proofs.Parts.{agrees-equal}
 use Rattle.octets.proofs.Numbers.{Octets}
-use Rattle.issued.specs.Issued.{entries, entriesIn, holds, Different}
+use Rattle.issued.specs.Issued.{entries, entriesIn, holds, Distinct}
 use Rattle.issued.proofs.Listing.{Wide, length-flatten, entries-flatten}
 use Rattle.packets.specs.Next.{grown, succession}
-use Rattle.packets.proofs.Growing.{length-grown, length-succession, succession-front}
+use Rattle.packets.proofs.Growing.{length-grown, grown-octets, length-succession, succession-front}
 
 pub succession-wide : (n : ℕ) (c : List ℕ) → length c ≡ 8 → Wide 8 (succession n c)
 unfolding succession
@@ -25,7 +25,7 @@ succession-wide (suc n) c e = (e, succession-wide n (grown c) (length-grown c �
 
 -- ---- the entries differ among themselves
 
--- 23 * k is no multiple of 256
+-- 23 * k is no multiple of 256, for k from 1 to 11
 no-multiple : (k q : ℕ) → 23 * k ≡ q * 256 → 0 < k → k ≤ 11 → ⊥
 no-multiple k zero e pos few = omega arith
 no-multiple k (suc q) e pos few = omega arith
@@ -41,19 +41,15 @@ others (suc n) k x y xs e pos few =
     let differ : eqb y x ≡ false = ne-eqb y x (not-back k x y e pos (omega arith)) in
     rw differ (others n (suc k) x ((y + 23) % 256) xs (omega arith) (omega arith) (omega arith))
 
--- 23 is odd and r at most 7: a box does not refuse itself
-pub succession-different : (n x : ℕ) (xs : List ℕ) → n ≤ 8 → Different (succession n (x ∷ xs))
+-- at most 8 of them are distinct
+pub succession-distinct : (n : ℕ) (c : List ℕ) → 0 < length c → n ≤ 8 → Distinct (succession n c)
 unfolding succession
-succession-different zero x xs h = tt
-succession-different (suc n) x xs h =
-    (others n 1 x ((x + 23) % 256) xs (omega arith) (omega arith) (omega arith), succession-different n ((x + 23) % 256) xs (omega arith))
+succession-distinct n [] pos h = absurd (omega arith)
+succession-distinct zero (x ∷ xs) pos h = tt
+succession-distinct (suc n) (x ∷ xs) pos h =
+    (others n 1 x ((x + 23) % 256) xs (omega arith) (omega arith) (omega arith), succession-distinct n ((x + 23) % 256 ∷ xs) (omega arith) (omega arith))
 
 -- ---- each is eight octets
-
-grown-octets : (c : List ℕ) → Octets c → Octets (grown c)
-grown-octets [] h i = h i
-grown-octets (x ∷ c) h zero = omega arith
-grown-octets (x ∷ c) h (suc i) = h (suc i)
 
 pub succession-octets : (n : ℕ) (c x : List ℕ) → length c ≡ 8 → Octets c → holds (succession n c) x ≡ true → (length x ≡ 8) × Octets x
 unfolding succession holds

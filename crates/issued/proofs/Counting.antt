@@ -3,7 +3,7 @@
 use mathlib.Core.Bool.{Bool, true, false, cond, _||_}
 use mathlib.Core.List.{List, [], _∷_, _++_, append-nil}
 use mathlib.Core.Path.{_≡_, refl, sym, ap, ap₂, _∙_, subst}
-use Prim.Native.Nat.{ℕ, zero, suc, _+_, _-_, _*_, _≤_, _<_}
+use Prim.Native.Nat.{ℕ, zero, suc, _+_, _-_, _≤_, _<_}
 use native.Mathlib.Omega.{arith}
 use borrow.Author.Tests.{eq-eqb, eqb-true, eqb-false, leb-true, leb-false}
 use lib.Dec.{eqb, leb}
@@ -13,7 +13,7 @@ use Rattle.octets.specs.Parts.{agrees}
 use Rattle.octets.proofs.Parts.{agrees-equal}
 use Rattle.issued.specs.Issued.{entries, holds, lastOf, ending, endings, countsOf}
 use Rattle.issued.specs.Code.{raisedAt, raised, Room}
-use Rattle.issued.proofs.Listing.{entries-next, rest-part, fits-first, fits-rest, last-at}
+use Rattle.issued.proofs.Listing.{Lie, entries-next, rest-part, rest-lies, last-first}
 
 -- ---- how many end in an octet
 
@@ -83,9 +83,6 @@ raised-one es e =
     (size ∙ sym (length-endings 0 256 (es ++ (e ∷ []))))
     (λ k h. each k (omega (arith, size)) (eqb (lastOf e) k) refl)
   where
-    x : ℕ
-    x = lastOf e
-
     size : length (raisedAt (countsOf es) (lastOf e)) ≡ 256
     size = length-raised-at (countsOf es) (lastOf e) ∙ length-endings 0 256 es
 
@@ -111,11 +108,11 @@ raised-counts es [] = ap countsOf (sym (append-nil es))
 raised-counts es (c ∷ cs) =
     ap (λ (l : List ℕ). raised l cs) (raised-one es c) ∙ raised-counts (es ++ (c ∷ [])) cs ∙ ap countsOf (append-snoc es c cs)
 
--- from counts of 0, they are those of cs alone
 pub none-counted : replicate 256 0 ≡ countsOf []
 unfolding endings ending
 none-counted = refl
 
+-- raised from 0, the counts are those of cs
 pub counted : {counts : List ℕ} (cs : List (List ℕ)) → counts ≡ raised (replicate 256 0) cs → counts ≡ countsOf cs
 counted cs e = e ∙ ap (λ (l : List ℕ). raised l cs) none-counted ∙ raised-counts [] cs
 
@@ -142,41 +139,35 @@ raised-at-most counts x y = which (eqb y x) (leb (length counts) x) refl refl
         omega (arith, ap (λ (z : ℕ). getD (raisedAt counts x) z 0) e, ap (λ (z : ℕ). getD counts z 0) e, getD-set-same counts x (getD counts x 0 + 1) 0 (leb-false (length counts) x q))
     which false u p q = omega (arith, getD-set-other counts x y (getD counts x 0 + 1) 0 (eqb-false y x p))
 
-pub room-next : (counts : List ℕ) (x n : ℕ) → 0 < n → Room counts n → Room (raisedAt counts x) (n - 1)
+room-next : (counts : List ℕ) (x n : ℕ) → 0 < n → Room counts n → Room (raisedAt counts x) (n - 1)
 room-next counts x n h r y = omega (arith, r y, raised-at-most counts x y)
 
 -- ---- a loop that raises the counts
 
--- n entries of l are left, and once they are counted the counts are `all`
-pub record Left (w : ℕ) (counts l : List ℕ) (n : ℕ) (all : List ℕ) : Type 0 where
-  pub wide : 0 < w
-  pub fits : w * n ≤ length l
+-- n entries of l are left to be counted, and then the counts are `all`
+pub record Uncounted (w : ℕ) (counts l : List ℕ) (n : ℕ) (all : List ℕ) : Type 0 where
+  pub lie : Lie w l n
   pub size : length counts ≡ 256
   pub room : Room counts n
   pub same : raised counts (entries w n l) ≡ all
 
-module _ (w : ℕ) (counts l : List ℕ) (n : ℕ) (all : List ℕ) (more : 0 < n) (h : Left w counts l n all) where
-  pub first-fits : w ≤ length l
-  first-fits = fits-first w n l more (h .fits)
-
+module _ (w : ℕ) (counts l : List ℕ) (n : ℕ) (all : List ℕ) (more : 0 < n) (h : Uncounted w counts l n all) where
   pub raise-fits : (x : ℕ) → (length counts ≡ 256) × (getD counts x 0 < 65535)
   raise-fits x = (h .size, omega (arith, h .room x))
 
-  -- the rest as a slice from w on has it
+  -- one more is counted, and the rest is a slice from w on
   pub raise-next : {raisedCounts : List ℕ} → raisedCounts ≡ raisedAt counts (getD l (w - 1) 0)
-      → Left w raisedCounts (take (length l - w) (drop w l)) (n - 1) all
+      → Uncounted w raisedCounts (take (length l - w) (drop w l)) (n - 1) all
   unfolding raised
   raise-next e =
-      let f = rest-part w l in
-      let k = e ∙ ap (raisedAt counts) (sym (last-at w l (h .wide) first-fits)) in
+      let k = e ∙ ap (raisedAt counts) (sym (last-first w l n more (h .lie))) in
       record {
-        wide = h .wide;
-        fits = subst (λ (m : List ℕ). w * (n - 1) ≤ length m) (sym f) (fits-rest w n l more (h .fits));
+        lie = rest-lies w l n more (h .lie);
         size = ap length k ∙ length-raised-at counts (lastOf (take w l)) ∙ h .size;
         room = subst (λ (m : List ℕ). Room m (n - 1)) (sym k) (room-next counts (lastOf (take w l)) n more (h .room));
-        same = ap₂ (λ (m r : List ℕ). raised m (entries w (n - 1) r)) k f ∙ sym (ap (raised counts) (entries-next w n l more)) ∙ h .same;
+        same = ap₂ (λ (m r : List ℕ). raised m (entries w (n - 1) r)) k (rest-part w l) ∙ sym (ap (raised counts) (entries-next w n l more)) ∙ h .same;
       }
 
-pub left-none : (w : ℕ) (counts l : List ℕ) (n : ℕ) (all : List ℕ) → n ≡ 0 → Left w counts l n all → counts ≡ all
+pub all-counted : (w : ℕ) (counts l : List ℕ) (n : ℕ) (all : List ℕ) → n ≡ 0 → Uncounted w counts l n all → counts ≡ all
 unfolding raised
-left-none w counts l n all z h = ap (λ (k : ℕ). raised counts (entries w k l)) (sym z) ∙ h .same
+all-counted w counts l n all z h = ap (λ (k : ℕ). raised counts (entries w k l)) (sym z) ∙ h .same

@@ -9,7 +9,7 @@ use native.Mathlib.Omega.{arith}
 use lib.ListN.{length, take, drop, getD, length-append, length-drop, take-append-drop}
 use lib.Seq.{take-all, length-take-le, getD-take, take-append-le, drop-append-le, take-add, take-at, drop-at, drop-drop}
 use Rattle.octets.specs.Parts.{overAt, agrees}
-use Rattle.octets.proofs.Parts.{over-fits, agrees-refl, agrees-equal}
+use Rattle.octets.proofs.Parts.{over-fits, agrees-sym, agrees-equal}
 use Rattle.issued.specs.Issued.{entries, holds, meets, lastOf}
 
 -- ---- one entry taken off the front
@@ -18,32 +18,35 @@ pub entries-next : (w n : ℕ) (l : List ℕ) → 0 < n → entries w n l ≡ ta
 entries-next w zero l h = absurd (omega arith)
 entries-next w (suc k) l h = let e : k ≡ suc k - 1 = omega arith in ap (λ (m : ℕ). take w l ∷ entries w m (drop w l)) e
 
--- where n fit, one fits, and the rest fit in the rest
-pub fits-first : (w n : ℕ) (l : List ℕ) → 0 < n → w * n ≤ length l → w ≤ length l
-fits-first w zero l h f = absurd (omega arith)
-fits-first w (suc k) l h f = omega (arith, mul-suc w k)
-
-pub fits-rest : (w n : ℕ) (l : List ℕ) → 0 < n → w * n ≤ length l → w * (n - 1) ≤ length (drop w l)
-fits-rest w zero l h f = absurd (omega arith)
-fits-rest w (suc k) l h f = let e : suc k - 1 ≡ k = omega arith in rw (length-drop w l, e) (omega (arith, mul-suc w k))
+-- n entries lie in l
+pub record Lie (w : ℕ) (l : List ℕ) (n : ℕ) : Type 0 where
+  pub positive : 0 < w
+  pub fits : w * n ≤ length l
 
 -- what a slice from w on holds
 pub rest-part : (w : ℕ) (l : List ℕ) → take (length l - w) (drop w l) ≡ drop w l
 rest-part w l = take-all (length l - w) (drop w l) (omega (arith, length-drop w l))
 
-pub last-at : (w : ℕ) (l : List ℕ) → 0 < w → w ≤ length l → lastOf (take w l) ≡ getD l (w - 1) 0
-last-at w l h f = ap (λ (n : ℕ). getD (take w l) (n - 1) 0) (length-take-le w l f) ∙ getD-take w l (w - 1) 0 (omega arith)
+module _ (w : ℕ) (l : List ℕ) (n : ℕ) (more : 0 < n) (h : Lie w l n) where
+  pub first-fits : w ≤ length l
+  first-fits = fits n more (h .fits)
+    where
+      fits : (k : ℕ) → 0 < k → w * k ≤ length l → w ≤ length l
+      fits zero p f = absurd (omega arith)
+      fits (suc k) p f = omega (arith, mul-suc w k)
+
+  pub rest-lies : Lie w (take (length l - w) (drop w l)) (n - 1)
+  rest-lies = record { positive = h .positive; fits = rw (rest-part w l, length-drop w l) (fits n more (h .fits)) }
+    where
+      fits : (k : ℕ) → 0 < k → w * k ≤ length l → w * (k - 1) ≤ length l - w
+      fits zero p f = absurd (omega arith)
+      fits (suc k) p f = let e : suc k - 1 ≡ k = omega arith in rw e (omega (arith, mul-suc w k))
+
+  pub last-first : lastOf (take w l) ≡ getD l (w - 1) 0
+  last-first =
+      ap (λ (m : ℕ). getD (take w l) (m - 1) 0) (length-take-le w l first-fits) ∙ getD-take w l (w - 1) 0 (omega (arith, h .positive))
 
 -- ---- whether an entry stands among others
-
-agrees-sym : (a b : List ℕ) → agrees a b ≡ agrees b a
-agrees-sym a b = which (agrees a b) (agrees b a) refl refl
-  where
-    which : (t u : Bool) → agrees a b ≡ t → agrees b a ≡ u → t ≡ u
-    which true true p q = refl
-    which true false p q = sym (agrees-refl a) ∙ ap (λ (x : List ℕ). agrees x a) (agrees-equal a b p) ∙ q
-    which false true p q = sym (sym (agrees-refl b) ∙ ap (λ (x : List ℕ). agrees x b) (agrees-equal b a q) ∙ p)
-    which false false p q = refl
 
 or-exchange : (p q r s : Bool) → ((p || q) || (r || s)) ≡ ((p || r) || (q || s))
 or-exchange true q r s = refl
@@ -99,11 +102,6 @@ flatten-entries w (suc n) l =
 abbrev pub Wide : ℕ → List (List ℕ) → Type 0
 Wide w [] = Unit {0}
 Wide w (c ∷ cs) = (length c ≡ w) × Wide w cs
-
-pub entries-wide : (w n : ℕ) (l : List ℕ) → w * n ≤ length l → Wide w (entries w n l)
-entries-wide w zero l h = tt
-entries-wide w (suc n) l h =
-    (length-take-le w l (omega (arith, mul-suc w n)), entries-wide w n (drop w l) (omega (arith, mul-suc w n, length-drop w l)))
 
 pub length-flatten : (w : ℕ) (cs : List (List ℕ)) → Wide w cs → length (flatten cs) ≡ w * length cs
 unfolding flatten

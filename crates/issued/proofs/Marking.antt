@@ -3,8 +3,8 @@
 use mathlib.Core.Bool.{Bool, true, false, _||_, or-assoc, or-false, false≢true}
 use mathlib.Core.List.{List, _∷_}
 use mathlib.Core.Logic.{_≢_}
-use mathlib.Core.Path.{_≡_, refl, sym, ap, ap₂, _∙_, subst}
-use Prim.Native.Nat.{ℕ, _-_, _*_, _≤_, _<_}
+use mathlib.Core.Path.{_≡_, refl, sym, ap, ap₂, _∙_}
+use Prim.Native.Nat.{ℕ, _-_, _<_}
 use native.Mathlib.Omega.{arith}
 use borrow.Author.Tests.{ne-eqb, eqb-true, eqb-false}
 use lib.Dec.{eqb}
@@ -12,7 +12,7 @@ use lib.ListN.{length, take, drop, getD, set, length-set}
 use lib.Seq.{getD-set-same, getD-set-other}
 use Rattle.issued.specs.Issued.{entries, holds, meets, lastOf, ending}
 use Rattle.issued.specs.Code.{Marked}
-use Rattle.issued.proofs.Listing.{entries-next, rest-part, fits-first, fits-rest, last-at, meets-next, meets-none}
+use Rattle.issued.proofs.Listing.{Lie, entries-next, rest-part, rest-lies, last-first, meets-next, meets-none}
 
 -- one more mark: an octet that is still unmarked was so before, and ends as many of the rest
 mark-next : (marks : List Bool) (e : List ℕ) (es : List (List ℕ)) (x : ℕ) → lastOf e < length marks → getD (set marks (lastOf e) true) x false ≡ false
@@ -33,26 +33,20 @@ mark-next marks e es x f h = which (eqb x (lastOf e)) refl
 
 -- n entries of l are left to be marked; an octet that is not marked yet ends none of the others
 pub record Unmarked (w : ℕ) (marks : List Bool) (l : List ℕ) (n : ℕ) (all : List (List ℕ)) : Type 0 where
-  pub wide : 0 < w
-  pub fits : w * n ≤ length l
+  pub lie : Lie w l n
   pub size : length marks ≡ 256
   pub same : (x : ℕ) → getD marks x false ≡ false → ending x all ≡ ending x (entries w n l)
 
 module _ (w : ℕ) (marks : List Bool) (l : List ℕ) (n : ℕ) (all : List (List ℕ)) (more : 0 < n) (h : Unmarked w marks l n all) where
-  pub first-there : w ≤ length l
-  first-there = fits-first w n l more (h .fits)
-
   pub marked-next : getD l (w - 1) 0 < 256 → Unmarked w (set marks (getD l (w - 1) 0) true) (take (length l - w) (drop w l)) (n - 1) all
   marked-next small =
-      let f = rest-part w l in
-      let k = last-at w l (h .wide) first-there in
+      let k = last-first w l n more (h .lie) in
       record {
-        wide = h .wide;
-        fits = subst (λ (m : List ℕ). w * (n - 1) ≤ length m) (sym f) (fits-rest w n l more (h .fits));
+        lie = rest-lies w l n more (h .lie);
         size = length-set marks (getD l (w - 1) 0) true ∙ h .size;
         same = λ x z.
             let u = mark-next marks (take w l) (entries w (n - 1) (drop w l)) x (omega (arith, h .size)) (ap (λ (y : ℕ). getD (set marks y true) x false) k ∙ z) in
-            h .same x (u .0) ∙ ap (ending x) (entries-next w n l more) ∙ u .1 ∙ ap (λ (m : List ℕ). ending x (entries w (n - 1) m)) (sym f);
+            h .same x (u .0) ∙ ap (ending x) (entries-next w n l more) ∙ u .1 ∙ ap (λ (m : List ℕ). ending x (entries w (n - 1) m)) (sym (rest-part w l));
       }
 
 pub marked-all : (w : ℕ) (marks : List Bool) (l : List ℕ) (n : ℕ) (all : List (List ℕ)) → n ≡ 0 → Unmarked w marks l n all → Marked marks all

@@ -18,27 +18,27 @@ use Rattle.issued.proofs.Counting.{none-counted}
 
 -- ---- what is known of a buffer that is not refused
 
-pub record Good (w : ℕ) (l : List ℕ) (used : ℕ) : Type 0 where
-  pub wide : 0 < w
+pub record Sound (w : ℕ) (l : List ℕ) (used : ℕ) : Type 0 where
+  pub positive : 0 < w
   pub few : places w l ≤ 4096
   pub fits : used ≤ places w l
 
-pub good : (w : ℕ) (l : List ℕ) (used : ℕ) → badBuffer w l used ≡ false → Good w l used
+pub sound : (w : ℕ) (l : List ℕ) (used : ℕ) → badBuffer w l used ≡ false → Sound w l used
 unfolding badBuffer
-good w l used h = which (eqb w 0) (eqb (length l % w) 0) (ltb 4096 (places w l)) refl refl h
+sound w l used h = which (eqb w 0) (eqb (length l % w) 0) (ltb 4096 (places w l)) refl refl h
   where
-    which : (t₁ t₂ t₃ : Bool) → eqb w 0 ≡ t₁ → ltb 4096 (places w l) ≡ t₃ → (t₁ || (not t₂ || (t₃ || ltb (places w l) used))) ≡ false → Good w l used
+    which : (t₁ t₂ t₃ : Bool) → eqb w 0 ≡ t₁ → ltb 4096 (places w l) ≡ t₃ → (t₁ || (not t₂ || (t₃ || ltb (places w l) used))) ≡ false → Sound w l used
     which true t₂ t₃ p₁ p₃ z = absurd (false≢true (sym z))
     which false false t₃ p₁ p₃ z = absurd (false≢true (sym z))
     which false true true p₁ p₃ z = absurd (false≢true (sym z))
     which false true false p₁ p₃ z =
         let n = eqb-false w 0 p₁ in
-        record { wide = omega arith; few = ltb-false 4096 (places w l) p₃; fits = ltb-false (places w l) used z }
+        record { positive = omega arith; few = ltb-false 4096 (places w l) p₃; fits = ltb-false (places w l) used z }
 
 -- a buffer of the same length, with as many used as it has places for
-still-good : (w : ℕ) (l m : List ℕ) (used more : ℕ) → length l ≡ length m → badBuffer w l used ≡ false → more ≤ places w l → badBuffer w m more ≡ false
+still-sound : (w : ℕ) (l m : List ℕ) (used more : ℕ) → length l ≡ length m → badBuffer w l used ≡ false → more ≤ places w l → badBuffer w m more ≡ false
 unfolding badBuffer
-still-good w l m used more e h fits =
+still-sound w l m used more e h fits =
     ap (λ (n : ℕ). eqb w 0 || (not (eqb (n % w) 0) || (ltb 4096 (n / w) || ltb (n / w) more))) (sym e)
     ∙ which (eqb w 0) (eqb (length l % w) 0) (ltb 4096 (places w l)) (ltb (places w l) used) (ltb (places w l) more) (le-ltb (places w l) more fits) h
   where
@@ -55,8 +55,8 @@ places-fit w n l h = omega (arith, mul-le-mul-left w h, mul-div-le (length l) w)
 -- ---- what is known of entries that are not refused
 
 pub record Accepted (w : ℕ) (cs : List (List ℕ)) (i : Issued) : Type 0 where
-  pub sound : badBuffer w (i .buffer) (i .used) ≡ false
-  pub buffer : Good w (i .buffer) (i .used)
+  pub passed : badBuffer w (i .buffer) (i .used) ≡ false
+  pub buffer : Sound w (i .buffer) (i .used)
   pub counts : i .counts ≡ countsOf (listed w i)
   pub fresh : meets cs (listed w i) ≡ false
   pub room : i .used + length cs ≤ places w (i .buffer)
@@ -73,9 +73,9 @@ accepted w cs i h =
     which false true true t₄ p₁ p₂ p₃ p₄ z = absurd (omega arith)
     which false true false true p₁ p₂ p₃ p₄ z = absurd (omega arith)
     which false true false false p₁ p₂ p₃ p₄ z =
-        let g = good w (i .buffer) (i .used) p₁ in
+        let g = sound w (i .buffer) (i .used) p₁ in
         let r = ltb-false (places w (i .buffer) - i .used) (length cs) p₄ in
-        record { sound = p₁; buffer = g; counts = sym (agrees-equal (countsOf (listed w i)) (i .counts) p₂); fresh = p₃; room = omega (arith, g .fits) }
+        record { passed = p₁; buffer = g; counts = sym (agrees-equal (countsOf (listed w i)) (i .counts) p₂); fresh = p₃; room = omega (arith, g .fits) }
 
 -- and where that is so, they are not refused
 pub accepts : (w : ℕ) (cs : List (List ℕ)) (i : Issued) → badBuffer w (i .buffer) (i .used) ≡ false → i .counts ≡ countsOf (listed w i)
@@ -93,6 +93,10 @@ empty-accepts w cs i sound none zeros room =
     accepts w cs i sound (zeros ∙ none-counted ∙ ap countsOf (sym empty)) (ap (meets cs) empty ∙ meets-none cs) (omega arith)
 
 -- ---- the list afterwards
+
+pub same-issued : {b b' c c' : List ℕ} {u u' : ℕ} → b ≡ b' → u ≡ u' → c ≡ c'
+    → _≡_ {A = Issued} (record { buffer = b; used = u; counts = c }) (record { buffer = b'; used = u'; counts = c' })
+same-issued p q r = cc
 
 module _ (w : ℕ) (cs : List (List ℕ)) (i : Issued) where
   pub spent-added : spendRefusal w cs i ≡ 0 → spent w cs i ≡ added w cs i
@@ -139,12 +143,12 @@ module _ (w : ℕ) (cs : List (List ℕ)) (i : Issued) where
       ∙ holds-append (listed w i) cs c ∙ ap (λ (t : Bool). holds (listed w i) c || t) e ∙ or-true (holds (listed w i) c)
 
   -- and leave a buffer, a number and counts that draw no 24
-  pub spent-good : Wide w cs → spendRefusal w cs i ≡ 0 → (badBuffer w (spent w cs i .buffer) (spent w cs i .used) ≡ false) × (untrue w (spent w cs i) ≡ false)
-  spent-good wide h =
+  pub spent-sound : Wide w cs → spendRefusal w cs i ≡ 0 → (badBuffer w (spent w cs i .buffer) (spent w cs i .used) ≡ false) × (untrue w (spent w cs i) ≡ false)
+  spent-sound wide h =
       let a = accepted w cs i h in
       let e = spent-added h in
       let long = ap (λ (x : Issued). length (x .buffer)) e ∙ length-over-at (w * i .used) (flatten cs) (i .buffer) in (
-        ap (badBuffer w (spent w cs i .buffer)) (ap (λ (x : Issued). x .used) e) ∙ still-good w (i .buffer) (spent w cs i .buffer) (i .used) (i .used + length cs) (sym long) (a .sound) (a .room),
+        ap (badBuffer w (spent w cs i .buffer)) (ap (λ (x : Issued). x .used) e) ∙ still-sound w (i .buffer) (spent w cs i .buffer) (i .used) (i .used + length cs) (sym long) (a .passed) (a .room),
         ap (λ (l : List ℕ). not (agrees (countsOf (listed w (spent w cs i))) l)) (spent-true wide (a .counts))
             ∙ ap not (agrees-refl (countsOf (listed w (spent w cs i)))),
       )

@@ -1,4 +1,4 @@
--- What the loops of the code make, in terms that their invariants need.
+-- What the loops of the code leave, as their invariants say it.
 -- Assumes nothing: these are definitions.
 use mathlib.Core.Bool.{Bool, false}
 use mathlib.Core.List.{List, [], _∷_}

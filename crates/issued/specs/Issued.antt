@@ -44,10 +44,10 @@ unfoldable pub meets : List (List ℕ) → List (List ℕ) → Bool
 meets [] es = false
 meets (c ∷ cs) es = holds es c || meets cs es
 
--- entries of which none stands there twice
-abbrev pub Different : List (List ℕ) → Type 0
-Different [] = Unit {0}
-Different (e ∷ es) = (holds es e ≡ false) × Different es
+-- no entry stands there twice
+abbrev pub Distinct : List (List ℕ) → Type 0
+Distinct [] = Unit {0}
+Distinct (e ∷ es) = (holds es e ≡ false) × Distinct es
 
 -- ---- counts
 

@@ -9,7 +9,7 @@ use crate::counts::raise;
 
 // Whether entry is one of the first n entries of run.
 fn holds(run: &[u8], n: usize, entry: &[u8]) -> bool
-    requires { ⌜ length (now entry) * n ≤ length (now run) ⌝ }
+    requires { ⌜ (0 < length (now entry)) × (length (now entry) * n ≤ length (now run)) ⌝ }
     ensures { λ r. ⌜ r ≡ holds (entries (length (now (entry .entry))) n (now (run .entry))) (now (entry .entry)) ⌝ }
 {
     let width = entry.len();
@@ -54,6 +54,7 @@ pub(crate) fn count(run: &[u8], n: usize, width: usize, counts: &mut [u16])
     }
 }
 
+// As a function, so that the loop below has one way through it.
 fn either(a: bool, b: bool) -> bool
     ensures { λ r. ⌜ r ≡ (a || b) ⌝ }
 {
@@ -63,7 +64,8 @@ fn either(a: bool, b: bool) -> bool
     b
 }
 
-// Whether entry is one of the first n entries of run. The octets in which those end are marked: so most entries are told by their own last octet.
+// Whether entry is one of the first n entries of run. The octets in which those end are marked: an entry whose last octet is not marked needs no
+// comparison.
 fn is_sought(entry: &[u8], run: &[u8], n: usize, marks: &[bool]) -> bool
     requires { ⌜ (0 < length (now entry)) × (length (now entry) * n ≤ length (now run)) × (length (now marks) ≡ 256) × Marked (now marks) (entries (length (now entry)) n (now run)) ⌝ }
     ensures { λ r. ⌜ r ≡ holds (entries (length (now (entry .entry))) n (now (run .entry))) (now (entry .entry)) ⌝ }

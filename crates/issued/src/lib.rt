@@ -39,7 +39,7 @@ fn is_full(buffer: &[u8], used: usize, width: usize, n: usize) -> bool
     buffer.len() / width - used < n
 }
 
-// The refusal of the entries of run, 24, 16 or 17 in that order; 0 is none. The list is passed over once.
+// The refusal of the entries of run, 24, 16 or 17 in that order; 0 is none. There is one pass over the list.
 fn refusal(buffer: &[u8], used: usize, counts: &[u16], width: usize, run: &[u8]) -> u8
     ensures { λ r. ⌜ r ≡ spendRefusal width (entriesIn width (now (run .entry))) (record { buffer = now (buffer .entry); used = used; counts = now (counts .entry) }) ⌝ }
 {
@@ -77,8 +77,9 @@ pub fn spend(buffer: &mut [u8], used: usize, counts: &mut [u16], width: usize, r
     let n = run.len() / width;
     octets::copy_at(buffer, width * used, octets::part_of(run, 0, width * n));
     entries::count(run, n, width, counts);
+    let end = used + n;
     Spent {
         refusal: 0,
-        used: used + n,
+        used: end,
     }
 }

@@ -1,14 +1,14 @@
 -- Pieces that are laid over a buffer, one behind the other, as `copy_at` does.
 -- Assumes nothing.
 use mathlib.Core.Path.{_≡_, sym, ap, ap₂, _∙_}
-use mathlib.Core.List.{List, _++_}
-use Prim.Native.Nat.{ℕ, _+_}
+use mathlib.Core.List.{List, _++_, append-assoc}
+use Prim.Native.Nat.{ℕ, _+_, _≤_}
 use native.Mathlib.Nat.{zero-add}
 use native.Mathlib.Omega.{arith}
-use lib.ListN.{length, length-append}
-use lib.Seq.{take-all}
+use lib.ListN.{length, take, drop, length-append, length-drop}
+use lib.Seq.{take-all, length-take-le, take-at}
 use Rattle.octets.specs.Parts.{over, overAt}
-use Rattle.octets.proofs.Parts.{over-fills, over-join}
+use Rattle.octets.proofs.Parts.{over-fits, over-fills, over-join}
 
 -- two pieces, laid one behind the other from the place at on
 pub join : (at : ℕ) (xs ys l : List ℕ) {b c : List ℕ} {k : ℕ} → length xs ≡ k → b ≡ overAt at xs l → c ≡ overAt (at + k) ys b
@@ -36,3 +36,10 @@ filled xs l e = over-fills xs l (omega arith) ∙ take-all (length l) xs (omega 
 
 pub laid-whole : {l xs b : List ℕ} {n : ℕ} → Laid l xs n b → length l ≡ n → b ≡ xs
 laid-whole {l} {xs} s e = s .same ∙ filled xs l (e ∙ sym (s .long))
+
+-- up to the end of a piece: what lay before it, and the piece
+pub take-laid : (k m : ℕ) (xs l : List ℕ) → k + length xs ≡ m → m ≤ length l → take m (overAt k xs l) ≡ take k l ++ xs
+take-laid k m xs l e h =
+    let front = length-take-le k l (omega arith) in
+    ap (take m) (ap (λ (x : List ℕ). take k l ++ x) (over-fits xs (drop k l) (omega (arith, length-drop k l))) ∙ sym (append-assoc (take k l) xs (drop (length xs) (drop k l))))
+    ∙ take-at (take k l ++ xs) (drop (length xs) (drop k l)) m (length-append (take k l) xs ∙ omega arith)

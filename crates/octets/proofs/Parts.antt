@@ -190,6 +190,15 @@ agrees-equal (x ∷ a) (y ∷ b) e = first (eqb x y) refl e (agrees-equal a b)
     first true p q same = ap₂ (λ (v : ℕ) (l : List ℕ). v ∷ l) (eqb-true x y p) (same q)
     first false p q same = absurd (false≢true q)
 
+pub agrees-sym : (a b : List ℕ) → agrees a b ≡ agrees b a
+agrees-sym a b = which (agrees a b) (agrees b a) refl refl
+  where
+    which : (t u : Bool) → agrees a b ≡ t → agrees b a ≡ u → t ≡ u
+    which true true p q = refl
+    which true false p q = sym (agrees-refl a) ∙ ap (λ (x : List ℕ). agrees x a) (agrees-equal a b p) ∙ q
+    which false true p q = sym (sym (agrees-refl b) ∙ ap (λ (x : List ℕ). agrees x b) (agrees-equal b a q) ∙ p)
+    which false false p q = refl
+
 pub agrees-lengths : (a b : List ℕ) → (length a ≡ length b → ⊥) → agrees a b ≡ false
 unfolding agrees
 agrees-lengths [] [] n = absurd (n refl)

@@ -2,20 +2,26 @@
 -- Assumes nothing.
 use mathlib.Core.List.{List, [], _∷_, _++_, append-assoc, append-nil, flatten}
 use mathlib.Core.Path.{_≡_, refl, sym, ap, ap₂, _∙_}
-use Prim.Native.Nat.{ℕ, zero, suc, _+_, _-_, _*_, _≤_, _<_}
+use Prim.Native.Nat.{ℕ, zero, suc, _+_, _-_, _*_, _<_}
 use native.Mathlib.Nat.{mul-suc, mul-zero, suc-add}
 use native.Mathlib.Omega.{arith}
-use lib.ListN.{length, take, drop, length-append, length-drop}
-use lib.Seq.{take-all, length-take-le, take-at, take-append-add}
+use lib.ListN.{length, take}
+use lib.Seq.{take-all, take-append-add}
 use Rattle.octets.specs.Parts.{overAt}
-use Rattle.octets.proofs.Parts.{over-fits}
+use Rattle.octets.proofs.Numbers.{Octets}
+use Rattle.octets.proofs.Laid.{take-laid}
 use Rattle.packets.specs.Next.{grown, succession}
 
 pub length-grown : (c : List ℕ) → length (grown c) ≡ length c
 length-grown [] = refl
 length-grown (x ∷ c) = refl
 
-pub succession-next : (n : ℕ) (c : List ℕ) → 0 < n → succession n c ≡ c ∷ succession (n - 1) (grown c)
+pub grown-octets : (c : List ℕ) → Octets c → Octets (grown c)
+grown-octets [] h i = h i
+grown-octets (x ∷ c) h zero = omega arith
+grown-octets (x ∷ c) h (suc i) = h (suc i)
+
+succession-next : (n : ℕ) (c : List ℕ) → 0 < n → succession n c ≡ c ∷ succession (n - 1) (grown c)
 unfolding succession
 succession-next zero c h = absurd (omega arith)
 succession-next (suc k) c h = let e : k ≡ suc k - 1 = omega arith in ap (λ (m : ℕ). c ∷ succession m (grown c)) e
@@ -34,13 +40,6 @@ succession-front w (suc n) k c e =
     ap₂ (λ (m i : ℕ). take m (flatten (succession i c))) size (suc-add n k)
     ∙ take-append-add c (flatten (succession (n + k) (grown c))) (w * n)
     ∙ ap (λ (x : List ℕ). c ++ x) (succession-front w n k (grown c) (length-grown c ∙ e))
-
--- one more piece laid behind what was laid
-take-laid : (k m : ℕ) (xs l : List ℕ) → k + length xs ≡ m → m ≤ length l → take m (overAt k xs l) ≡ take k l ++ xs
-take-laid k m xs l e h =
-    let front = length-take-le k l (omega arith) in
-    ap (take m) (ap (λ (x : List ℕ). take k l ++ x) (over-fits xs (drop k l) (omega (arith, length-drop k l))) ∙ sym (append-assoc (take k l) xs (drop (length xs) (drop k l))))
-    ∙ take-at (take k l ++ xs) (drop (length xs) (drop k l)) m (length-append (take k l) xs ∙ omega arith)
 
 -- one turn of the loop: i challenges lie in run, and the rest follow from c
 pub laid-next : (run c all : List ℕ) (i : ℕ) {after next : List ℕ} → i < 8 → length run ≡ 64 → length c ≡ 8 → after ≡ overAt (8 * i) c run → next ≡ grown c

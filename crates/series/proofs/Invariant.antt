@@ -29,3 +29,8 @@ pub within : {S M : Type 0} (next : S → M → S) (f : S → M → ℕ) (rest :
     → (s : S) (ms : List M) → total next f s ms ≤ rest s
 within next f rest h s [] = omega arith
 within next f rest h s (m ∷ ms) = let i = within next f rest h (next s m) ms in omega (arith, h s m)
+
+-- what holds along a course holds along what is behind some of its steps
+pub along-behind : {S M : Type 0} (next : S → M → S) (P : S → M → Type 0) (s : S) (ms ns : List M) → Along next P s (ms ++ ns) → Along next P (end next s ms) ns
+along-behind next P s [] ns h = h
+along-behind next P s (m ∷ ms) ns h = along-behind next P (next s m) ms ns (h .1)

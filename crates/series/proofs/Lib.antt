@@ -10,3 +10,4 @@ pub mod Witness
 pub mod Wrong
 pub mod OneList
 pub mod Shared
+pub mod WrongOpeners

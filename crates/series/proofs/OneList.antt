@@ -1,4 +1,4 @@
--- Many boxes on one list: no challenge is put in force by two openings, and no recorded Response is valid in two conversations.
+-- Many boxes on one list: no challenge is put in force by two openings, and no recorded answer is right in two conversations.
 -- Assumes nothing.
 use mathlib.Core.Bool.{Bool, true, false, cond, _&&_, false≢true}
 use mathlib.Core.List.{List, [], _∷_, _++_}
@@ -24,88 +24,83 @@ use Rattle.authenticator.specs.declared.Conversation.{Conversation}
 use Rattle.authenticator.specs.declared.Hash.{Hash}
 use Rattle.authenticator.proofs.Spends.{succession-octets}
 use Rattle.authenticator.proofs.Openings.{opened-first, opened-fresh, opened-holds, opened-keeps}
-use Rattle.authenticator.proofs.InForce.{Still, now-in-force, step-still}
+use Rattle.authenticator.proofs.InForce.{CanBeInForce, now-in-force, step-adds-none}
 use Rattle.series.specs.Course.{end, Along}
-use Rattle.series.specs.OneList.{LentTo, OnOneList, Two, reached, NoneTwice, NoneAnsweredTwice, NoneValidTwice, spending, ourOpener}
+use Rattle.series.specs.Openers.{spendsAll, ourOpener}
+use Rattle.series.specs.OneList.{LentTo, leftBy, OnOneList, Two, reached, NoneTwice, NoneAnsweredTwice, NoneValidTwice}
+use Rattle.series.proofs.Invariant.{along-behind}
 
 -- ---- what a conversation can put in force is what its opening spent
 
-still-all : (c : Conversation) (ss : List Lent) (x : List ℕ) → Still (end (nextAfter stepOn) c ss) x → Still c x
-still-all c [] x h = h
-still-all c (s ∷ ss) x h = step-still c s x (still-all (nextAfter stepOn c s) ss x h)
+steps-add-none : (c : Conversation) (ss : List Lent) (x : List ℕ) → CanBeInForce (end (nextAfter stepOn) c ss) x → CanBeInForce c x
+steps-add-none c [] x h = h
+steps-add-none c (s ∷ ss) x h = step-adds-none c s x (steps-add-none (nextAfter stepOn c s) ss x h)
 
-reached-spent : (o : Opening) → opened o .refusal ≡ 0 → (ss : List Lent) → holds (spends o) (reached spending o ss .challenge) ≡ true
+reached-spent : (o : Opening) → opened o .refusal ≡ 0 → (ss : List Lent) → holds (spends o) (reached spendsAll o ss .challenge) ≡ true
 reached-spent o ok ss =
-    subst (λ (c : Conversation). Still c (reached spending o ss .challenge)) (opened-first o ok)
-    (still-all (opened o .conversation) ss (reached spending o ss .challenge) (now-in-force (reached spending o ss)))
+    subst (λ (c : Conversation). CanBeInForce c (reached spendsAll o ss .challenge)) (opened-first o ok)
+    (steps-add-none (opened o .conversation) ss (reached spendsAll o ss .challenge) (now-in-force (reached spendsAll o ss)))
 
 -- ---- what stands in the list stays there
 
-along-behind : {S M : Type 0} (next : S → M → S) (P : S → M → Type 0) (s : S) (ms ns : List M) → Along next P s (ms ++ ns) → Along next P (end next s ms) ns
-along-behind next P s [] ns h = h
-along-behind next P s (m ∷ ms) ns h = along-behind next P (next s m) ms ns (h .1)
-
-abbrev leaves : Issued → Opening → Issued
-leaves i o = openedIssued o
-
-listed-stays : (i : Issued) (os : List Opening) (p : Opening) (after : List Opening) (x : List ℕ) → OnOneList spending i (os ++ (p ∷ after))
+listed-stays : (i : Issued) (os : List Opening) (p : Opening) (after : List Opening) (x : List ℕ) → OnOneList spendsAll i (os ++ (p ∷ after))
     → holds (listed 8 i) x ≡ true → holds (listed 8 (p .issued)) x ≡ true
 listed-stays i [] p after x h e = h .0 .kept x e
 listed-stays i (o ∷ os) p after x h e = listed-stays (openedIssued o) os p after x (h .1) (opened-keeps o (h .0 .eight) x (h .0 .kept x e))
 
-module _ (i : Issued) (first second : Opening) (two : Two spending i first second) where
-  from-first : Along leaves LentTo (end leaves i (two .before)) (first ∷ two .between ++ (second ∷ two .after))
-  from-first = along-behind leaves LentTo i (two .before) (first ∷ two .between ++ (second ∷ two .after)) (two .run)
+module _ (i : Issued) (first second : Opening) (two : Two spendsAll i first second) where
+  from-first : Along (leftBy spendsAll) LentTo (end (leftBy spendsAll) i (two .before)) (first ∷ two .between ++ (second ∷ two .after))
+  from-first = along-behind (leftBy spendsAll) LentTo i (two .before) (first ∷ two .between ++ (second ∷ two .after)) (two .run)
 
-  of-second : Along leaves LentTo (end leaves (openedIssued first) (two .between)) (second ∷ two .after)
-  of-second = along-behind leaves LentTo (openedIssued first) (two .between) (second ∷ two .after) (from-first .1)
+  of-second : Along (leftBy spendsAll) LentTo (end (leftBy spendsAll) (openedIssued first) (two .between)) (second ∷ two .after)
+  of-second = along-behind (leftBy spendsAll) LentTo (openedIssued first) (two .between) (second ∷ two .after) (from-first .1)
 
   -- what the first opening spent, the second did not
   apart : (x : List ℕ) → holds (spends first) x ≡ true → holds (spends second) x ≡ true → ⊥
   apart x h k =
-      let there = listed-stays (openedIssued first) (two .between) second (two .after) x (from-first .1) (opened-holds first (from-first .0 .eight) (two .opened-first) x h) in
-      false≢true (sym (not-met (spends second) (listed 8 (second .issued)) x (opened-fresh second (two .opened-second)) k) ∙ there)
+      let there = listed-stays (openedIssued first) (two .between) second (two .after) x (from-first .1) (opened-holds first (from-first .0 .eight) (two .firstOpens) x h) in
+      false≢true (sym (not-met (spends second) (listed 8 (second .issued)) x (opened-fresh second (two .secondOpens)) k) ∙ there)
 
   module _ (ss ts : List Lent) where
-    abbrev in-first : Conversation
-    in-first = reached spending first ss
+    abbrev inFirst : Conversation
+    inFirst = reached spendsAll first ss
 
-    abbrev in-second : Conversation
-    in-second = reached spending second ts
+    abbrev inSecond : Conversation
+    inSecond = reached spendsAll second ts
 
-    never : in-first .challenge ≢ in-second .challenge
+    never : inFirst .challenge ≢ inSecond .challenge
     never e =
-        apart (in-first .challenge) (reached-spent first (two .opened-first) ss)
-        (subst (λ (x : List ℕ). holds (spends second) x ≡ true) (sym e) (reached-spent second (two .opened-second) ts))
+        apart (inFirst .challenge) (reached-spent first (two .firstOpens) ss)
+        (subst (λ (x : List ℕ). holds (spends second) x ≡ true) (sym e) (reached-spent second (two .secondOpens) ts))
 
     -- ---- a recorded answer
 
     eight-octets : (o : Opening) → length (o .challenge) ≡ 8 → Octets (o .challenge) → opened o .refusal ≡ 0 → (us : List Lent)
-        → (length (reached spending o us .challenge) ≡ 8) × Octets (reached spending o us .challenge)
-    eight-octets o e k ok us = succession-octets _ (o .challenge) (reached spending o us .challenge) e k (reached-spent o ok us)
+        → (length (reached spendsAll o us .challenge) ≡ 8) × Octets (reached spendsAll o us .challenge)
+    eight-octets o e k ok us = succession-octets _ (o .challenge) (reached spendsAll o us .challenge) e k (reached-spent o ok us)
 
-    answered-both : (h : Hash) (r : List ℕ) → answers h (in-first .challenge) r ≡ true → answers h (in-second .challenge) r ≡ true → ⊥
+    answered-both : (h : Hash) (r : List ℕ) → answers h (inFirst .challenge) r ≡ true → answers h (inSecond .challenge) r ≡ true → ⊥
     unfolding answers
     answered-both h r p q = which (h .present) p q
       where
         same : (t u : List ℕ) → agrees r t ≡ true → agrees r u ≡ true → t ≡ u
         same t u p q = sym (agrees-equal r t p) ∙ agrees-equal r u q
 
-        which : (t : Bool) → (t && agrees r (responseOf (h .octets) (in-first .challenge))) ≡ true
-            → (t && agrees r (responseOf (h .octets) (in-second .challenge))) ≡ true → ⊥
+        which : (t : Bool) → (t && agrees r (responseOf (h .octets) (inFirst .challenge))) ≡ true
+            → (t && agrees r (responseOf (h .octets) (inSecond .challenge))) ≡ true → ⊥
         which true p q =
-            let a = eight-octets first (from-first .0 .eight) (from-first .0 .octets) (two .opened-first) ss in
-            let b = eight-octets second (of-second .0 .eight) (of-second .0 .octets) (two .opened-second) ts in
-            never (response-tells (h .octets) (in-first .challenge) (in-second .challenge) (a .0) (a .1) (b .0) (b .1)
-            (same (responseOf (h .octets) (in-first .challenge)) (responseOf (h .octets) (in-second .challenge)) p q))
+            let a = eight-octets first (from-first .0 .eight) (from-first .0 .octets) (two .firstOpens) ss in
+            let b = eight-octets second (of-second .0 .eight) (of-second .0 .octets) (two .secondOpens) ts in
+            never (response-tells (h .octets) (inFirst .challenge) (inSecond .challenge) (a .0) (a .1) (b .0) (b .1)
+            (same (responseOf (h .octets) (inFirst .challenge)) (responseOf (h .octets) (inSecond .challenge)) p q))
         which false p q = false≢true p
 
-    valid-both : (a : Account) (f : Response) → valid in-first a f ≡ true → valid in-second a f ≡ true → ⊥
+    valid-both : (a : Account) (f : Response) → valid inFirst a f ≡ true → valid inSecond a f ≡ true → ⊥
     unfolding valid
-    valid-both a f p q = which (eqb (f .flag) 1 && a .nt .present) (in-first .terms .lm) (in-second .terms .lm) p q
+    valid-both a f p q = which (eqb (f .flag) 1 && a .nt .present) (inFirst .terms .lm) (inSecond .terms .lm) p q
       where
-        which : (t u w : Bool) → cond t (answers (a .nt) (in-first .challenge) (f .nt)) (u && answers (a .lm) (in-first .challenge) (f .lm)) ≡ true
-            → cond t (answers (a .nt) (in-second .challenge) (f .nt)) (w && answers (a .lm) (in-second .challenge) (f .lm)) ≡ true → ⊥
+        which : (t u w : Bool) → cond t (answers (a .nt) (inFirst .challenge) (f .nt)) (u && answers (a .lm) (inFirst .challenge) (f .lm)) ≡ true
+            → cond t (answers (a .nt) (inSecond .challenge) (f .nt)) (w && answers (a .lm) (inSecond .challenge) (f .lm)) ≡ true → ⊥
         which true u w p q = answered-both (a .nt) (f .nt) p q
         which false true true p q = answered-both (a .lm) (f .lm) p q
         which false true false p q = false≢true q

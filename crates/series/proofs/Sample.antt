@@ -9,15 +9,13 @@ use Prim.Native.Nat.{ℕ}
 use native.Mathlib.Omega.{arith}
 use lib.Dec.{eqb}
 use lib.ListN.{replicate}
-use Rattle.octets.specs.Parts.{agrees}
-use Rattle.issued.specs.Issued.{holds, meets, ending, endings, emptyList, badBuffer, spendRefusal}
+use Rattle.issued.specs.Issued.{emptyList, badBuffer}
 use Rattle.credentials.specs.Credentials.{ntHashOf}
-use Rattle.packets.specs.Next.{succession}
 use Rattle.packets.specs.Response.{responseIn, responseWriteRefusal}
 use Rattle.packets.specs.Change.{changeWriteRefusal}
 use Rattle.packets.specs.declared.Response as fields
 use Rattle.authenticator.specs.Account.{noHash, blank, noRecord, found, answers}
-use Rattle.authenticator.specs.Opening.{Opening, badRoom, openRefusal, opened}
+use Rattle.authenticator.specs.Opening.{Opening, badRoom, opened}
 use Rattle.authenticator.specs.Response.{valid}
 use Rattle.authenticator.specs.Steps.{Box, Rightful}
 use Rattle.authenticator.specs.declared.Account.{Account}
@@ -26,6 +24,7 @@ use Rattle.authenticator.specs.declared.Conversation.{Conversation}
 use Rattle.authenticator.specs.declared.Retries.{Retries}
 use Rattle.authenticator.specs.declared.Retries.the-variants.{Default, Count}
 use Rattle.authenticator.specs.declared.LmChoice.the-variants.{Disallowed}
+use Rattle.authenticator.proofs.Openings.{may-open-empty}
 use Rattle.peer.specs.Write.{writeResponseRefusal, writeChangeRefusal, writeResponse, writeChange}
 use Rattle.series.specs.Series.{Packet, invalid, right, renewal, Lending, Step, ours, State, exchange, Within, Kept, Allowed}
 
@@ -43,13 +42,16 @@ opening r =
       buffer = replicate 17 0;
     }
 
+-- a list of whole places, of which none is used
+pub three-places : badBuffer 8 (replicate 24 0) 0 ≡ false
+unfolding badBuffer
+three-places = refl
+
 pub opens-default : opened (opening Default) .refusal ≡ 0
-unfolding opened openRefusal spendRefusal badBuffer agrees ending endings holds meets succession
-opens-default = refl
+opens-default = may-open-empty (opening Default) (omega arith) (omega arith) three-places refl refl (omega arith)
 
 pub opens-once : opened (opening (Count 1)) .refusal ≡ 0
-unfolding opened openRefusal spendRefusal badBuffer agrees ending endings holds meets succession
-opens-once = refl
+opens-once = may-open-empty (opening (Count 1)) (omega arith) (omega arith) three-places refl refl (omega arith)
 
 -- "MyPw", "bad" and "MyNewPw"
 abbrev pub old : List ℕ

@@ -7,12 +7,10 @@ use mathlib.Core.Path.{_≡_, refl, sym, _∙_}
 use Prim.Native.Nat.{ℕ, _<_}
 use native.Mathlib.Omega.{arith}
 use lib.ListN.{take, replicate}
-use Rattle.octets.specs.Parts.{agrees}
-use Rattle.issued.specs.Issued.{holds, meets, ending, endings, emptyList, badBuffer, spendRefusal}
-use Rattle.packets.specs.Next.{succession}
+use Rattle.issued.specs.Issued.{emptyList}
 use Rattle.authenticator.specs.Account.{blank, noRecord, found}
 use Rattle.authenticator.specs.Conversation.{isEnded}
-use Rattle.authenticator.specs.Opening.{Opening, openRefusal, opened}
+use Rattle.authenticator.specs.Opening.{Opening, opened}
 use Rattle.authenticator.specs.Refusal.{refusalOf}
 use Rattle.authenticator.specs.Steps.{Lent, stepOn, Refused}
 use Rattle.authenticator.specs.declared.Account.{Account}
@@ -20,11 +18,12 @@ use Rattle.authenticator.specs.declared.Conversation.{Conversation}
 use Rattle.authenticator.specs.declared.Phase.the-variants.{Ended}
 use Rattle.authenticator.specs.declared.Retries.the-variants.{Default, Count}
 use Rattle.authenticator.specs.declared.LmChoice.the-variants.{Silent}
+use Rattle.authenticator.proofs.Openings.{may-open-empty}
 use Rattle.authenticator.proofs.Steps.{number-step}
 use Rattle.series.specs.Course.{end, Along, total}
 use Rattle.series.specs.Series.{right, Step, other, State, start, exchange, next, judgedAt, Allowed, DrawsSuccess, later, LetsIn, Claimed}
 use Rattle.series.specs.Boxes.{ourBox}
-use Rattle.series.proofs.Sample.{opening, opens-once, new, user, account, rightful, line, badTry, rightTry, newPassword, change, blank-allowed, right-allowed, change-allowed, new-kept}
+use Rattle.series.proofs.Sample.{opening, three-places, opens-once, new, user, account, rightful, line, badTry, rightTry, newPassword, change, blank-allowed, right-allowed, change-allowed, new-kept}
 use Rattle.series.proofs.Demand3.{demand3}
 
 -- ---- the series
@@ -111,8 +110,7 @@ laterOpening =
     record { id = 0; challenge = replicate 8 1; retries = Default; lm = Silent; issued = emptyList 8 3; buffer = replicate 17 0 }
 
 later-opens : opened laterOpening .refusal ≡ 0
-unfolding opened openRefusal spendRefusal badBuffer agrees ending endings holds meets succession
-later-opens = refl
+later-opens = may-open-empty laterOpening (omega arith) (omega arith) three-places refl refl (omega arith)
 
 pub later-success : DrawsSuccess (exchange ourBox (later ourBox laterOpening [] (short ∷ [])) (right new user) (line 55 (found handed))) 0
 later-success =

@@ -38,14 +38,16 @@ leavesRecord c s =
 abbrev pub pretends : ℕ → Judge
 pretends r c s = cond (ltb (c .retries) r) (accepts c s) (drawn c (s .packet) (s .account))
 
+-- a conversation with another number of retries left
+abbrev pub withRetries : ℕ → Conversation → Conversation
+withRetries r c = record { terms = c .terms; id = c .id; challenge = c .challenge; retries = r; phase = c .phase; kept = c .kept }
+
 -- retries do not fall
-abbrev pub sameRetries : Conversation → Conversation → Conversation
-sameRetries c d = record { terms = d .terms; id = d .id; challenge = d .challenge; retries = c .retries; phase = d .phase; kept = d .kept }
 
 abbrev pub neverCounts : Judge
 neverCounts c s =
     let d = drawn c (s .packet) (s .account) in
-    record { reason = d .reason; reply = d .reply; next = sameRetries c (d .next); handed = d .handed }
+    record { reason = d .reason; reply = d .reply; next = withRetries (c .retries) (d .next); handed = d .handed }
 
 -- our box: what the promise of the authenticator's `step` says
 abbrev pub ourBox : Box

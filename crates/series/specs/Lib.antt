@@ -2,4 +2,5 @@ pub mod Course
 pub mod Series
 pub mod Boxes
 pub mod Twelve
+pub mod Openers
 pub mod OneList

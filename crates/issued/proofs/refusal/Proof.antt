@@ -14,7 +14,7 @@ use Rattle.octets.specs.Parts.{agrees}
 use Rattle.issued.specs.Issued.{Issued, places, entriesIn, listed, meets, countsOf, badBuffer, full, spendRefusal}
 use Rattle.issued.proofs.Listing.{length-entries}
 use Rattle.issued.proofs.Counting.{counted, zeros-room}
-use Rattle.issued.proofs.Spending.{Good, good, places-fit}
+use Rattle.issued.proofs.Spending.{Sound, sound, places-fit}
 use Rattle.issued.proofs.refusal.Statement.{statement}
 use Rattle.issued.proofs.refusal.Tie as tie
 
@@ -38,21 +38,21 @@ run c = c .before .before .before .before .before .args .run .now
 not-bad : (c : tie.Else1) → badBuffer (width c) (given c .buffer) (given c .used) ≡ false
 not-bad c = sym (c .before .is-bad-buffer .ensures) ∙ c .if1 .left
 
-fine : (c : tie.Else1) → Good (width c) (given c .buffer) (given c .used)
-fine c = good (width c) (given c .buffer) (given c .used) (not-bad c)
+fine : (c : tie.Else1) → Sound (width c) (given c .buffer) (given c .used)
+fine c = sound (width c) (given c .buffer) (given c .used) (not-bad c)
 
 div-n : tie.Need-div-n
-div-n c = fine c .wide
+div-n c = fine c .positive
 
 mark-requires : tie.Need-mark-requires
-mark-requires c κs = let e = c .before in (fine e .wide, mul-div-le (length (run e)) (width e), refl)
+mark-requires c κs = let e = c .before in (fine e .positive, mul-div-le (length (run e)) (width e), refl)
 
 scan-requires : tie.Need-scan-requires
 scan-requires c κs =
     let m = c .before .before .before in
     let e = m .before .before in
     let g = fine e in (
-      g .wide,
+      g .positive,
       places-fit (width e) (given e .used) (given e .buffer) (g .fits),
       mul-div-le (length (run e)) (width e),
       m .mark .ensures .0,
@@ -62,7 +62,7 @@ scan-requires c κs =
     )
 
 is-full-requires : tie.Need-is-full-requires
-is-full-requires c κs = let e = c .before .before .before .before .before .before .before in (fine e .wide, fine e .fits)
+is-full-requires c κs = let e = c .before .before .before .before .before .before .before in (fine e .positive, fine e .fits)
 
 -- ---- behind the pass
 

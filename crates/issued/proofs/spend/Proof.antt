@@ -12,7 +12,7 @@ use Rattle.issued.specs.Issued.{Issued, entriesIn, listed, spendRefusal}
 use Rattle.issued.specs.Code.{raised, Room}
 use Rattle.issued.proofs.Listing.{length-entries, flatten-entries}
 use Rattle.issued.proofs.Counting.{length-endings, raised-counts, counts-room}
-use Rattle.issued.proofs.Spending.{Accepted, accepted, places-fit, spent-added, spent-refused}
+use Rattle.issued.proofs.Spending.{Accepted, accepted, places-fit, same-issued, spent-added, spent-refused}
 use Rattle.issued.proofs.spend.Statement.{statement}
 use Rattle.issued.proofs.spend.Tie as tie
 
@@ -33,10 +33,6 @@ returns c =
     let told = k .refusal .ensures in
     (told, sym (spent-refused (width k) (entriesIn (width k) (run k)) (given k) (λ e. c .if1 .taken (told ∙ e))))
 
-same : {b b' c c' : List ℕ} {u u' : ℕ} → b ≡ b' → u ≡ u' → c ≡ c'
-    → _≡_ {A = Issued} (record { buffer = b; used = u; counts = c }) (record { buffer = b'; used = u'; counts = c' })
-same p q r = cc
-
 -- ---- not refused
 
 none : (c : tie.Else1) → spendRefusal (width (c .before)) (entriesIn (width (c .before)) (run (c .before))) (given (c .before)) ≡ 0
@@ -46,7 +42,7 @@ known : (c : tie.Else1) → Accepted (width (c .before)) (entriesIn (width (c .b
 known c = accepted (width (c .before)) (entriesIn (width (c .before)) (run (c .before))) (given (c .before)) (none c)
 
 div-n : tie.Need-div-n
-div-n c = known c .buffer .wide
+div-n c = known c .buffer .positive
 
 mul-copy-at : tie.Need-mul-copy-at
 mul-copy-at c =
@@ -64,10 +60,10 @@ count-requires c κs =
     let n = length (run k) / width k in
     let es = listed (width k) (given k) in
     let few : length es + n < 65536 = omega (arith, a .room, a .buffer .few, length-entries (width k) (given k .used) (given k .buffer), length-entries (width k) n (run k)) in
-    (a .buffer .wide, mul-div-le (length (run k)) (width k), ap length (a .counts) ∙ length-endings 0 256 es, subst (λ (l : List ℕ). Room l n) (sym (a .counts)) (counts-room es n few))
+    (a .buffer .positive, mul-div-le (length (run k)) (width k), ap length (a .counts) ∙ length-endings 0 256 es, subst (λ (l : List ℕ). Room l n) (sym (a .counts)) (counts-room es n few))
 
-add-t18 : tie.Need-add-t18
-add-t18 c =
+add-end : tie.Need-add-end
+add-end c =
     let e = c .before .before .before .before .before .before .before .before .before in
     let k = e .before in
     let a = known e in
@@ -87,11 +83,11 @@ returns-2 c =
     let laid = t .copy-at .ensures ∙ ap (λ (x : List ℕ). overAt (w * i .used) x (i .buffer)) (t .before .part-of .ensures ∙ sym (flatten-entries w n (run k))) in
     let raised-all = n₁ .count .ensures ∙ ap (λ (l : List ℕ). raised l cs) (a .counts) ∙ raised-counts (listed w i) cs in
     let more : i .used + n ≡ i .used + length cs = ap (λ (m : ℕ). i .used + m) (sym (length-entries w n (run k))) in
-    (sym (none e), same laid more raised-all ∙ sym (spent-added w cs i (none e)))
+    (sym (none e), same-issued laid more raised-all ∙ sym (spent-added w cs i (none e)))
 
 pub spend-spec : {M : Type 1} → statement M
 spend-spec =
     tie.close
     (tie.spec
     (λ c κs. search needs) (λ c. search needs) (λ c. search needs) returns div-n mul-copy-at mul-part-of (λ c κs. search needs) (λ c κs. search needs)
-    count-requires add-t18 (λ c. search needs) (λ c. search needs) returns-2)
+    count-requires add-end (λ c. search needs) (λ c. search needs) returns-2)

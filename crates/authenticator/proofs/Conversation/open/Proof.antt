@@ -14,7 +14,7 @@ use Rattle.issued.proofs.Spending.{spent-refused}
 use Rattle.packets.specs.Next.{succession}
 use Rattle.packets.specs.Reply.{challengePacket}
 use Rattle.authenticator.specs.Opening.{Opening, retriesOf, badRoom, spends, openRefusal}
-use Rattle.authenticator.proofs.Openings.{refused-opens, accepted-opens}
+use Rattle.authenticator.proofs.Openings.{refused-promise, accepted-promise}
 use Rattle.authenticator.proofs.Written.{written-whole, challenge-fits}
 use Rattle.authenticator.proofs.Conversation.open.Statement.{statement}
 use Rattle.authenticator.proofs.Conversation.open.Tie as tie
@@ -43,7 +43,7 @@ unfolding openRefusal
 returns c =
     let k = c .before .before in
     let e = lt-ltb 7 _ (rw (k .retries-of .ensures) at (c .before .if1 .taken)) in
-    refused-opens (given k) 13 (simp e) (λ f. omega arith) (c .refused-opening .ensures) refl refl refl
+    refused-promise (given k) 13 (simp e) (λ f. omega arith) (c .refused-opening .ensures) refl refl refl
 
 -- ---- behind the first test
 
@@ -56,7 +56,7 @@ unfolding openRefusal
 returns-2 c =
     let k = c .before .before in
     let e = k .before .before in
-    refused-opens (given (e .before)) 2 (simp (few e, sym (k .is-bad-room .ensures) ∙ c .before .if2 .taken)) (λ f. omega arith) (c .refused-opening2 .ensures) refl refl refl
+    refused-promise (given (e .before)) 2 (simp (few e, sym (k .is-bad-room .ensures) ∙ c .before .if2 .taken)) (λ f. omega arith) (c .refused-opening2 .ensures) refl refl refl
 
 -- ---- behind the second
 
@@ -92,7 +92,7 @@ returns-3 c =
     let after =
     k .spend .ensures .1 ∙ ap (λ (es : List (List ℕ)). spent 8 es (o .issued)) (entries-told k)
     ∙ spent-refused 8 (spends o) (o .issued) (λ e. t .if3 .taken (k .spend .ensures .0 ∙ ap (λ (es : List (List ℕ)). spendRefusal 8 es (o .issued)) (entries-told k) ∙ e)) in
-    refused-opens o (k .spend .result .refusal) (refusal-told k) (t .if3 .taken) (c .refused-opening3 .ensures) (ap (λ (i : Issued). i .buffer) after)
+    refused-promise o (k .spend .result .refusal) (refusal-told k) (t .if3 .taken) (c .refused-opening3 .ensures) (ap (λ (i : Issued). i .buffer) after)
     (ap (λ (i : Issued). i .counts) after) refl
 
 returns-4 : tie.Need-returns-4
@@ -104,7 +104,7 @@ returns-4 c =
     let written : w .write-challenge .result ≡ length (challengePacket (o .id) (o .challenge)) =
     w .write-challenge .ensures .0 ∙ written-whole _ _ (challenge-fits (o .id) (o .challenge) (eight (start (first (second k) .before)))) (ltb-false _ _ (roomy (second k))) in
     let retries = first (second k) .before .retries-of .ensures in
-    accepted-opens o (refusal-told k ∙ e .if3 .left) (k .spend .ensures .1 ∙ ap (λ (es : List (List ℕ)). spent 8 es (o .issued)) (entries-told k)) (cc) (w .write-challenge .ensures .1)
+    accepted-promise o (refusal-told k ∙ e .if3 .left) (k .spend .ensures .1 ∙ ap (λ (es : List (List ℕ)). spent 8 es (o .issued)) (entries-told k)) (cc) (w .write-challenge .ensures .1)
 
 pub open-spec : {M : Type 1} → statement M
 open-spec =

@@ -2,21 +2,21 @@
 -- Assumes nothing.
 use mathlib.Core.Bool.{Bool, true, false, _||_}
 use mathlib.Core.List.{List}
-use mathlib.Core.Path.{_≡_, refl, sym, ap, _∙_, subst}
-use Prim.Native.Nat.{ℕ, _-_, _*_, _≤_, _<_}
+use mathlib.Core.Path.{_≡_, refl, sym, ap, _∙_}
+use Prim.Native.Nat.{ℕ, _-_, _<_}
 use native.Mathlib.Omega.{arith}
 use borrow.Author.Needs.{needs}
 use lib.ListN.{length, take, drop}
 use lib.Seq.{length-take-le}
 use Rattle.octets.specs.Parts.{agrees}
 use Rattle.issued.specs.Issued.{entries, holds}
-use Rattle.issued.proofs.Listing.{entries-next, rest-part, fits-first, fits-rest}
+use Rattle.issued.proofs.Listing.{Lie, entries-next, rest-part, first-fits, rest-lies}
 use Rattle.issued.proofs.entries.holds.Statement.{statement}
 use Rattle.issued.proofs.entries.holds.Tie as tie
 
 abbrev Inv-loop : tie.InvT-loop
 Inv-loop run n entry width rest₀ left₀ rest left =
-    (width ≡ length entry) × (width * left ≤ length rest) × (holds (entries width left rest) entry ≡ holds (entries width n run) entry)
+    (width ≡ length entry) × Lie width rest left × (holds (entries width left rest) entry ≡ holds (entries width n run) entry)
 
 abbrev μ-loop : tie.MeasureT-loop
 μ-loop run n entry width rest₀ left₀ rest left = left
@@ -46,14 +46,11 @@ loop-again c =
     let h = c .before .before .before .before .before in
     let s = h .before .before .before in
     let w = length (s .args .entry .now) in
-    let l = h .loop .rest .now in
-    subst
-    (λ (m : List ℕ). (w ≡ w) × (w * (h .loop .left - 1) ≤ length m)
-    × (holds (entries w (h .loop .left - 1) m) (s .args .entry .now) ≡ holds (entries w (s .args .n) (s .args .run .now)) (s .args .entry .now)))
-    (sym (rest-part w l)) (
+    let l = h .loop .rest .now in (
       refl,
-      fits-rest w (h .loop .left) l (omega arith) (h .loop .inv .1),
-      passed w (h .loop .left) l (s .args .entry .now) (omega arith) (sym (c .before .before .agree .ensures) ∙ c .before .if1 .left) ∙ h .loop .inv .2,
+      rest-lies w l (h .loop .left) (omega arith) (h .loop .inv .1),
+      ap (λ (m : List ℕ). holds (entries w (h .loop .left - 1) m) (s .args .entry .now)) (rest-part w l)
+          ∙ passed w (h .loop .left) l (s .args .entry .now) (omega arith) (sym (c .before .before .agree .ensures) ∙ c .before .if1 .left) ∙ h .loop .inv .2,
     )
 
 returns-2 : tie.Need-returns-2 Inv-loop μ-loop
@@ -65,22 +62,17 @@ returns-2 c =
 slice-aggregate-agree : tie.Need-slice-aggregate-agree Inv-loop μ-loop
 slice-aggregate-agree c =
     let h = c .before .before in
-    let w = length (h .before .before .before .args .entry .now) in
-    sym (length-take-le w (h .loop .rest .now) (fits-first w (h .loop .left) (h .loop .rest .now) (omega arith) (h .loop .inv .1)))
+    sym (length-take-le (length (h .before .before .before .args .entry .now)) (h .loop .rest .now) (first-fits _ _ _ (omega arith) (h .loop .inv .1)))
 
 sub-rest : tie.Need-sub-rest Inv-loop μ-loop
-sub-rest c =
-    let h = c .before .before .before .before in
-    omega (arith, fits-first (length (h .before .before .before .args .entry .now)) (h .loop .left) (h .loop .rest .now) (omega arith) (h .loop .inv .1))
+sub-rest c = first-fits _ _ _ (omega arith) (c .before .before .before .before .loop .inv .1)
 
 part-rest-start : tie.Need-part-rest-start Inv-loop μ-loop
-part-rest-start c =
-    let h = c .before .before .before .before in
-    fits-first (length (h .before .before .before .args .entry .now)) (h .loop .left) (h .loop .rest .now) (omega arith) (h .loop .inv .1)
+part-rest-start c = first-fits _ _ _ (omega arith) (c .before .before .before .before .loop .inv .1)
 
 pub holds-spec : {M : Type 1} → statement M
 holds-spec =
     tie.close
     (tie.spec
-    Inv-loop μ-loop (λ c. (refl, search needs, refl)) slice-aggregate-agree (λ c κs. search needs) returns sub-rest part-rest-start
+    Inv-loop μ-loop (λ c. (refl, record { positive = c .before .before .pre .0; fits = c .before .before .pre .1 }, refl)) slice-aggregate-agree (λ c κs. search needs) returns sub-rest part-rest-start
     (λ c. search needs) (λ c. search needs) (λ c. search needs) loop-again returns-2)

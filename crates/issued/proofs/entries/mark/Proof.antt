@@ -7,7 +7,8 @@ use native.Mathlib.Omega.{arith}
 use borrow.Author.Needs.{needs}
 use lib.ListN.{length, length-replicate}
 use Rattle.issued.specs.Issued.{entries}
-use Rattle.issued.proofs.Marking.{Unmarked, first-there, marked-next, marked-all}
+use Rattle.issued.proofs.Listing.{first-fits}
+use Rattle.issued.proofs.Marking.{Unmarked, marked-next, marked-all}
 use Rattle.issued.proofs.entries.mark.Statement.{statement}
 use Rattle.issued.proofs.entries.mark.Tie as tie
 
@@ -18,10 +19,10 @@ abbrev μ-loop : tie.MeasureT-loop
 μ-loop run n width marks₀ rest₀ left₀ marks rest left = left
 
 loop-holds : tie.Need-loop-holds Inv-loop μ-loop
-loop-holds c = let p = c .pre in record { wide = p .0; fits = p .1; size = ap length (p .2) ∙ length-replicate 256 false; same = λ x u. refl }
+loop-holds c = let p = c .pre in record { lie = record { positive = p .0; fits = p .1 }; size = ap length (p .2) ∙ length-replicate 256 false; same = λ x u. refl }
 
 shared-slice-read-last : tie.Need-shared-slice-read-last Inv-loop μ-loop
-shared-slice-read-last c = let h = c .before .before .loop in omega (arith, first-there _ _ _ _ _ (omega arith) (h .inv), h .inv .wide)
+shared-slice-read-last c = let h = c .before .before .loop in omega (arith, first-fits _ _ _ (omega arith) (h .inv .lie), h .inv .lie .positive)
 
 cast-last : tie.Need-cast-last Inv-loop μ-loop
 cast-last c = omega (arith, c .shared-slice-known .given (c .before .before .before .args .width - 1))
@@ -30,10 +31,10 @@ slice-write-marks : tie.Need-slice-write-marks Inv-loop μ-loop
 slice-write-marks c = omega (arith, c .shared-slice-known .given (c .before .before .before .args .width - 1), c .before .before .loop .inv .size)
 
 sub-rest : tie.Need-sub-rest Inv-loop μ-loop
-sub-rest c = first-there _ _ _ _ _ (omega arith) (c .before .before .loop .inv)
+sub-rest c = first-fits _ _ _ (omega arith) (c .before .before .loop .inv .lie)
 
 part-rest-start : tie.Need-part-rest-start Inv-loop μ-loop
-part-rest-start c = first-there _ _ _ _ _ (omega arith) (c .before .before .loop .inv)
+part-rest-start c = first-fits _ _ _ (omega arith) (c .before .before .loop .inv .lie)
 
 loop-again : tie.Need-loop-again Inv-loop μ-loop
 loop-again c =

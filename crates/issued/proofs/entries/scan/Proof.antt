@@ -10,14 +10,15 @@ use lib.ListN.{length, take}
 use lib.Seq.{length-take-le}
 use Rattle.issued.specs.Issued.{entries, holds, meets}
 use Rattle.issued.specs.Code.{raised, Marked}
-use Rattle.issued.proofs.Counting.{Left, first-fits, raise-fits, raise-next, left-none}
+use Rattle.issued.proofs.Listing.{first-fits}
+use Rattle.issued.proofs.Counting.{Uncounted, raise-fits, raise-next, all-counted}
 use Rattle.issued.proofs.Marking.{met-next, met-all}
 use Rattle.issued.proofs.entries.scan.Statement.{statement}
 use Rattle.issued.proofs.entries.scan.Tie as tie
 
 abbrev Inv-loop : tie.InvT-loop
 Inv-loop buffer used width run n marks counts₀ met₀ rest₀ left₀ counts met rest left =
-    Left width counts rest left (raised counts₀ (entries width used buffer))
+    Uncounted width counts rest left (raised counts₀ (entries width used buffer))
     × ((met || meets (entries width n run) (entries width left rest)) ≡ meets (entries width n run) (entries width used buffer))
 
 abbrev μ-loop : tie.MeasureT-loop
@@ -26,10 +27,10 @@ abbrev μ-loop : tie.MeasureT-loop
 loop-holds : tie.Need-loop-holds Inv-loop μ-loop
 loop-holds c =
     let p = c .before .before .before .before .pre in
-    (record { wide = p .0; fits = p .1; size = p .5; room = p .6; same = refl }, refl)
+    (record { lie = record { positive = p .0; fits = p .1 }; size = p .5; room = p .6; same = refl }, refl)
 
 shared-slice-read-raise : tie.Need-shared-slice-read-raise Inv-loop μ-loop
-shared-slice-read-raise c = let h = c .before .before .before .loop in omega (arith, first-fits _ _ _ _ _ (omega arith) (h .inv .0), h .inv .0 .wide)
+shared-slice-read-raise c = let h = c .before .before .before .loop in omega (arith, first-fits _ _ _ (omega arith) (h .inv .0 .lie), h .inv .0 .lie .positive)
 
 raise-requires : tie.Need-raise-requires Inv-loop μ-loop
 raise-requires c κs = raise-fits _ _ _ _ _ (omega arith) (c .before .before .before .loop .inv .0) _
@@ -37,7 +38,7 @@ raise-requires c κs = raise-fits _ _ _ _ _ (omega arith) (c .before .before .be
 slice-aggregate-is-sought : tie.Need-slice-aggregate-is-sought Inv-loop μ-loop
 slice-aggregate-is-sought c =
     let h = c .before .before .before .before .before .before .before in
-    sym (length-take-le (h .before .before .before .before .before .args .width) (h .loop .rest .now) (first-fits _ _ _ _ _ (omega arith) (h .loop .inv .0)))
+    sym (length-take-le (h .before .before .before .before .before .args .width) (h .loop .rest .now) (first-fits _ _ _ (omega arith) (h .loop .inv .0 .lie)))
 
 is-sought-requires : tie.Need-is-sought-requires Inv-loop μ-loop
 is-sought-requires c κs =
@@ -46,14 +47,14 @@ is-sought-requires c κs =
     subst
     (λ (k : ℕ). (0 < k) × (k * s .args .n ≤ length (s .args .run .now)) × (length (s .args .marks .now) ≡ 256)
     × Marked (s .args .marks .now) (entries k (s .args .n) (s .args .run .now)))
-    (sym (length-take-le (s .args .width) (h .loop .rest .now) (first-fits _ _ _ _ _ (omega arith) (h .loop .inv .0))))
+    (sym (length-take-le (s .args .width) (h .loop .rest .now) (first-fits _ _ _ (omega arith) (h .loop .inv .0 .lie))))
     (s .pre .0, s .pre .2, s .pre .3, s .pre .4)
 
 sub-rest : tie.Need-sub-rest Inv-loop μ-loop
-sub-rest c = first-fits _ _ _ _ _ (omega arith) (c .before .before .before .before .before .before .before .before .before .loop .inv .0)
+sub-rest c = first-fits _ _ _ (omega arith) (c .before .before .before .before .before .before .before .before .before .loop .inv .0 .lie)
 
 part-rest-start : tie.Need-part-rest-start Inv-loop μ-loop
-part-rest-start c = first-fits _ _ _ _ _ (omega arith) (c .before .before .before .before .before .before .before .before .before .loop .inv .0)
+part-rest-start c = first-fits _ _ _ (omega arith) (c .before .before .before .before .before .before .before .before .before .loop .inv .0 .lie)
 
 loop-again : tie.Need-loop-again Inv-loop μ-loop
 loop-again c =
@@ -64,7 +65,7 @@ loop-again c =
     let s = h .before .before .before .before .before in
     let w = s .args .width in
     let l = h .loop .rest .now in
-    let long = length-take-le w l (first-fits _ _ _ _ _ (omega arith) (h .loop .inv .0)) in
+    let long = length-take-le w l (first-fits _ _ _ (omega arith) (h .loop .inv .0 .lie)) in
     let one = o .is-sought .ensures ∙ ap (λ (n : ℕ). holds (entries n (s .args .n) (s .args .run .now)) (take w l)) long in (
       raise-next _ _ _ _ _ (omega arith) (h .loop .inv .0) (k .raise .ensures),
       met-next w (h .loop .left) l (entries w (s .args .n) (s .args .run .now)) (h .loop .met) (omega arith) (e .either .ensures) one ∙ h .loop .inv .1,
@@ -78,7 +79,7 @@ returns c =
     let h = c .before in
     let s = h .before .before .before .before .before in (
       met-all (s .args .width) (h .loop .left) (h .loop .rest .now) (entries (s .args .width) (s .args .n) (s .args .run .now)) (h .loop .met) (omega arith) ∙ h .loop .inv .1,
-      left-none _ _ _ _ _ (omega arith) (h .loop .inv .0),
+      all-counted _ _ _ _ _ (omega arith) (h .loop .inv .0),
     )
 
 pub scan-spec : {M : Type 1} → statement M

@@ -1,0 +1,86 @@
+-- The claim about one list shuts out an opener that leaves the list as it was, and one that spends the challenge alone.
+-- Assumes nothing.
+use mathlib.Core.List.{List, [], _∷_, _++_, flatten}
+use mathlib.Core.Path.{_≡_, refl, sym, ap, _∙_}
+use Prim.Native.Nat.{ℕ}
+use native.Mathlib.Omega.{arith}
+use lib.ListN.{replicate}
+use Rattle.octets.specs.Parts.{over, agrees}
+use Rattle.issued.specs.Issued.{holds, meets, ending, endings, emptyList, badBuffer, spendRefusal}
+use Rattle.packets.specs.Next.{grown, succession}
+use Rattle.packets.specs.Response.{responseRefusal}
+use Rattle.authenticator.specs.Account.{noRecord}
+use Rattle.authenticator.specs.Opening.{Opening, openRefusal, firstConversation, opened, openedIssued}
+use Rattle.authenticator.specs.Refusal.{refusalOf}
+use Rattle.authenticator.specs.Response.{firstReason, reasonOf, responseDrawn}
+use Rattle.authenticator.specs.Step.{drawn, step}
+use Rattle.authenticator.specs.Steps.{Lent, nextAfter}
+use Rattle.authenticator.specs.declared.Conversation.{Conversation}
+use Rattle.authenticator.specs.declared.Retries.the-variants.{Count}
+use Rattle.authenticator.proofs.Openings.{opened-first, may-open-empty}
+use Rattle.series.specs.Boxes.{withRetries, ourBox}
+use Rattle.series.specs.Openers.{leavesList, noRetries, spendsOne}
+use Rattle.series.specs.OneList.{Two, NoneTwice}
+use Rattle.series.proofs.Shared.{openingOn, challenge, first, six-places, first-opens, lent}
+
+-- ---- the list is left as it was
+
+-- one opening twice
+pub not-leaving-list : NoneTwice leavesList → ⊥
+not-leaving-list claim = claim (emptyList 8 6) first first twice [] [] refl
+  where
+    twice : Two leavesList (emptyList 8 6) first first
+    twice =
+        record {
+          before = [];
+          between = [];
+          after = [];
+          run = (lent first refl refl, (lent first refl refl, tt));
+          firstOpens = first-opens;
+          secondOpens = first-opens;
+        }
+
+-- ---- the challenge alone is spent
+
+-- the first opening allows one retry; the second has the successor for its challenge
+abbrev retrying : Opening
+retrying = openingOn (emptyList 8 6) (Count 1) challenge
+
+abbrev following : Opening
+following = openingOn (openedIssued (noRetries retrying)) (Count 0) (grown challenge)
+
+retrying-opens : opened (noRetries retrying) .refusal ≡ 0
+retrying-opens = may-open-empty (noRetries retrying) (omega arith) (omega arith) six-places refl refl (omega arith)
+
+following-opens : opened (noRetries following) .refusal ≡ 0
+unfolding opened openedIssued openRefusal spendRefusal badBuffer flatten over agrees ending endings holds meets succession
+following-opens = refl
+
+-- a Response that is lent no record: it draws 691 with R=1
+abbrev try : Lent
+try = record { packet = 2 ∷ 7 ∷ 0 ∷ 55 ∷ 49 ∷ (replicate 48 0 ++ (1 ∷ 117 ∷ [])); account = noRecord; buffer = replicate 17 0 }
+
+abbrev afterTry : Conversation → List ℕ
+afterTry c = nextAfter ourBox (withRetries 1 c) try .challenge
+
+retry-grows : afterTry (firstConversation (noRetries retrying)) ≡ grown challenge
+unfolding refusalOf responseRefusal step drawn responseDrawn reasonOf firstReason
+retry-grows = refl
+
+-- the retry of the first puts the second's challenge in force
+pub not-spending-one : NoneTwice spendsOne → ⊥
+not-spending-one claim =
+    claim (emptyList 8 6) retrying following both (try ∷ []) []
+    (ap afterTry (opened-first (noRetries retrying) retrying-opens) ∙ retry-grows
+    ∙ sym (ap (λ (c : Conversation). c .challenge) (opened-first (noRetries following) following-opens)))
+  where
+    both : Two spendsOne (emptyList 8 6) retrying following
+    both =
+        record {
+          before = [];
+          between = [];
+          after = [];
+          run = (lent retrying refl refl, (lent following refl refl, tt));
+          firstOpens = retrying-opens;
+          secondOpens = following-opens;
+        }
