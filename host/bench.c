@@ -289,7 +289,7 @@ static struct line {
     {.what = "opening, 2,048 used", .run = {open_half, NULL}},
     {.what = "opening, 4,093 used", .run = {open_nearly, NULL}},
     {.what = "opening, full: refused", .run = {open_full, NULL}},
-    {.what = "opening, 4,093 used, one end", .run = {open_alike, NULL}},
+    {.what = "opening, 4,093, all end alike", .run = {open_alike, NULL}},
     {.what = "opening, none of 8 used", .run = {open_few, NULL}},
 };
 

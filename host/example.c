@@ -1,7 +1,7 @@
 /*
  * A conversation over libmschap.a, end to end: an authenticator opens it, a peer answers with a wrong password and then with the right one, which
  * has expired, and changes it. The first Response is made by hand with mschap_challenge_response, the others by the peer's functions. At the end a
- * second box is to open with the same challenge, and is refused.
+ * second box tries to open with the same challenge, and is refused.
  *
  *     rt staticlib mschap
  *     gcc -Wall -Wextra -Werror -std=c99 -I host/include host/example.c target/staticlib/libmschap.a -o example

@@ -22,8 +22,8 @@
  * STATE
  *   Nothing is allocated and there is no state in the library: all that a conversation knows is in the run that the caller keeps, and which
  *   challenges were issued is in the list that the caller lends. So calls on different runs may be made at the same time, and a conversation
- *   may be stored and continued later. It is continued once, since from two copies it would take two answers to one challenge. Secrets that
- *   pass through are left on the stack; the library does not wipe them.
+ *   may be stored and continued later. Do not continue it from two copies: each would take an answer to the same challenge. Secrets that pass
+ *   through are left on the stack; the library does not wipe them.
  */
 #ifndef MSCHAP_H
 #define MSCHAP_H
@@ -53,7 +53,7 @@ extern "C" {
 #define MSCHAP_RETRIES 13      /* over 7 retries */
 #define MSCHAP_SPENT 16        /* the challenge or one of its successors was issued before */
 #define MSCHAP_LIST_FULL 17    /* too few places left in the list of issued challenges */
-#define MSCHAP_LIST 24         /* no list of issued challenges: its size, how many places are used, or its counts */
+#define MSCHAP_LIST 24         /* a bad list of issued challenges: its size, how many places are used, or its counts */
 #define MSCHAP_MISFIT 100      /* see above */
 
 /* ---- the sizes of runs */
@@ -172,11 +172,11 @@ uint32_t mschap_challenge_response(const uint8_t *hash, size_t hash_size,
    is its own Length field: reply[2] * 256 + reply[3]; what lay behind it stays.
    list, used (never NULL) and counts (256) are the list of issued challenges. It is there so that a Response that was recorded at one box opens
    no other: all boxes that know the same accounts are to be lent the same list, one opening at a time. A conversation with r retries may use its
-   challenge and r successors: the first octet of each is that of the one before and 23, modulo 256, and the other seven are the same. If one of
+   challenge and r successors: the first octet of each is that of the one before plus 23, modulo 256, and the other seven are the same. If one of
    these r + 1 is in the list, the opening is refused. On 0 they stand in that order right behind the places that were used, *used and
    counts[challenge[7]] have grown by r + 1, and the other places and counts are as they were. So a list is to have r + 1 places for each opening;
    when it is full every opening is refused, until the caller empties it: from then on a challenge may be issued that was issued before. Each
-   opening passes once over all used places. There is no opening without a list; an empty one for 100 openings with 2 retries is
+   opening makes one pass over all used places. Where the list is kept over a restart, store it before the Challenge is sent. There is no opening without a list; an empty one for 100 openings with 2 retries is
        static uint8_t list[100 * 3 * MSCHAP_CHALLENGE_SIZE];
        static uint16_t counts[MSCHAP_COUNTS_SIZE];
        static size_t used;

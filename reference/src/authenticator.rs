@@ -91,7 +91,7 @@ pub struct Answer {
 }
 
 /// Opens a conversation, spends its challenge and writes it. `None` for `retries` or `lm` is an
-/// opening silent about it. A refused opening leaves all that it was lent.
+/// opening silent about it. A refused opening leaves all that it was lent as it was.
 pub fn open(
     id: u8,
     challenge: &[u8; 8],

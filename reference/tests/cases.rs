@@ -2299,7 +2299,7 @@ fn issued_challenges(s: &mut Sheet) {
         ),
     );
 
-    s.title("what was opened goes on: a retry, a success; then neither challenge opens again");
+    s.title("CR03-14: what may open does, and goes on: a retry, a success; then neither challenge opens again");
     s.account(H, L, "0000");
     s.is("places 4", "");
     let kept = format!("2 {CHX}{CH23}{Z8}{Z8} 41:2");

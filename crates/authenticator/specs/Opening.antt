@@ -1,5 +1,5 @@
--- The opening of a conversation: it spends its challenge and its successors from the list of issued challenges (document 02, request 2026-03), and
--- writes the Challenge.
+-- The opening of a conversation: it spends its challenge and its successors, which adds them to the list of issued challenges (document 02, request
+-- 2026-03), and writes the Challenge.
 -- Assumes nothing: these are definitions.
 use mathlib.Core.Bool.{Bool, true, false, cond}
 use mathlib.Core.List.{List}

@@ -55,9 +55,8 @@ pub(crate) fn account(expired: bool) -> Lookup {
     }
 }
 
-// An opening: its refusal (0 is none), how many places of the list are used then, and both ends.
+// An opening: how many places of the list are used then, and both ends.
 pub struct Started {
-    pub refusal: u8,
     pub used: usize,
     pub talk: Talk,
 }
@@ -92,7 +91,6 @@ pub(crate) fn opening_on(
     let conversation = opened.conversation;
     let handed = account(false);
     Started {
-        refusal: opened.refusal,
         used: opened.used,
         talk: Talk {
             conversation,

@@ -52,11 +52,11 @@ pub(crate) fn place(whose: &[u8], at: usize, octets: &[u8]) {
 pub(crate) fn issued(list: &[u8], used: usize) {
     put(b"      The list has ");
     io::print_decimal(STDOUT_FILENO, used as u64);
-    put(b" challenges: ");
+    put(b" challenges of 8 octets, for each opening its own and one for each retry: ");
     say_octets(octets::part_of(list, 0, octets_of(used)));
 }
 
-// The octets of so many challenges, of which the lists here have few.
+// The octets of so many challenges; the bound keeps the product small, and the lists here have fewer.
 fn octets_of(challenges: usize) -> usize {
     if challenges < 64 { 8 * challenges } else { 512 }
 }
@@ -67,7 +67,10 @@ pub(crate) fn refused_opening(refusal: u8, challenge: [u8; 8]) {
     say_octets(&challenge);
     put(b"      Refusal ");
     io::print_decimal(STDOUT_FILENO, refusal as u64);
-    say(b": it was issued before, or one of its successors was. No Challenge is sent.");
+    if refusal == 16 {
+        put(b": it, or a successor of it, stands in the list");
+    }
+    say(b". No Challenge is sent.");
 }
 
 fn kind(code: u8) -> [u8; 15] {

@@ -9,7 +9,7 @@ fn main() {
         b"A box and a peer talk. <- is a packet of the box (authenticator), -> one of the peer.",
     );
     lines::say(
-        b"Each exchange has an empty list of issued challenges of its own, so that all may use the same challenge.",
+        b"Each opening is lent an empty list of issued challenges, but for the first slip, where two boxes share one.",
     );
     exchanges::all();
     slips::all();

@@ -62,7 +62,7 @@ fn on_one_list(list: &mut [u8], counts: &mut [u16]) {
 
 fn shared() {
     title(
-        b"Slip: one challenge shared by two boxes. A Response recorded at the first would open the second.",
+        b"Slip: one challenge shared by two boxes, so that a Response recorded at the first would open the second. It is refused there.",
     );
     let mut list = [0u8; 64];
     let mut counts = [0u16; 256];

@@ -9,7 +9,7 @@ use lib.Dec.{eqb}
 use lib.ListN.{length}
 use Rattle.issued.specs.Issued.{Issued}
 use Rattle.authenticator.specs.Opening.{Opening, opened, openedIssued, openedBuffer, openRefusal}
-use Rattle.authenticator.specs.Opening as authenticated
+use Rattle.authenticator.specs.Opening as openings
 use Rattle.authenticator.specs.Refusal.{refusalOf}
 use Rattle.authenticator.specs.Step.{step, numberOf}
 use Rattle.authenticator.specs.declared.Retries.{Retries}
@@ -43,12 +43,12 @@ open-kept o = by (eqb (openRefusal o) 0) refl
 
 pub open-called : (o : Opening) (lm : ℕ) (conversation : List ℕ) {lent : Opening} {answer : Opened} {r : ℕ} {list : Issued} {run after buffer : List ℕ}
     → length (o .challenge) ≡ 8 → isLmChoice lm ≡ true → length conversation ≡ 50 → length run ≡ 50 → run ≡ conversationRun (answer .conversation)
-    → lent ≡ o → authenticated.Opens lent answer list buffer
+    → lent ≡ o → openings.Opens lent answer list buffer
     → (r ≡ numbered (sized (length run) conversation) (answer .refusal)) × (after ≡ left r run conversation)
     → Opens o lm conversation r list after buffer
 unfolding openNumber
 open-called o lm conversation {lent} {answer} {r} {list} {run} {after} {buffer} h₁ h₂ h₃ n e same given h =
-    let f = subst (λ (x : Opening). authenticated.Opens x answer list buffer) same given in
+    let f = subst (λ (x : Opening). openings.Opens x answer list buffer) same given in
     let a = f .answer in
     let done = handed conversation n (e ∙ ap (λ (v : Opened). conversationRun (v .conversation)) a) (ap (λ (v : Opened). v .refusal) a) h in
     let number : r ≡ opened o .refusal = done .0 ∙ simp (eq-eqb (length conversation) 50 h₃) in

@@ -42,8 +42,8 @@ fn is_lm_choice(n: u8) -> bool
 }
 
 // Opens a conversation with an identifier, a challenge of eight octets, the retries (255: silent) and whether LM is allowed (0: no, 1: yes,
-// 255: silent), spends the challenge and its successors from the list of issued challenges (places of eight octets, how many are used, 256 counts
-// of last octets), and writes its Challenge into reply and itself into conversation, 50 octets. 13: over 7 retries. 2: reply has under 17 octets.
+// 255: silent), spends the challenge and its successors, which adds them to the list of issued challenges (places of eight octets, how many are used, 256
+// counts of last octets), and writes its Challenge into reply and itself into conversation, 50 octets. 13: over 7 retries. 2: reply has under 17 octets.
 // 24: a bad list. 16: a challenge issued before. 17: the list is full.
 #[no_mangle]
 pub extern "C" fn mschap_open(

@@ -36,7 +36,7 @@ pub enum Refusal {
     Spent,
     /// 17: too few places left in the list of issued challenges.
     ListFull,
-    /// 24: no list of issued challenges. An [`Issued`](crate::Issued) always is one.
+    /// 24: a bad list of issued challenges. An [`Issued`](crate::Issued) never is one.
     List,
     /// Any other number. The types here leave no way to it.
     Unexpected(u32),

@@ -1,5 +1,5 @@
 //! Wrong sizes and wrong octets at the C interface: each is answered with 100 before any refusal,
-//! and changes nothing; a list of issued challenges that is none is refused with 24, and changes
+//! and changes nothing; a bad list of issued challenges is refused with 24, and changes
 //! nothing either. A run of no octets may have any pointer, the null pointer too.
 
 use mschap::sys;
