@@ -16,11 +16,12 @@ pub record Opener : Type 0 where
 abbrev pub leavesList : Opener
 leavesList = record { answer = opened; leaves = λ o. o .issued }
 
--- the challenge alone is spent: none of its successors is looked for, and none is added
+-- the same opening with no retries
 abbrev pub noRetries : Opening → Opening
 noRetries o =
     record { id = o .id; challenge = o .challenge; retries = Count 0; lm = o .lm; issued = o .issued; buffer = o .buffer }
 
+-- the challenge alone is spent: none of its successors is looked for, and none is added
 abbrev pub spendsOne : Opener
 spendsOne =
     record {
