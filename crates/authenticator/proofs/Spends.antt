@@ -1,22 +1,32 @@
 -- What an opening spends: entries of 8 octets that differ among themselves, and the octets in which the code lends them.
 -- Assumes nothing.
 use mathlib.Core.Bool.{Bool, true, false, _||_, false≢true}
-use mathlib.Core.List.{List, [], _∷_, append-nil, flatten}
+use mathlib.Core.List.{List, [], _∷_, _++_, append-nil, flatten}
 use mathlib.Core.Logic.{_≢_}
 use mathlib.Core.Path.{_≡_, refl, sym, ap, ap₂, _∙_, subst}
 use Prim.Native.Nat.{ℕ, zero, suc, _+_, _-_, _*_, _/_, _%_, _≤_, _<_}
-use native.Mathlib.Nat.{div-add-mod'}
+use native.Mathlib.Nat.{div-add-mod', mul-suc, mul-zero, suc-add}
 use native.Mathlib.Omega.{arith}
 use borrow.Author.Tests.{ne-eqb}
 use lib.Dec.{eqb}
 use lib.ListN.{length, take}
+use lib.Seq.{take-append-add}
 use Rattle.octets.specs.Parts.{part, agrees}
 use Rattle.octets.proofs.Parts.{agrees-equal}
 use Rattle.octets.proofs.Numbers.{Octets}
 use Rattle.issued.specs.Issued.{entries, entriesIn, holds, Distinct}
 use Rattle.issued.proofs.Listing.{Wide, length-flatten, entries-flatten}
 use Rattle.packets.specs.Next.{grown, succession}
-use Rattle.packets.proofs.Growing.{length-grown, grown-octets, length-succession, succession-front}
+use Rattle.packets.proofs.Growing.{length-succession}
+
+pub length-grown : (c : List ℕ) → length (grown c) ≡ length c
+length-grown [] = refl
+length-grown (x ∷ c) = refl
+
+grown-octets : (c : List ℕ) → Octets c → Octets (grown c)
+grown-octets [] h i = h i
+grown-octets (x ∷ c) h zero = omega arith
+grown-octets (x ∷ c) h (suc i) = h (suc i)
 
 pub succession-wide : (n : ℕ) (c : List ℕ) → length c ≡ 8 → Wide 8 (succession n c)
 unfolding succession
@@ -61,6 +71,16 @@ succession-octets (suc n) c x e o h = which (agrees c x) refl (succession-octets
     which false p next = next (sym (ap (λ (t : Bool). t || holds (succession n (grown c)) x) p) ∙ h)
 
 -- ---- as the code lends them
+
+-- the first n of n + k, as octets
+succession-front : (w n k : ℕ) (c : List ℕ) → length c ≡ w → take (w * n) (flatten (succession (n + k) c)) ≡ flatten (succession n c)
+unfolding flatten succession
+succession-front w zero k c e = ap (λ (m : ℕ). take m (flatten (succession (0 + k) c))) (mul-zero w)
+succession-front w (suc n) k c e =
+    let size : w * suc n ≡ length c + w * n = omega (arith, mul-suc w n) in
+    ap₂ (λ (m i : ℕ). take m (flatten (succession i c))) size (suc-add n k)
+    ∙ take-append-add c (flatten (succession (n + k) (grown c))) (w * n)
+    ∙ ap (λ (x : List ℕ). c ++ x) (succession-front w n k (grown c) (length-grown c ∙ e))
 
 pub succession-run : (r : ℕ) (c : List ℕ) → r ≤ 7 → length c ≡ 8 → entriesIn 8 (part 0 (8 * (r + 1)) (flatten (succession 8 c))) ≡ succession (suc r) c
 succession-run r c h e =

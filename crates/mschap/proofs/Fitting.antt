@@ -12,10 +12,10 @@ use Rattle.credentials.specs.declared.Content.{Content}
 use Rattle.credentials.specs.declared.Content.the-variants.{Over, Odd, Password}
 use Rattle.credentials.specs.declared.Unsealed as blocks
 use Rattle.credentials.proofs.Laws.{length-nt}
-use Rattle.packets.proofs.Growing.{length-grown}
 use Rattle.packets.specs.Response.{responseIn}
 use Rattle.packets.specs.Change.{changeIn}
 use Rattle.packets.specs.declared.Change as changes
+use Rattle.authenticator.proofs.Spends.{length-grown}
 use Rattle.authenticator.specs.Account.{blank}
 use Rattle.authenticator.specs.Conversation.{ended, retried, closed}
 use Rattle.authenticator.specs.Opening.{Opening, openRefusal, openedIssued, firstConversation, openingPacket, opened}

@@ -1,25 +1,14 @@
--- A challenge and those that follow it by the 23 rule.
+-- A challenge and those that follow it by the 23 rule, laid one behind the other.
 -- Assumes nothing.
-use mathlib.Core.List.{List, [], _∷_, _++_, append-assoc, append-nil, flatten}
+use mathlib.Core.List.{List, _∷_, _++_, append-assoc, append-nil, flatten}
 use mathlib.Core.Path.{_≡_, refl, sym, ap, ap₂, _∙_}
 use Prim.Native.Nat.{ℕ, zero, suc, _+_, _-_, _*_, _<_}
-use native.Mathlib.Nat.{mul-suc, mul-zero, suc-add}
 use native.Mathlib.Omega.{arith}
 use lib.ListN.{length, take}
-use lib.Seq.{take-all, take-append-add}
+use lib.Seq.{take-all}
 use Rattle.octets.specs.Parts.{overAt}
-use Rattle.octets.proofs.Numbers.{Octets}
 use Rattle.octets.proofs.Laid.{take-laid}
 use Rattle.packets.specs.Next.{grown, succession}
-
-pub length-grown : (c : List ℕ) → length (grown c) ≡ length c
-length-grown [] = refl
-length-grown (x ∷ c) = refl
-
-pub grown-octets : (c : List ℕ) → Octets c → Octets (grown c)
-grown-octets [] h i = h i
-grown-octets (x ∷ c) h zero = omega arith
-grown-octets (x ∷ c) h (suc i) = h (suc i)
 
 succession-next : (n : ℕ) (c : List ℕ) → 0 < n → succession n c ≡ c ∷ succession (n - 1) (grown c)
 unfolding succession
@@ -30,16 +19,6 @@ pub length-succession : (n : ℕ) (c : List ℕ) → length (succession n c) ≡
 unfolding succession
 length-succession zero c = refl
 length-succession (suc n) c = ap suc (length-succession n (grown c))
-
--- the first n of n + k, as octets
-pub succession-front : (w n k : ℕ) (c : List ℕ) → length c ≡ w → take (w * n) (flatten (succession (n + k) c)) ≡ flatten (succession n c)
-unfolding flatten succession
-succession-front w zero k c e = ap (λ (m : ℕ). take m (flatten (succession (0 + k) c))) (mul-zero w)
-succession-front w (suc n) k c e =
-    let size : w * suc n ≡ length c + w * n = omega (arith, mul-suc w n) in
-    ap₂ (λ (m i : ℕ). take m (flatten (succession i c))) size (suc-add n k)
-    ∙ take-append-add c (flatten (succession (n + k) (grown c))) (w * n)
-    ∙ ap (λ (x : List ℕ). c ++ x) (succession-front w n k (grown c) (length-grown c ∙ e))
 
 -- one turn of the loop: i challenges lie in run, and the rest follow from c
 pub laid-next : (run c all : List ℕ) (i : ℕ) {after next : List ℕ} → i < 8 → length run ≡ 64 → length c ≡ 8 → after ≡ overAt (8 * i) c run → next ≡ grown c

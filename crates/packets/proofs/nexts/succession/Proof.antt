@@ -8,7 +8,7 @@ use borrow.Author.Needs.{needs}
 use lib.ListN.{length, take}
 use Rattle.octets.proofs.Parts.{length-over-at}
 use Rattle.packets.specs.Next.{succession}
-use Rattle.packets.proofs.Growing.{length-grown, laid-next, laid-all}
+use Rattle.packets.proofs.Growing.{laid-next, laid-all}
 use Rattle.packets.proofs.nexts.succession.Statement.{statement}
 use Rattle.packets.proofs.nexts.succession.Tie as tie
 
@@ -35,7 +35,7 @@ loop-again c =
     let l = h .loop in (
       omega arith,
       ap length (k .copy-at .ensures) ∙ length-over-at (8 * l .i) (l .next) (l .run) ∙ l .inv .1,
-      ap length (c .grown-challenge .ensures) ∙ length-grown (l .next) ∙ l .inv .2,
+      search needs,
       laid-next (l .run) (l .next) (flatten (succession 8 (h .before .args .challenge))) (l .i) (omega arith) (l .inv .1) (l .inv .2) (k .copy-at .ensures) (c .grown-challenge .ensures)
           (l .inv .3),
     )
