@@ -1,9 +1,9 @@
 -- One step: its refusal number, what a refused packet leaves as it was, when a packet is judged, and that it is judged exactly when it draws a
 -- reply.
 -- Assumes nothing.
-use mathlib.Core.Bool.{Bool, true, false, cond, not}
+use mathlib.Core.Bool.{Bool, true, false, cond, not, _||_}
 use mathlib.Core.List.{List}
-use mathlib.Core.Logic.{_≢_}
+use mathlib.Core.Logic.{_≢_, _⊎_, inl, inr}
 use mathlib.Core.Option.{Option, none, some}
 use mathlib.Core.Path.{_≡_, refl, sym, ap, _∙_}
 use Prim.Native.Nat.{ℕ, _≤_, _<_}
@@ -11,6 +11,7 @@ use native.Mathlib.Omega.{arith}
 use borrow.Author.Tests.{lt-ltb, le-ltb, eq-eqb, ne-eqb, eqb-true, eqb-false, ltb-true, ltb-false}
 use lib.Dec.{eqb, ltb}
 use lib.ListN.{length}
+use Rattle.octets.proofs.Parts.{agrees-refl}
 use Rattle.message.specs.Message.{textOf}
 use Rattle.packets.specs.Frame.{octet, badFrame, badId}
 use Rattle.packets.specs.Response.{badResponseSize, badResponseFlag, responseRefusal}
@@ -25,7 +26,7 @@ use Rattle.authenticator.specs.Refusal.{badCode, bodyRefusal, refusalOf}
 use Rattle.authenticator.specs.Response.{Drawn, version, mayRetry, reasonOf, responseDrawn}
 use Rattle.authenticator.specs.Change.{newHash, drawnBy, changeDrawn}
 use Rattle.authenticator.specs.Step.{numberOf, stepReason, drawnIn, drawn, Outcome, judgedAs, refusedAs, step}
-use Rattle.authenticator.specs.Steps.{Lent, stepOn, nextAfter, refusalAt, Refused, replyOf, judged}
+use Rattle.authenticator.specs.Steps.{Lent, stepOn, drewReply, nextAfter, refusalAt, Refused, Leaves, replyOf, judged}
 use Rattle.authenticator.specs.declared.Lookup.{Lookup}
 use Rattle.authenticator.specs.declared.Conversation.{Conversation}
 use Rattle.authenticator.specs.declared.Phase.{Phase}
@@ -61,12 +62,12 @@ module _ (c : Conversation) (p : List ℕ) (l : Lookup) (b : List ℕ) where
       which false e = ap (λ (o : Outcome). numberOf (o .answer .kind)) (refused-step (eqb-false (refusalOf c p b) 0 e))
 
 -- a refused step leaves the conversation and the buffer as they were, writes nothing and hands out no record
-pub refused-whole : (c : Conversation) (s : Lent) → Refused stepOn c s → stepOn c s ≡ refusedAs (refusalAt stepOn c s) c (s .buffer)
+pub refused-whole : (c : Conversation) (s : Lent) → refusalAt stepOn c s ≢ 0 → stepOn c s ≡ refusedAs (refusalAt stepOn c s) c (s .buffer)
 refused-whole c s h =
     let n = number-step c (s .packet) (s .account) (s .buffer) in
     refused-step c (s .packet) (s .account) (s .buffer) (λ e. h (n ∙ e)) ∙ ap (λ (k : ℕ). refusedAs k c (s .buffer)) (sym n)
 
-pub refused-same : (c : Conversation) (s : Lent) → Refused stepOn c s → nextAfter stepOn c s ≡ c
+pub refused-same : (c : Conversation) (s : Lent) → refusalAt stepOn c s ≢ 0 → nextAfter stepOn c s ≡ c
 refused-same c s h = ap (λ (o : Outcome). o .answer .next) (refused-whole c s h)
 
 -- ---- the checks
@@ -177,15 +178,21 @@ reply-of d b h = taken (d .reply) b h
 
 -- "a packet is judged exactly when it draws a reply": 1 where the step is not refused, and 0 where it is
 module _ (c : Conversation) (s : Lent) where
+  abbrev countOf : Outcome → ℕ
+  countOf o = cond (drewReply o (s .buffer)) 1 0
+
+  pub judged-as : (d : Drawn) → Fits (d .reply) → countOf (judgedAs d (s .buffer)) ≡ 1
+  judged-as d fits = rw (lt-ltb 0 (length (d .reply)) (fits .0))
+
   pub judged-one : refusalAt stepOn c s ≡ 0 → judged stepOn c s ≡ 1
   judged-one e =
       let ok : refusalOf c (s .packet) (s .buffer) ≡ 0 = sym (number-step c (s .packet) (s .account) (s .buffer)) ∙ e in
       let live = live-and-roomy c (s .packet) (s .buffer) ok .0 in
-      ap (λ (o : Outcome). cond {A = ℕ} (ltb 0 (o .answer .written)) 1 0) (judged-step c (s .packet) (s .account) (s .buffer) ok)
-      ∙ ap (λ (t : Bool). cond {A = ℕ} t 1 0) (lt-ltb 0 _ (drawn-fits c (s .packet) (s .account) live .0))
+      ap countOf (judged-step c (s .packet) (s .account) (s .buffer) ok)
+      ∙ judged-as (drawn c (s .packet) (s .account)) (drawn-fits c (s .packet) (s .account) live)
 
-  pub judged-none : Refused stepOn c s → judged stepOn c s ≡ 0
-  judged-none h = ap (λ (o : Outcome). cond {A = ℕ} (ltb 0 (o .answer .written)) 1 0) (refused-whole c s h)
+  pub judged-none : refusalAt stepOn c s ≢ 0 → judged stepOn c s ≡ 0
+  judged-none h = ap countOf (refused-whole c s h) ∙ ap (λ (t : Bool). cond {A = ℕ} (not t) 1 0) (agrees-refl (s .buffer))
 
   pub judged-exactly : judged stepOn c s ≡ cond (eqb (refusalAt stepOn c s) 0) 1 0
   judged-exactly = which (eqb (refusalAt stepOn c s) 0) refl
@@ -193,3 +200,13 @@ module _ (c : Conversation) (s : Lent) where
       which : (t : Bool) → eqb (refusalAt stepOn c s) 0 ≡ t → judged stepOn c s ≡ cond t 1 0
       which true e = judged-one (eqb-true (refusalAt stepOn c s) 0 e)
       which false e = judged-none (eqb-false (refusalAt stepOn c s) 0 e)
+
+  -- what is seen of our box and document 01's table say the same
+  pub refused-number : Refused stepOn c s → refusalAt stepOn c s ≢ 0
+  refused-number (inl z) e = omega (arith, judged-one e)
+  refused-number (inr n) e = n (sym (number-step c (s .packet) (s .account) (s .buffer)) ∙ e)
+
+  pub leaves : Leaves stepOn c s
+  leaves z =
+      let o = refused-whole c s (refused-number (inl z)) in
+      (ap (λ (o : Outcome). o .answer .next) o, ap (λ (o : Outcome). o .answer .handed .found) o)

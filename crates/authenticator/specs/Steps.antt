@@ -1,12 +1,14 @@
 -- The authenticator's steps, one after the other. Words in quotes are document 01's, "The series in demand 3".
 -- Assumes nothing: these are definitions.
-use mathlib.Core.Bool.{true, false, cond}
+use mathlib.Core.Bool.{Bool, true, false, cond, not, _||_}
 use mathlib.Core.List.{List}
-use mathlib.Core.Logic.{_≢_}
+use mathlib.Core.Logic.{_≢_, _⊎_}
 use mathlib.Core.Path.{_≡_}
 use Prim.Native.Nat.{ℕ}
 use lib.Dec.{ltb}
 use lib.ListN.{take}
+use Rattle.octets.specs.Parts.{agrees}
+use Rattle.authenticator.specs.Refusal.{refusalOf}
 use Rattle.authenticator.specs.Step.{Outcome, step, numberOf}
 use Rattle.authenticator.specs.declared.Account.{Account}
 use Rattle.authenticator.specs.declared.Lookup.{Lookup}
@@ -30,21 +32,33 @@ stepOn c s = step c (s .packet) (s .account) (s .buffer)
 abbrev pub replyOf : Outcome → List ℕ
 replyOf o = take (o .answer .written) (o .buffer)
 
+-- What is seen of a reply: octets were written, or the buffer is not as it was. A box that lays a reply into the buffer
+-- and calls the packet refused, with nothing written, drew one all the same.
+abbrev pub drewReply : Outcome → List ℕ → Bool
+drewReply o before = ltb 0 (o .answer .written) || not (agrees (o .buffer) before)
+
 module _ (box : Box) where
   -- "the conversation that .. the step before gave back"
   abbrev pub nextAfter : Conversation → Lent → Conversation
   nextAfter c s = box c s .answer .next
 
+  -- the number that the box itself gives
   abbrev pub refusalAt : Conversation → Lent → ℕ
   refusalAt c s = numberOf (box c s .answer .kind)
 
-  -- a packet "with which the box refuses it"
-  abbrev pub Refused : Conversation → Lent → Type 0
-  Refused c s = refusalAt c s ≢ 0
-
-  -- "judged": 1 for a packet that draws a reply
+  -- "a packet is judged exactly when it draws a reply": 1 for a packet that does
   abbrev pub judged : Conversation → Lent → ℕ
-  judged c s = cond (ltb 0 (box c s .answer .written)) 1 0
+  judged c s = cond (drewReply (box c s) (s .buffer)) 1 0
+
+  -- A packet "with which the box refuses it": it draws no reply, or document 01's table refuses it. So the box's own word
+  -- for what it did counts for nothing, and a box that judges what it should refuse is held to the claim too.
+  abbrev pub Refused : Conversation → Lent → Type 0
+  Refused c s = (judged c s ≡ 0) ⊎ (refusalOf c (s .packet) (s .buffer) ≢ 0)
+
+  -- "A refused packet leaves conversation, account record and reply buffer as they were" (demand 1): a step that draws no
+  -- reply, which leaves the buffer, leaves the conversation too and hands out no record.
+  abbrev pub Leaves : Conversation → Lent → Type 0
+  Leaves c s = judged c s ≡ 0 → (nextAfter c s ≡ c) × (box c s .answer .handed .found ≡ false)
 
 -- the rightful user's record: with an NT hash, and neither disabled, barred by hours nor without dial-in
 pub record Rightful (a : Account) : Type 0 where

@@ -7,7 +7,7 @@ use mathlib.Core.Logic.{_≢_}
 use mathlib.Core.Path.{_≡_, refl, sym, ap, _∙_}
 use Prim.Native.Nat.{ℕ, _+_, _%_, _≤_}
 use native.Mathlib.Omega.{arith}
-use borrow.Author.Tests.{ltb-false, eqb-true, not-false}
+use borrow.Author.Tests.{le-ltb, ltb-false, eqb-true, not-false}
 use lib.Dec.{eqb, ltb}
 use lib.ListN.{length, take}
 use Rattle.credentials.specs.Credentials.{badNtPassword, badFiller}
@@ -32,12 +32,8 @@ left-good n packet out e h =
 
 -- ---- three tests in their order, with the numbers a, b, c
 
-none-of : (t₁ t₂ t₃ : Bool) (a b c : ℕ) → cond t₁ a (cond t₂ b (cond t₃ c 0)) ≢ a → cond t₁ a (cond t₂ b (cond t₃ c 0)) ≢ b
-    → cond t₁ a (cond t₂ b (cond t₃ c 0)) ≢ c → cond t₁ a (cond t₂ b (cond t₃ c 0)) ≡ 0
-none-of true t₂ t₃ a b c x y z = absurd (x refl)
-none-of false true t₃ a b c x y z = absurd (y refl)
-none-of false false true a b c x y z = absurd (z refl)
-none-of false false false a b c x y z = refl
+none-of : (t₁ t₂ t₃ : Bool) (a b c : ℕ) → t₁ ≡ false → t₂ ≡ false → t₃ ≡ false → cond t₁ a (cond t₂ b (cond t₃ c 0)) ≡ 0
+none-of t₁ t₂ t₃ a b c x y z = rw (x, y, z)
 
 all-false : (t₁ t₂ t₃ : Bool) (a b c : ℕ) → a ≢ 0 → b ≢ 0 → c ≢ 0 → cond t₁ a (cond t₂ b (cond t₃ c 0)) ≡ 0
     → (t₁ ≡ false) × (t₂ ≡ false) × (t₃ ≡ false)
@@ -63,13 +59,12 @@ module _ (t : Turn) (password name out : List ℕ) where
   unfolding writeResponse
   response-number = refl
 
-  -- its writer refuses with 8, 10 and 9 alone
-  pub response-limits : wrote .answer .refusal ≢ 8 → wrote .answer .refusal ≢ 10 → wrote .answer .refusal ≢ 9 → wrote .answer .refusal ≡ 0
+  -- within the limits of 8, 10 and 9 its writer refuses nothing
+  pub response-written : badNtPassword password ≡ false → badName name ≡ false → 54 + length name ≤ length out → wrote .answer .refusal ≡ 0
   unfolding writeResponseRefusal responseWriteRefusal
-  response-limits x y z =
-      let n = response-number in
-      n ∙ none-of (badNtPassword password) (badName name) (ltb (length out) (54 + length name)) 8 10 9
-      (λ e. x (n ∙ e)) (λ e. y (n ∙ e)) (λ e. z (n ∙ e))
+  response-written x y z =
+      response-number
+      ∙ none-of (badNtPassword password) (badName name) (ltb (length out) (54 + length name)) 8 10 9 x y (le-ltb (length out) (54 + length name) z)
 
   module _ (ok : wrote .answer .refusal ≡ 0) where
     tests : (badNtPassword password ≡ false) × (badName name ≡ false) × (ltb (length out) (54 + length name) ≡ false)
@@ -97,14 +92,13 @@ module _ (t : Turn) (old new filler out : List ℕ) where
   unfolding writeChange
   change-number = refl
 
-  -- its writer refuses with 8, 12 and 9 alone
-  pub change-limits : changeWrote .answer .refusal ≢ 8 → changeWrote .answer .refusal ≢ 12 → changeWrote .answer .refusal ≢ 9
+  -- within the limits of 8, 12 and 9 its writer refuses nothing
+  pub change-written : badNtPassword old ≡ false → badNtPassword new ≡ false → badFiller filler ≡ false → 1118 ≤ length out
       → changeWrote .answer .refusal ≡ 0
   unfolding writeChangeRefusal changeWriteRefusal
-  change-limits x y z =
-      let n = change-number in
-      n ∙ none-of (badNtPassword old || badNtPassword new) (badFiller filler) (ltb (length out) 1118) 8 12 9
-      (λ e. x (n ∙ e)) (λ e. y (n ∙ e)) (λ e. z (n ∙ e))
+  change-written x y z room =
+      change-number
+      ∙ none-of (badNtPassword old || badNtPassword new) (badFiller filler) (ltb (length out) 1118) 8 12 9 (rw (x, y)) z (le-ltb (length out) 1118 room)
 
   module _ (ok : changeWrote .answer .refusal ≡ 0) where
     checks : ((badNtPassword old || badNtPassword new) ≡ false) × (badFiller filler ≡ false) × (ltb (length out) 1118 ≡ false)

@@ -13,28 +13,28 @@ use Rattle.packets.specs.Response.{responseIn}
 use Rattle.packets.specs.Reply.{successPacket, failurePacket, readReply, succeeded}
 use Rattle.packets.proofs.ReadBack.{success-back, failure-read}
 use Rattle.authenticator.specs.Account.{blank, found, renewed}
-use Rattle.authenticator.specs.Conversation.{isEnded}
 use Rattle.authenticator.specs.Opening.{retriesOf, opened}
 use Rattle.authenticator.specs.Response.{valid}
 use Rattle.authenticator.specs.Step.{Outcome, judgedAs, step}
-use Rattle.authenticator.specs.Steps.{Lent, stepOn, nextAfter, Refused, judged, Rightful}
+use Rattle.authenticator.specs.Steps.{Lent, stepOn, nextAfter, Refused, Leaves, judged, Rightful}
 use Rattle.authenticator.specs.declared.Account.{Account}
 use Rattle.authenticator.specs.declared.Lookup.{Lookup}
 use Rattle.authenticator.specs.declared.Conversation.{Conversation}
 use Rattle.authenticator.specs.declared.Phase.the-variants.{Response, Change}
-use Rattle.authenticator.proofs.Steps.{roomy, refused-same, judged-none}
+use Rattle.authenticator.proofs.Steps.{refused-same, judged-none, refused-number, leaves}
 use Rattle.authenticator.proofs.Written.{success-fits, failure-fits}
 use Rattle.authenticator.proofs.Judged.{again, changed, renewed-rightful}
 use Rattle.authenticator.proofs.Openings.{opened-first}
 use Rattle.authenticator.proofs.Bound.{leftIn, left-first, judged-less}
 use Rattle.peer.specs.Write.{Wrote, responseFor, writeResponse, writeChange}
 use Rattle.peer.specs.declared.Turn.{Turn}
-use Rattle.peer.proofs.Left.{response-limits, name-fits, response-left, change-limits, new-fits, filler-full, change-left}
+use Rattle.peer.proofs.Left.{response-written, name-fits, response-left, change-written, new-fits, filler-full, change-left}
 use Rattle.series.specs.Course.{end, Along}
-use Rattle.series.specs.Series.{invalid, right, renewal, Lending, Step, ours, other, Kind, Invalid, Right, Renewal, kindsOf, plan, State, start, reaching, Exchange, exchange, next, judgedAt, Kept, Allowed, Draws, DrawsFailure, DrawsSuccess, LetsIn, Answered, Claimed, Demand3}
+use Rattle.series.specs.Series.{invalid, right, renewal, Lending, Step, ours, other, Kind, Invalid, Right, Renewal, kindsOf, plan, State, start, reaching, Exchange, exchange, next, judgedAt, TryWithin, ChangeWithin, Allowed, Draws, DrawsFailure, DrawsSuccess, LetsIn, Answered, Claimed, Demand3}
 use Rattle.series.specs.Boxes.{ourBox}
+use Rattle.series.specs.Writers.{ourWriter}
 use Rattle.series.proofs.RoundTrips.{challenge-read}
-use Rattle.series.proofs.Invariant.{Invariant, whole, within}
+use Rattle.series.proofs.Invariant.{Invariant, whole, within, along-any}
 use Rattle.series.proofs.Exchanged.{Exchanged, exchanged}
 use Rattle.series.proofs.Taken.{InStep, invalid-taken, right-taken, change-taken}
 use Rattle.series.proofs.Ready.{FitIn, fit-plan, opened-in-step, retried-in-step, ended-in-step, drawnRight, readRight, right-fits, right-in-step, right-fit}
@@ -63,15 +63,12 @@ module _ (p : State) (h : InStep (p .conversation) (p .peer .turn)) where
   read-success behind = read-by (successPacket (p .conversation .id)) behind succeeded (success-back (p .conversation .id) behind)
 
   -- a try
-  module _ (password name : List ℕ) (l : Lending) (kept : Kept (exchange stepOn p (right password name) l)) (ph : p .conversation .phase ≡ Response) where
+  module _ (password name : List ℕ) (l : Lending) (kept : TryWithin password name l) (ph : p .conversation .phase ≡ Response) where
     abbrev wrote : Wrote
     wrote = writeResponse turn password name (l .out)
 
     try-written : wrote .answer .refusal ≡ 0
-    try-written = response-limits turn password name (l .out) (kept .0 .not8) (kept .0 .not10) (kept .0 .not9)
-
-    try-room : 17 ≤ length (l .buffer)
-    try-room = roomy (p .conversation) (reaching wrote l) (ap isEnded ph) (kept .1)
+    try-written = response-written turn password name (l .out) (kept .not8) (kept .not10) (kept .not9)
 
     try-left : reaching wrote l .packet ≡ responseFor turn password name ++ l .packetPadding
     try-left = ap (λ (x : List ℕ). x ++ l .packetPadding) (response-left turn password name (l .out) try-written)
@@ -82,18 +79,18 @@ module _ (p : State) (h : InStep (p .conversation) (p .peer .turn)) where
     invalid-exchanged : (l .account .found && valid (p .conversation) (l .account .account) (responseIn (reaching wrote l .packet))) ≡ false → 0 < p .conversation .retries
         → Exchanged p wrote l (again (p .conversation)) (failedWith 691 1 2 noC)
     invalid-exchanged v pos =
-        exchanged p wrote l (again (p .conversation)) (failedWith 691 1 2 noC) try-written try-room (failure-fits (p .conversation .id) 691 1 2)
+        exchanged p wrote l (again (p .conversation)) (failedWith 691 1 2 noC) try-written (kept .not2) (failure-fits (p .conversation .id) 691 1 2)
         (ap (λ (x : List ℕ). step (p .conversation) x (l .account) (l .buffer)) try-left
-        ∙ invalid-taken (p .conversation) turn h ph password name (l .packetPadding) (l .buffer) try-room try-name (l .account)
+        ∙ invalid-taken (p .conversation) turn h ph password name (l .packetPadding) (l .buffer) (kept .not2) try-name (l .account)
         (ap (λ (x : List ℕ). l .account .found && valid (p .conversation) (l .account .account) (responseIn x)) (sym try-left) ∙ v) pos)
         (read-failure 691 1 (l .replyPadding) (omega arith) (omega arith))
 
     right-exchanged : (a : Account) → Rightful a → ntHashOf password ≡ a .nt .octets → l .account ≡ found a
         → Exchanged p wrote l (drawnRight (a .expired) (p .conversation) a) (readRight (a .expired))
     right-exchanged a g hash lent =
-        exchanged p wrote l (drawnRight (a .expired) (p .conversation) a) (readRight (a .expired)) try-written try-room (right-fits (a .expired) (p .conversation) a)
+        exchanged p wrote l (drawnRight (a .expired) (p .conversation) a) (readRight (a .expired)) try-written (kept .not2) (right-fits (a .expired) (p .conversation) a)
         (ap₂ (λ (x : List ℕ) (y : Lookup). step (p .conversation) x y (l .buffer)) try-left lent
-        ∙ right-taken (p .conversation) turn h ph password name (l .packetPadding) (l .buffer) try-room try-name a g hash)
+        ∙ right-taken (p .conversation) turn h ph password name (l .packetPadding) (l .buffer) (kept .not2) try-name a g hash)
         (heard (a .expired))
       where
         heard : (x : Bool) → readReply (turn .id) (drawnRight x (p .conversation) a .reply ++ l .replyPadding) ≡ readRight x
@@ -101,35 +98,32 @@ module _ (p : State) (h : InStep (p .conversation) (p .peer .turn)) where
         heard false = read-success (l .replyPadding)
 
   -- the change
-  module _ (old new filler : List ℕ) (l : Lending) (kept : Kept (exchange stepOn p (renewal old new filler) l)) (ph : p .conversation .phase ≡ Change) where
+  module _ (old new filler : List ℕ) (l : Lending) (kept : ChangeWithin old new filler l) (ph : p .conversation .phase ≡ Change) where
     abbrev changeWrote : Wrote
     changeWrote = writeChange turn old new filler (l .out)
 
-    change-written : changeWrote .answer .refusal ≡ 0
-    change-written = change-limits turn old new filler (l .out) (kept .0 .not8) (kept .0 .not12) (kept .0 .not9)
-
-    change-room : 17 ≤ length (l .buffer)
-    change-room = roomy (p .conversation) (reaching changeWrote l) (ap isEnded ph) (kept .1)
+    renewal-written : changeWrote .answer .refusal ≡ 0
+    renewal-written = change-written turn old new filler (l .out) (kept .oldNot8) (kept .newNot8) (kept .not12) (kept .not9)
 
     module _ (there : p .conversation .kept .nt .present ≡ true) (hash : ntHashOf old ≡ p .conversation .kept .nt .octets) where
       change-outcome : stepOn (p .conversation) (reaching changeWrote l) ≡ judgedAs (changed (p .conversation) (ntHashOf new)) (l .buffer)
       change-outcome =
-          ap (λ (x : List ℕ). step (p .conversation) (x ++ l .packetPadding) (l .account) (l .buffer)) (change-left turn old new filler (l .out) change-written)
-          ∙ change-taken (p .conversation) turn h ph old new filler (l .packetPadding) (l .buffer) change-room
-          (filler-full turn old new filler (l .out) change-written) (new-fits turn old new filler (l .out) change-written) there hash (l .account)
+          ap (λ (x : List ℕ). step (p .conversation) (x ++ l .packetPadding) (l .account) (l .buffer)) (change-left turn old new filler (l .out) renewal-written)
+          ∙ change-taken (p .conversation) turn h ph old new filler (l .packetPadding) (l .buffer) (kept .not2)
+          (filler-full turn old new filler (l .out) renewal-written) (new-fits turn old new filler (l .out) renewal-written) there hash (l .account)
 
       change-exchanged : Exchanged p changeWrote l (changed (p .conversation) (ntHashOf new)) succeeded
       change-exchanged =
-          exchanged p changeWrote l (changed (p .conversation) (ntHashOf new)) succeeded change-written change-room (success-fits (p .conversation .id)) change-outcome
+          exchanged p changeWrote l (changed (p .conversation) (ntHashOf new)) succeeded renewal-written (kept .not2) (success-fits (p .conversation .id)) change-outcome
           (read-success (l .replyPadding))
 
 -- ---- a later conversation
 
 through : (c : Conversation) (ss : List Lent) → Along (nextAfter stepOn) (Refused stepOn) c ss → end (nextAfter stepOn) c ss ≡ c
 through c [] h = refl
-through c (s ∷ ss) h = through (nextAfter stepOn c s) ss (h .1) ∙ refused-same c s (h .0)
+through c (s ∷ ss) h = through (nextAfter stepOn c s) ss (h .1) ∙ refused-same c s (refused-number c s (h .0))
 
-lets-in : (a : Account) (password : List ℕ) → Rightful a → a .expired ≡ false → ntHashOf password ≡ a .nt .octets → LetsIn stepOn a password
+lets-in : (a : Account) (password : List ℕ) → Rightful a → a .expired ≡ false → ntHashOf password ≡ a .nt .octets → LetsIn stepOn ourWriter a password
 lets-in a password g fresh hash o behind name ss l ok eight quiet lent kept =
     let first = opened o .conversation in
     let back = through first ss quiet in
@@ -151,20 +145,30 @@ right-answered true e c a h = h
 right-answered false e c a h = h
 
 module _ (a : Account) (g : Rightful a) where
-  law : (due : List Kind) (p : State) (m : Step) → Ready a (kindsOf m ++ due) p → Allowed stepOn a p m
-      → Claimed stepOn a p m × (judgedAt stepOn p m ≡ length (kindsOf m)) × Ready a due (next stepOn p m)
+  law : (due : List Kind) (p : State) (m : Step) → Ready a (kindsOf m ++ due) p → Allowed stepOn ourWriter a p m
+      → Claimed stepOn ourWriter a p m × (judgedAt stepOn ourWriter p m ≡ length (kindsOf m)) × Ready a due (next stepOn ourWriter p m)
   law due p (other s) (f, i) h =
-      (tt, judged-none (p .conversation) s h, subst (λ (c : Conversation). FitIn a due c × InStep c (p .peer .turn)) (sym (refused-same (p .conversation) s h)) (f, i))
+      let n = refused-number (p .conversation) s h in (
+        tt,
+        judged-none (p .conversation) s n,
+        subst (λ (c : Conversation). FitIn a due c × InStep c (p .peer .turn)) (sym (refused-same (p .conversation) s n)) (f, i),
+      )
   law due p (ours (invalid password name) l) (f, i) h =
       let x = invalid-exchanged p i password name l (h .0) (f .0) (not-valid (l .account .found) _ (h .1)) (f .1) in (
-        subst (λ (n : ℕ). DrawsFailure (exchange stepOn p (invalid password name) l) n 691 1) (i .id) (x .draws),
+        (
+          subst (λ (n : ℕ). DrawsFailure (exchange stepOn ourWriter p (invalid password name) l) n 691 1) (i .id) (x .draws),
+          try-written p i password name l (h .0) (f .0),
+        ),
         x .judges,
         subst (Ready a due) (sym (x .leads)) (f .2, retried-in-step (p .conversation) (p .peer .turn) i),
       )
   law due p (ours (right password name) l) (f, i) h =
       let x = right-exchanged p i password name l (h .0) (f .0) a g (h .1 .0) (h .1 .1) in
-      let answered = right-answered (a .expired) (exchange stepOn p (right password name) l) (p .conversation) a (x .draws) in (
-        subst (λ (n : ℕ). Answered stepOn a n (right password name) (exchange stepOn p (right password name) l)) (i .id) answered,
+      let answered = right-answered (a .expired) (exchange stepOn ourWriter p (right password name) l) (p .conversation) a (x .draws) in (
+        (
+          subst (λ (n : ℕ). Answered stepOn ourWriter a n (right password name) (exchange stepOn ourWriter p (right password name) l)) (i .id) answered,
+          try-written p i password name l (h .0) (f .0),
+        ),
         x .judges,
         subst (Ready a due) (sym (x .leads)) (right-fit (a .expired) (p .conversation) a a due (f .1), right-in-step (p .conversation) (p .peer .turn) i (a .expired) a),
       )
@@ -175,15 +179,19 @@ module _ (a : Account) (g : Rightful a) where
       let handed = ap (λ (o : Outcome). o .answer .handed) (change-outcome p i old new filler l (h .0) (f .0) (kept .nt) hash) in
       let n = renewed-rightful (p .conversation .kept) (ntHashOf new) kept in (
         (
-          subst (λ (n : ℕ). DrawsSuccess (exchange stepOn p (renewal old new filler) l) n) (i .id) (x .draws),
-          ap (λ (b : Lookup). b .found) handed,
-          subst (λ (b : Lookup). LetsIn stepOn (b .account) new) (sym handed) (lets-in (renewed (p .conversation .kept) (ntHashOf new)) new (n .0) (n .1) (sym (n .2))),
+          (
+            subst (λ (n : ℕ). DrawsSuccess (exchange stepOn ourWriter p (renewal old new filler) l) n) (i .id) (x .draws),
+            ap (λ (b : Lookup). b .found) handed,
+            subst (λ (b : Lookup). LetsIn stepOn ourWriter (b .account) new) (sym handed)
+            (lets-in (renewed (p .conversation .kept) (ntHashOf new)) new (n .0) (n .1) (sym (n .2))),
+          ),
+          renewal-written p i old new filler l (h .0) (f .0),
         ),
         x .judges,
         subst (Ready a due) (sym (x .leads)) (f .2, ended-in-step (p .conversation) (p .peer .turn) i),
       )
 
-  invariant : Invariant (next stepOn) kindsOf (judgedAt stepOn) (Allowed stepOn a) (Claimed stepOn a)
+  invariant : Invariant (next stepOn ourWriter) kindsOf (judgedAt stepOn ourWriter) (Allowed stepOn ourWriter a) (Claimed stepOn ourWriter a)
   invariant = record { Ready = Ready a; law = law }
 
 -- ---- the whole
@@ -197,7 +205,7 @@ count k x =
     last true = refl
     last false = refl
 
-pub demand3 : Demand3 ourBox
+pub demand3 : Demand3 ourBox ourWriter
 unfolding invariant
 demand3 o ok eight = (
   (λ behind. challenge-read o ok eight behind),
@@ -208,5 +216,5 @@ demand3 o ok eight = (
       (all .0, all .1 ∙ ap length due ∙ count k (a .expired), all .2 .0)),
   (λ ss.
       let most = within (nextAfter stepOn) (judged stepOn) leftIn judged-less (opened o .conversation) ss in
-      omega (arith, ap leftIn (opened-first o ok) ∙ left-first o)),
+      (omega (arith, ap leftIn (opened-first o ok) ∙ left-first o), along-any (nextAfter stepOn) (Leaves stepOn) leaves (opened o .conversation) ss)),
 )

@@ -1,20 +1,19 @@
 -- A packet of our peer that draws a reply: what our peer reads, and where box and peer stand afterwards.
 -- Assumes nothing.
-use mathlib.Core.Bool.{Bool, cond}
+use mathlib.Core.Bool.{cond}
 use mathlib.Core.List.{List, _++_}
 use mathlib.Core.Path.{_≡_, ap, ap₂, _∙_}
 use Prim.Native.Nat.{ℕ, _≤_}
 use native.Mathlib.Omega.{arith}
-use borrow.Author.Tests.{lt-ltb}
-use lib.Dec.{eqb, ltb}
+use lib.Dec.{eqb}
 use lib.ListN.{length}
 use Rattle.message.specs.declared.Reading.{Reading}
 use Rattle.packets.specs.Reply.{readReply}
 use Rattle.authenticator.specs.Response.{Drawn}
 use Rattle.authenticator.specs.Step.{Outcome, judgedAs}
-use Rattle.authenticator.specs.Steps.{stepOn, replyOf, judged}
+use Rattle.authenticator.specs.Steps.{stepOn, replyOf, drewReply, judged}
 use Rattle.authenticator.specs.declared.Conversation.{Conversation}
-use Rattle.authenticator.proofs.Steps.{reply-of}
+use Rattle.authenticator.proofs.Steps.{reply-of, judged-as}
 use Rattle.authenticator.proofs.Written.{Fits}
 use Rattle.peer.specs.Turn.{sentFor, nextTurn}
 use Rattle.peer.specs.Write.{Wrote}
@@ -51,7 +50,6 @@ module _ (p : State) (w : Wrote) (l : Lending) (d : Drawn) (reading : Reading) (
       record {
         draws = (reply-same, read-same);
         judges =
-            ap (λ (o : Outcome). cond {A = ℕ} (ltb 0 (o .answer .written)) 1 0) took
-            ∙ ap (λ (t : Bool). cond {A = ℕ} t 1 0) (lt-ltb 0 (length (d .reply)) (fits .0));
+            ap (λ (o : Outcome). cond {A = ℕ} (drewReply o (l .buffer)) 1 0) took ∙ judged-as (p .conversation) (reaching w l) d fits;
         leads = place-same (ap (λ (o : Outcome). o .answer .next) took) sent-same read-same;
       }

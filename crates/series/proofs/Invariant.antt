@@ -34,3 +34,8 @@ within next f rest h s (m ∷ ms) = let i = within next f rest h (next s m) ms i
 pub along-behind : {S M : Type 0} (next : S → M → S) (P : S → M → Type 0) (s : S) (ms ns : List M) → Along next P s (ms ++ ns) → Along next P (end next s ms) ns
 along-behind next P s [] ns h = h
 along-behind next P s (m ∷ ms) ns h = along-behind next P (next s m) ms ns (h .1)
+
+-- what holds of any step at any place holds along any course
+pub along-any : {S M : Type 0} (next : S → M → S) (P : S → M → Type 0) → ((s : S) (m : M) → P s m) → (s : S) (ms : List M) → Along next P s ms
+along-any next P h s [] = tt
+along-any next P h s (m ∷ ms) = (h s m, along-any next P h (next s m) ms)

@@ -1,21 +1,19 @@
--- A sample of what demand 3 speaks of: openings, a record, our peer's packets and what is lent with them. They meet the premises with any
--- box.
+-- A sample of what demand 3 speaks of: openings, a record, our peer's packets and what is lent with them. They meet the
+-- premises with any box and writer.
 -- Assumes nothing.
 use mathlib.Core.Bool.{Bool, true, false, cond, _&&_, false≢true}
 use mathlib.Core.List.{List, [], _∷_}
-use mathlib.Core.Logic.{_≢_}
-use mathlib.Core.Path.{_≡_, refl, sym, _∙_}
-use Prim.Native.Nat.{ℕ}
+use mathlib.Core.Path.{_≡_, refl}
+use Prim.Native.Nat.{ℕ, _≤_}
 use native.Mathlib.Omega.{arith}
 use lib.Dec.{eqb}
-use lib.ListN.{replicate}
+use lib.ListN.{length, replicate}
 use Rattle.issued.specs.Issued.{emptyList, badBuffer}
-use Rattle.credentials.specs.Credentials.{ntHashOf}
-use Rattle.packets.specs.Response.{responseIn, responseWriteRefusal}
-use Rattle.packets.specs.Change.{changeWriteRefusal}
+use Rattle.credentials.specs.Credentials.{ntHashOf, badNtPassword}
+use Rattle.packets.specs.Response.{responseIn}
 use Rattle.packets.specs.declared.Response as fields
 use Rattle.authenticator.specs.Account.{noHash, blank, noRecord, found, answers}
-use Rattle.authenticator.specs.Opening.{Opening, badRoom, opened}
+use Rattle.authenticator.specs.Opening.{Opening, opened}
 use Rattle.authenticator.specs.Response.{valid}
 use Rattle.authenticator.specs.Steps.{Box, Rightful}
 use Rattle.authenticator.specs.declared.Account.{Account}
@@ -25,8 +23,8 @@ use Rattle.authenticator.specs.declared.Retries.{Retries}
 use Rattle.authenticator.specs.declared.Retries.the-variants.{Default, Count}
 use Rattle.authenticator.specs.declared.LmChoice.the-variants.{Disallowed}
 use Rattle.authenticator.proofs.Openings.{may-open-empty}
-use Rattle.peer.specs.Write.{writeResponseRefusal, writeChangeRefusal, writeResponse, writeChange}
-use Rattle.series.specs.Series.{Packet, invalid, right, renewal, Lending, Step, ours, State, exchange, Within, Kept, Allowed}
+use Rattle.series.specs.Series.{Packet, invalid, right, renewal, Lending, Step, ours, State, exchange, TryWithin, ChangeWithin, Allowed}
+use Rattle.series.specs.Writers.{Writer}
 
 -- ---- openings, passwords, records
 
@@ -101,10 +99,6 @@ change l = ours newPassword (line 1118 l)
 
 -- ---- the premises
 
-written : (n : ℕ) → n ≡ 0 → Within n
-written n e =
-    record { not2 = λ f. omega arith; not8 = λ f. omega arith; not9 = λ f. omega arith; not10 = λ f. omega arith; not12 = λ f. omega arith }
-
 -- no Response is valid for a record with no hash
 no-hash : (c : Conversation) (f : fields.Response) → valid c blank f ≡ false
 unfolding valid answers
@@ -116,38 +110,31 @@ no-hash c f = which (eqb (f .flag) 1) (c .terms .lm)
     which false true = refl
     which false false = refl
 
--- at any place, with any box: the reply buffer has room
-module _ (box : Box) (p : State) where
-  kept : (t : Packet) (l : Lending) → exchange box p t l .wrote .answer .refusal ≡ 0 → badRoom (l .buffer) ≡ false → Kept (exchange box p t l)
-  kept t l e room = (written (exchange box p t l .wrote .answer .refusal) e, λ h. absurd (false≢true (sym room ∙ h)))
+-- the limits of a try, with a name of one octet, and of the change
+pub try-within : (password : List ℕ) (l : Lending) → badNtPassword password ≡ false → 55 ≤ length (l .out) → 17 ≤ length (l .buffer)
+    → TryWithin password user l
+try-within password l good out room = record { not8 = good; not10 = refl; not9 = out; not2 = room }
 
-  pub try-kept : (password : List ℕ) (l : Lending) → writeResponseRefusal password user (l .out) ≡ 0 → badRoom (l .buffer) ≡ false
-      → Kept (exchange box p (right password user) l)
-  unfolding writeResponse
-  try-kept password l e room = kept (right password user) l (rw e) room
+change-within : (l : Lending) → 1118 ≤ length (l .out) → 17 ≤ length (l .buffer) → ChangeWithin old new (replicate 512 7) l
+change-within l out room = record { oldNot8 = refl; newNot8 = refl; not12 = refl; not9 = out; not2 = room }
 
-  change-kept : (l : Lending) → writeChangeRefusal old new (replicate 512 7) (l .out) ≡ 0 → badRoom (l .buffer) ≡ false → Kept (exchange box p newPassword l)
-  unfolding writeChange
-  change-kept l e room = kept newPassword l (rw e) room
+pub new-within : (l : Lookup) → TryWithin new user (line 55 l)
+new-within l = try-within new (line 55 l) refl (omega arith) (omega arith)
 
+-- at any place, with any box and writer
+module _ (box : Box) (writer : Writer) (p : State) where
   -- lent no record, or one with no hash
-  pub bad-allowed : (a : Account) → Allowed box a p (badTry noRecord)
-  unfolding writeResponseRefusal responseWriteRefusal
-  bad-allowed a = (try-kept bad (line 60 noRecord) refl refl, λ e. absurd (false≢true e))
+  pub bad-allowed : (a : Account) → Allowed box writer a p (badTry noRecord)
+  bad-allowed a = (try-within bad (line 60 noRecord) refl (omega arith) (omega arith), λ e. absurd (false≢true e))
 
-  pub blank-allowed : (a : Account) → Allowed box a p (badTry (found blank))
-  unfolding writeResponseRefusal responseWriteRefusal
-  blank-allowed a =
-      (try-kept bad (line 60 (found blank)) refl refl, λ e. no-hash (p .conversation) (responseIn (exchange box p (invalid bad user) (line 60 (found blank)) .lent .packet)))
+  pub blank-allowed : (a : Account) → Allowed box writer a p (badTry (found blank))
+  blank-allowed a = (
+    try-within bad (line 60 (found blank)) refl (omega arith) (omega arith),
+    λ e. no-hash (p .conversation) (responseIn (exchange box writer p (invalid bad user) (line 60 (found blank)) .lent .packet)),
+  )
 
-  pub right-allowed : (expired : Bool) → Allowed box (account expired) p (rightTry expired)
-  unfolding writeResponseRefusal responseWriteRefusal
-  right-allowed expired = (try-kept old (line 55 (found (account expired))) refl refl, (refl, refl))
+  pub right-allowed : (expired : Bool) → Allowed box writer (account expired) p (rightTry expired)
+  right-allowed expired = (try-within old (line 55 (found (account expired))) refl (omega arith) (omega arith), (refl, refl))
 
-  pub change-allowed : (expired : Bool) (l : Lookup) → Allowed box (account expired) p (change l)
-  unfolding writeChangeRefusal changeWriteRefusal
-  change-allowed expired l = (change-kept (line 1118 l) refl refl, refl)
-
-  pub new-kept : (l : Lookup) → Kept (exchange box p (right new user) (line 55 l))
-  unfolding writeResponseRefusal responseWriteRefusal
-  new-kept l = try-kept new (line 55 l) refl refl
+  pub change-allowed : (expired : Bool) (l : Lookup) → Allowed box writer (account expired) p (change l)
+  change-allowed expired l = (change-within (line 1118 l) (omega arith) (omega arith), refl)

@@ -3,6 +3,7 @@
 -- Assumes nothing.
 use mathlib.Core.Bool.{Bool, true, false, cond}
 use mathlib.Core.List.{List, [], _∷_}
+use mathlib.Core.Logic.{inr}
 use mathlib.Core.Path.{_≡_, refl, sym, _∙_}
 use Prim.Native.Nat.{ℕ, _<_}
 use native.Mathlib.Omega.{arith}
@@ -19,11 +20,11 @@ use Rattle.authenticator.specs.declared.Phase.the-variants.{Ended}
 use Rattle.authenticator.specs.declared.Retries.the-variants.{Default, Count}
 use Rattle.authenticator.specs.declared.LmChoice.the-variants.{Silent}
 use Rattle.authenticator.proofs.Openings.{may-open-empty}
-use Rattle.authenticator.proofs.Steps.{number-step}
 use Rattle.series.specs.Course.{end, Along, total}
 use Rattle.series.specs.Series.{right, Step, other, State, start, exchange, next, judgedAt, Allowed, DrawsSuccess, later, LetsIn, Claimed}
 use Rattle.series.specs.Boxes.{ourBox}
-use Rattle.series.proofs.Sample.{opening, three-places, opens-once, new, user, account, rightful, line, badTry, rightTry, newPassword, change, blank-allowed, right-allowed, change-allowed, new-kept}
+use Rattle.series.specs.Writers.{ourWriter}
+use Rattle.series.proofs.Sample.{opening, three-places, opens-once, new, user, account, rightful, line, badTry, rightTry, newPassword, change, blank-allowed, right-allowed, change-allowed, new-within}
 use Rattle.series.proofs.Demand3.{demand3}
 
 -- ---- the series
@@ -42,7 +43,7 @@ steps = other short ∷ badTry (found blank) ∷ other narrow ∷ rightTry true 
 
 -- a short packet and a narrow buffer are refused in any conversation, with 1 where it has ended and else with n
 refused : (c : Conversation) (s : Lent) (n : ℕ) → 0 < n → refusalOf c (s .packet) (s .buffer) ≡ cond (isEnded (c .phase)) 1 n → Refused stepOn c s
-refused c s n pos e z = which (isEnded (c .phase)) (sym e ∙ sym (number-step c (s .packet) (s .account) (s .buffer)) ∙ z)
+refused c s n pos e = inr (λ z. which (isEnded (c .phase)) (sym e ∙ z))
   where
     which : (t : Bool) → cond t 1 n ≡ 0 → ⊥
     which true h = omega arith
@@ -59,51 +60,51 @@ narrow-refused c = refused c narrow 2 (omega arith) refl
 -- what is allowed at any place is allowed along any course
 abbrev Anywhere : List Step → Type 0
 Anywhere [] = Unit {0}
-Anywhere (m ∷ ms) = ((p : State) → Allowed ourBox (account true) p m) × Anywhere ms
+Anywhere (m ∷ ms) = ((p : State) → Allowed ourBox ourWriter (account true) p m) × Anywhere ms
 
-along : (p : State) (ms : List Step) → Anywhere ms → Along (next ourBox) (Allowed ourBox (account true)) p ms
+along : (p : State) (ms : List Step) → Anywhere ms → Along (next ourBox ourWriter) (Allowed ourBox ourWriter (account true)) p ms
 along p [] h = tt
-along p (m ∷ ms) h = (h .0 p, along (next ourBox p m) ms (h .1))
+along p (m ∷ ms) h = (h .0 p, along (next ourBox ourWriter p m) ms (h .1))
 
 allowed : Anywhere steps
 allowed =
-    let noise : (p : State) → Allowed ourBox (account true) p (other short) = λ p. short-refused (p .conversation) in
-    let tight : (p : State) → Allowed ourBox (account true) p (other narrow) = λ p. narrow-refused (p .conversation) in (
+    let noise : (p : State) → Allowed ourBox ourWriter (account true) p (other short) = λ p. short-refused (p .conversation) in
+    let tight : (p : State) → Allowed ourBox ourWriter (account true) p (other narrow) = λ p. narrow-refused (p .conversation) in (
       noise,
       (
-        (λ p. blank-allowed ourBox p (account true)),
+        (λ p. blank-allowed ourBox ourWriter p (account true)),
         (
           tight,
           (
-            (λ p. right-allowed ourBox p true),
-            (noise, ((λ p. change-allowed ourBox p true noRecord), (tight, tt))),
+            (λ p. right-allowed ourBox ourWriter p true),
+            (noise, ((λ p. change-allowed ourBox ourWriter p true noRecord), (tight, tt))),
           ),
         ),
       ),
     )
 
-pub met : Along (next ourBox) (Allowed ourBox (account true)) (start (opening (Count 1)) []) steps
+pub met : Along (next ourBox ourWriter) (Allowed ourBox ourWriter (account true)) (start (opening (Count 1)) []) steps
 met = along (start (opening (Count 1)) []) steps allowed
 
 -- ---- the claim of this series
 
 -- each packet draws what it should, three are judged, and the conversation has ended
-pub claimed : Along (next ourBox) (Claimed ourBox (account true)) (start (opening (Count 1)) []) steps
-    × (total (next ourBox) (judgedAt ourBox) (start (opening (Count 1)) []) steps ≡ 3)
-    × (end (next ourBox) (start (opening (Count 1)) []) steps .conversation .phase ≡ Ended)
+pub claimed : Along (next ourBox ourWriter) (Claimed ourBox ourWriter (account true)) (start (opening (Count 1)) []) steps
+    × (total (next ourBox ourWriter) (judgedAt ourBox ourWriter) (start (opening (Count 1)) []) steps ≡ 3)
+    × (end (next ourBox ourWriter) (start (opening (Count 1)) []) steps .conversation .phase ≡ Ended)
 claimed = demand3 (opening (Count 1)) opens-once refl .1 (account true) 1 [] steps (rightful true) (omega arith) refl met
 
 -- ---- a later conversation, with the record that the change handed out
 
 -- the place of the change
 abbrev place : State
-place = end (next ourBox) (start (opening (Count 1)) []) (take 5 steps)
+place = end (next ourBox ourWriter) (start (opening (Count 1)) []) (take 5 steps)
 
 abbrev handed : Account
-handed = exchange ourBox place newPassword (line 1118 noRecord) .outcome .answer .handed .account
+handed = exchange ourBox ourWriter place newPassword (line 1118 noRecord) .outcome .answer .handed .account
 
-lets-in : LetsIn ourBox handed new
-lets-in = claimed .0 .1 .1 .1 .1 .1 .0 .2
+lets-in : LetsIn ourBox ourWriter handed new
+lets-in = claimed .0 .1 .1 .1 .1 .1 .0 .0 .2
 
 abbrev laterOpening : Opening
 laterOpening =
@@ -112,7 +113,7 @@ laterOpening =
 later-opens : opened laterOpening .refusal ≡ 0
 later-opens = may-open-empty laterOpening (omega arith) (omega arith) three-places refl refl (omega arith)
 
-pub later-success : DrawsSuccess (exchange ourBox (later ourBox laterOpening [] (short ∷ [])) (right new user) (line 55 (found handed))) 0
+pub later-success : DrawsSuccess (exchange ourBox ourWriter (later ourBox ourWriter laterOpening [] (short ∷ [])) (right new user) (line 55 (found handed))) 0
 later-success =
     lets-in laterOpening [] user (short ∷ []) (line 55 (found handed)) later-opens refl (short-refused (opened laterOpening .conversation), tt) refl
-    (new-kept ourBox (later ourBox laterOpening [] (short ∷ [])) (found handed))
+    (new-within (found handed))

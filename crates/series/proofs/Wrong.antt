@@ -30,7 +30,8 @@ use Rattle.authenticator.proofs.Written.{Fits, success-fits, failure-fits}
 use Rattle.series.specs.Course.{total}
 use Rattle.series.specs.Series.{invalid, right, start, exchange, next, later, LetsIn, Demand3}
 use Rattle.series.specs.Boxes.{refusing, Judge, judging, findsNone, accepts, leavesRecord, pretends, neverCounts}
-use Rattle.series.proofs.Sample.{opening, opens-default, opens-once, old, bad, new, user, account, rightful, line, badTry, rightTry, newPassword, change, bad-allowed, right-allowed, change-allowed, new-kept}
+use Rattle.series.specs.Writers.{ourWriter}
+use Rattle.series.proofs.Sample.{opening, opens-default, opens-once, old, bad, new, user, account, rightful, line, badTry, rightTry, newPassword, change, bad-allowed, right-allowed, change-allowed, new-within}
 
 success-code : (id : ℕ) → octet 0 (successPacket id) ≡ 3
 unfolding successPacket
@@ -43,11 +44,11 @@ failure-code id message = refl
 -- ---- refuses everything
 
 -- the right password draws nothing
-pub not-refusing : (n : ℕ) → Demand3 (refusing n) → ⊥
+pub not-refusing : (n : ℕ) → Demand3 (refusing n) ourWriter → ⊥
 not-refusing n h =
     let all = h (opening Default) opens-default refl .1 (account false) 0 [] (rightTry false ∷ []) (rightful false) (omega arith) refl
-    (right-allowed (refusing n) (start (opening Default) []) false, tt) in
-    let code = ap (octet 0) (all .0 .0 .0) ∙ success-code _ in
+    (right-allowed (refusing n) ourWriter (start (opening Default) []) false, tt) in
+    let code = ap (octet 0) (all .0 .0 .0 .0) ∙ success-code _ in
     omega arith
 
 -- ---- boxes that refuse what ours refuses
@@ -85,27 +86,27 @@ none-first p = refl
 none-drawn : (p : List ℕ) → drawn (opened (opening Default) .conversation) p noRecord .reply ≡ failurePacket 255 (textOf 691 1 version)
 none-drawn p = ap (λ (c : Conversation). drawn c p noRecord .reply) first-default ∙ none-first p
 
-pub not-finding : Demand3 (judging findsNone) → ⊥
+pub not-finding : Demand3 (judging findsNone) ourWriter → ⊥
 not-finding h =
     let p = start (opening Default) [] in
     let all = h (opening Default) opens-default refl .1 (account false) 0 [] (rightTry false ∷ []) (rightful false) (omega arith) refl
-    (right-allowed (judging findsNone) p false, tt) in
-    let s = exchange (judging findsNone) p (right old user) (line 55 (found (account false))) .lent in
+    (right-allowed (judging findsNone) ourWriter p false, tt) in
+    let s = exchange (judging findsNone) ourWriter p (right old user) (line 55 (found (account false))) .lent in
     let drawn = none-drawn (s .packet) in
     let code = code-drawn findsNone (p .conversation) s (subst Fits (sym drawn) (failure-fits 255 691 1 version)) (omega arith)
-    (ap (octet 0) (all .0 .0 .0) ∙ success-code _) (omega arith) in
+    (ap (octet 0) (all .0 .0 .0 .0) ∙ success-code _) (omega arith) in
     omega (arith, code, ap (octet 0) drawn ∙ failure-code 255 (textOf 691 1 version))
 
 -- ---- accepts always
 
-pub not-accepting : Demand3 (judging accepts) → ⊥
+pub not-accepting : Demand3 (judging accepts) ourWriter → ⊥
 not-accepting h =
     let box = judging accepts in
     let p = start (opening Default) [] in
     let all = h (opening Default) opens-default refl .1 (account false) 1 [] (badTry noRecord ∷ rightTry false ∷ []) (rightful false) (omega arith) refl
-    (bad-allowed box p (account false), (right-allowed box (next box p (badTry noRecord)) false, tt)) in
-    let code = code-drawn accepts (p .conversation) (exchange box p (invalid bad user) (line 60 noRecord) .lent) (success-fits _) (omega arith)
-    (ap (octet 0) (all .0 .0 .0) ∙ failure-code _ (textOf 691 1 version)) (omega arith) in
+    (bad-allowed box ourWriter p (account false), (right-allowed box ourWriter (next box ourWriter p (badTry noRecord)) false, tt)) in
+    let code = code-drawn accepts (p .conversation) (exchange box ourWriter p (invalid bad user) (line 60 noRecord) .lent) (success-fits _) (omega arith)
+    (ap (octet 0) (all .0 .0 .0 .0) ∙ failure-code _ (textOf 691 1 version)) (omega arith) in
     omega (arith, code, success-code (p .conversation .id))
 
 -- ---- pretends on retries
@@ -119,22 +120,22 @@ one-left : (s : Lent) → s .account ≡ noRecord → pretends 2 (opened (openin
 one-left s e = ap (λ (c : Conversation). pretends 2 c s .next .retries) first-default ∙ one-first s e
 
 -- the second one draws Success
-pub not-pretending : Demand3 (judging (pretends 2)) → ⊥
+pub not-pretending : Demand3 (judging (pretends 2)) ourWriter → ⊥
 not-pretending h =
     let box = judging (pretends 2) in
     let p = start (opening Default) [] in
-    let q = next box p (badTry noRecord) in
+    let q = next box ourWriter p (badTry noRecord) in
     let all = h (opening Default) opens-default refl .1 (account false) 2 [] (badTry noRecord ∷ badTry noRecord ∷ rightTry false ∷ []) (rightful false) (omega arith) refl (
-      bad-allowed box p (account false),
-      (bad-allowed box q (account false), (right-allowed box (next box q (badTry noRecord)) false, tt)),
+      bad-allowed box ourWriter p (account false),
+      (bad-allowed box ourWriter q (account false), (right-allowed box ourWriter (next box ourWriter q (badTry noRecord)) false, tt)),
     ) in
-    let s = exchange box p (invalid bad user) (line 60 noRecord) .lent in
-    let t = exchange box q (invalid bad user) (line 60 noRecord) .lent in
-    let first = drew (pretends 2) (p .conversation) s (ap (octet 0) (all .0 .0 .0) ∙ failure-code _ (textOf 691 1 version)) (omega arith) in
+    let s = exchange box ourWriter p (invalid bad user) (line 60 noRecord) .lent in
+    let t = exchange box ourWriter q (invalid bad user) (line 60 noRecord) .lent in
+    let first = drew (pretends 2) (p .conversation) s (ap (octet 0) (all .0 .0 .0 .0) ∙ failure-code _ (textOf 691 1 version)) (omega arith) in
     let left = ap (λ (o : Outcome). o .answer .next .retries) first ∙ one-left s refl in
     let pretended = ap (λ (n : ℕ). cond (ltb n 2) (accepts (q .conversation) t) (drawn (q .conversation) (t .packet) noRecord) .reply) left in
     let code = code-drawn (pretends 2) (q .conversation) t (subst Fits (sym pretended) (success-fits (q .conversation .id))) (omega arith)
-    (ap (octet 0) (all .0 .1 .0 .0) ∙ failure-code _ (textOf 691 1 version)) (omega arith) in
+    (ap (octet 0) (all .0 .1 .0 .0 .0) ∙ failure-code _ (textOf 691 1 version)) (omega arith) in
     omega (arith, code, ap (octet 0) pretended ∙ success-code (q .conversation .id))
 
 -- ---- the change leaves the record
@@ -171,31 +172,31 @@ kept-handed true a h = refl
 kept-handed false a h = absurd (false≢true h)
 
 -- so what is handed out is expired, and does not let the new password in
-pub not-leaving-record : Demand3 (judging leavesRecord) → ⊥
+pub not-leaving-record : Demand3 (judging leavesRecord) ourWriter → ⊥
 not-leaving-record h =
     let box = judging leavesRecord in
     let l = found (account true) in
     let p = start (opening Default) [] in
-    let q = next box p (rightTry true) in
+    let q = next box ourWriter p (rightTry true) in
     let all = h (opening Default) opens-default refl .1 (account true) 0 [] (rightTry true ∷ change l ∷ []) (rightful true) (omega arith) refl
-    (right-allowed box p true, (change-allowed box q true l, tt)) in
-    let s = exchange box p (right old user) (line 55 l) .lent in
-    let first = drew leavesRecord (p .conversation) s (ap (octet 0) (all .0 .0 .0) ∙ failure-code _ (textOf 648 0 version)) (omega arith) in
+    (right-allowed box ourWriter p true, (change-allowed box ourWriter q true l, tt)) in
+    let s = exchange box ourWriter p (right old user) (line 55 l) .lent in
+    let first = drew leavesRecord (p .conversation) s (ap (octet 0) (all .0 .0 .0 .0) ∙ failure-code _ (textOf 648 0 version)) (omega arith) in
     let expired = expired-drawn (s .packet) in
     let four = ap (octet 7) (sym (reply-of (leavesRecord (p .conversation) s) (s .buffer) (omega (arith, expired .0 .1)))
-    ∙ ap replyOf (sym first) ∙ all .0 .0 .0) ∙ four-of _ in
+    ∙ ap replyOf (sym first) ∙ all .0 .0 .0 .0) ∙ four-of _ in
     let kept = ap (λ (o : Outcome). o .answer .next .kept) first ∙ expired .2 four in
-    let answered = all .0 .1 .0 in
-    let t = exchange box q newPassword (line 1118 l) .lent in
+    let answered = all .0 .1 .0 .0 in
+    let t = exchange box ourWriter q newPassword (line 1118 l) .lent in
     let changed = ap (λ (o : Outcome). o .answer .handed) (drew leavesRecord (q .conversation) t (ap (octet 0) (answered .0 .0) ∙ success-code _)
     (omega arith)) in
     let handed = ap (λ (b : Lookup). b .account) changed
     ∙ kept-handed (drawn (q .conversation) (t .packet) (t .account) .handed .found) (q .conversation .kept)
     (sym (ap (λ (b : Lookup). b .found) changed) ∙ answered .1) ∙ kept in
-    let lets = subst (λ (b : Account). LetsIn box b new) handed (answered .2) in
-    let r = later box (opening Default) [] [] in
-    let u = exchange box r (right new user) (line 55 l) .lent in
-    let draws = lets (opening Default) [] user [] (line 55 l) opens-default refl tt refl (new-kept box r l) in
+    let lets = subst (λ (b : Account). LetsIn box ourWriter b new) handed (answered .2) in
+    let r = later box ourWriter (opening Default) [] [] in
+    let u = exchange box ourWriter r (right new user) (line 55 l) .lent in
+    let draws = lets (opening Default) [] user [] (line 55 l) opens-default refl tt refl (new-within l) in
     let again = expired-drawn (u .packet) in
     let code = code-drawn leavesRecord (r .conversation) u (again .0) (omega arith) (ap (octet 0) (draws .0) ∙ success-code 255) (omega arith) in
     omega (arith, code, again .1)
@@ -217,7 +218,7 @@ four : judgedOf (firstConversation (opening (Count 1))) ≡ 4
 unfolding refusalOf responseRefusal step drawn responseDrawn reasonOf firstReason failurePacket textOf
 four = refl
 
-pub not-counting : Demand3 (judging neverCounts) → ⊥
+pub not-counting : Demand3 (judging neverCounts) ourWriter → ⊥
 not-counting h =
-    let most = h (opening (Count 1)) opens-once refl .2 tries in
+    let most = h (opening (Count 1)) opens-once refl .2 tries .0 in
     omega (arith, ap judgedOf (opened-first (opening (Count 1)) opens-once) ∙ four)

@@ -1,4 +1,5 @@
 pub mod Course
+pub mod Writers
 pub mod Series
 pub mod Boxes
 pub mod Twelve

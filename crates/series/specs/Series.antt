@@ -2,29 +2,29 @@
 -- Assumes nothing: these are definitions.
 use mathlib.Core.Bool.{Bool, true, false, cond}
 use mathlib.Core.List.{List, [], _∷_, _++_}
-use mathlib.Core.Logic.{_≢_}
 use mathlib.Core.Path.{_≡_}
 use Prim.Native.Nat.{ℕ, _+_, _≤_}
 use lib.ListN.{length, take, replicate}
-use Rattle.credentials.specs.Credentials.{ntHashOf}
+use Rattle.credentials.specs.Credentials.{ntHashOf, badNtPassword, badFiller}
 use Rattle.message.specs.Message.{textOf, failedWith, noC}
 use Rattle.message.specs.declared.Reading.{Reading}
-use Rattle.packets.specs.Response.{responseIn}
+use Rattle.packets.specs.Response.{badName, responseIn}
 use Rattle.packets.specs.Reply.{successPacket, failurePacket, readChallenge, succeeded}
 use Rattle.packets.specs.declared.Asked.{Asked}
 use Rattle.authenticator.specs.Account.{found}
-use Rattle.authenticator.specs.Opening.{Opening, retriesOf, badRoom, opened, openedBuffer}
+use Rattle.authenticator.specs.Opening.{Opening, retriesOf, opened, openedBuffer}
 use Rattle.authenticator.specs.Response.{valid, version}
-use Rattle.authenticator.specs.Step.{Outcome, numberOf}
-use Rattle.authenticator.specs.Steps.{Lent, Box, replyOf, nextAfter, Refused, judged, Rightful}
+use Rattle.authenticator.specs.Step.{Outcome}
+use Rattle.authenticator.specs.Steps.{Lent, Box, replyOf, nextAfter, Refused, Leaves, judged, Rightful}
 use Rattle.authenticator.specs.declared.Account.{Account}
 use Rattle.authenticator.specs.declared.Lookup.{Lookup}
 use Rattle.authenticator.specs.declared.Conversation.{Conversation}
 use Rattle.authenticator.specs.declared.Phase.the-variants.{Ended}
-use Rattle.peer.specs.Write.{Wrote, writeResponse, writeChange}
+use Rattle.peer.specs.Write.{Wrote}
 use Rattle.peer.specs.Peer.{Peer, asked, sending, reads, receiving}
 use Rattle.peer.specs.declared.Turn.{Turn}
 use Rattle.series.specs.Course.{collect, end, Along, total}
+use Rattle.series.specs.Writers.{Writer}
 
 -- ---- our peer's packets
 
@@ -79,10 +79,10 @@ abbrev pub start : Opening → List ℕ → State
 start o behind = record { conversation = opened o .conversation; peer = asked (challengeRead o behind) }
 
 -- our peer "writes its next packet from" its turn
-abbrev pub writes : Turn → Packet → List ℕ → Wrote
-writes t (invalid p n) out = writeResponse t p n out
-writes t (right p n) out = writeResponse t p n out
-writes t (renewal o n f) out = writeChange t o n f out
+abbrev pub writes : Writer → Turn → Packet → List ℕ → Wrote
+writes w t (invalid p n) out = w .response t p n out
+writes w t (right p n) out = w .response t p n out
+writes w t (renewal o n f) out = w .change t o n f out
 
 -- "it reaches the box as written": what the writer left in its output buffer, with padding behind it
 abbrev pub reaching : Wrote → Lending → Lent
@@ -98,18 +98,26 @@ pub record Exchange : Type 0 where
 
 -- ---- the premises
 
--- "The limits": a refusal number that is "none of 2, 8, 9, 10 and 12"
-pub record Within (n : ℕ) : Type 0 where
-  pub not2 : n ≢ 2
-  pub not8 : n ≢ 8
-  pub not9 : n ≢ 9
-  pub not10 : n ≢ 10
-  pub not12 : n ≢ 12
+-- "The limits are kept when our peer's calls and the steps that take its packets meet none of 2, 8, 9, 10 and 12." They are
+-- said of what is lent, by the rules of these refusals, and not of what box or writer answers: so neither gets out of the
+-- claim by refusing.
+pub record TryWithin (password name : List ℕ) (l : Lending) : Type 0 where
+  pub not8 : badNtPassword password ≡ false
+  pub not10 : badName name ≡ false
+  pub not9 : 54 + length name ≤ length (l .out)
+  pub not2 : 17 ≤ length (l .buffer)
 
--- "The limits are kept when our peer's calls and the steps that take its packets meet none of" them. Of these a step has 2 alone, and only for a
--- reply buffer that is too small: a box that answers 2 to another one, or 8, 9, 10 or 12, does not get out of the claim.
-abbrev pub Kept : Exchange → Type 0
-Kept x = Within (x .wrote .answer .refusal) × (badRoom (x .lent .buffer) ≡ true → numberOf (x .outcome .answer .kind) ≢ 2)
+pub record ChangeWithin (old new filler : List ℕ) (l : Lending) : Type 0 where
+  pub oldNot8 : badNtPassword old ≡ false
+  pub newNot8 : badNtPassword new ≡ false
+  pub not12 : badFiller filler ≡ false
+  pub not9 : 1118 ≤ length (l .out)
+  pub not2 : 17 ≤ length (l .buffer)
+
+abbrev pub Within : Packet → Lending → Type 0
+Within (invalid w n) l = TryWithin w n l
+Within (right w n) l = TryWithin w n l
+Within (renewal o n f) l = ChangeWithin o n f l
 
 -- ---- the claim
 
@@ -124,21 +132,21 @@ DrawsFailure x id e r = Draws x (failurePacket id (textOf e r version)) (failedW
 abbrev pub DrawsSuccess : Exchange → ℕ → Type 0
 DrawsSuccess x id = Draws x (successPacket id) succeeded
 
--- ---- a series with a box
+-- ---- a series with a box and a writer
 
-module _ (box : Box) where
-  abbrev pub carried : State → Wrote → Lending → Exchange
-  carried p w l =
-      record {
-        wrote = w;
-        lent = reaching w l;
-        outcome = box (p .conversation) (reaching w l);
-        peer = sending (p .peer) (w .answer);
-        reply = replyOf (box (p .conversation) (reaching w l)) ++ l .replyPadding;
-      }
+abbrev pub carried : Box → State → Wrote → Lending → Exchange
+carried box p w l =
+    record {
+      wrote = w;
+      lent = reaching w l;
+      outcome = box (p .conversation) (reaching w l);
+      peer = sending (p .peer) (w .answer);
+      reply = replyOf (box (p .conversation) (reaching w l)) ++ l .replyPadding;
+    }
 
+module _ (box : Box) (writer : Writer) where
   abbrev pub exchange : State → Packet → Lending → Exchange
-  exchange p t l = carried p (writes (p .peer .turn) t (l .out)) l
+  exchange p t l = carried box p (writes writer (p .peer .turn) t (l .out)) l
 
   -- where a step leads
   abbrev pub next : State → Step → State
@@ -164,19 +172,18 @@ module _ (box : Box) where
 
   -- "Any other step may have any packet, record and buffer with which the box refuses it."
   abbrev pub Allowed : Account → State → Step → Type 0
-  Allowed a p (ours t l) = Kept (exchange p t l) × Meant a p t l
+  Allowed a p (ours t l) = Within t l × Meant a p t l
   Allowed a p (other s) = Refused box (p .conversation) s
 
   -- "after any opening not refused and any refused steps"
   abbrev pub later : Opening → List ℕ → List Lent → State
   later o behind ss = record { conversation = end (nextAfter box) (opened o .conversation) ss; peer = start o behind .peer }
 
-  -- A record "lets a password in at the first Response of a later conversation".
+  -- A record "lets a password in at the first Response of a later conversation", "under the same limits".
   abbrev pub LetsIn : Account → List ℕ → Type 0
   LetsIn a password =
       (o : Opening) (behind name : List ℕ) (ss : List Lent) (l : Lending) → opened o .refusal ≡ 0 → length (o .challenge) ≡ 8
-      → Along (nextAfter box) (Refused box) (opened o .conversation) ss → l .account ≡ found a
-      → Kept (exchange (later o behind ss) (right password name) l)
+      → Along (nextAfter box) (Refused box) (opened o .conversation) ss → l .account ≡ found a → TryWithin password name l
       → DrawsSuccess (exchange (later o behind ss) (right password name) l) (o .id)
 
   -- An invalid try draws 691 with R=1; the right password Success or, expired, 648; the change Success, and a record is handed out that lets the
@@ -187,13 +194,15 @@ module _ (box : Box) where
   Answered a id (renewal o n f) x =
       DrawsSuccess x id × (x .outcome .answer .handed .found ≡ true) × LetsIn (x .outcome .answer .handed .account) n
 
+  -- each packet of our peer is written, not refused, and is answered
   abbrev pub Claimed : Account → State → Step → Type 0
-  Claimed a p (ours t l) = Answered a (p .peer .turn .id) t (exchange p t l)
+  Claimed a p (ours t l) = Answered a (p .peer .turn .id) t (exchange p t l) × (exchange p t l .wrote .answer .refusal ≡ 0)
   Claimed a p (other s) = Unit {0}
 
-  -- "A single claim about the series from opening to end": the Challenge is read; each packet of our peer draws what it should; "with k invalid
-  -- tries the box judges exactly k + 1 packets, or k + 2 with the record expired", and the conversation has ended; of any steps at all it judges
-  -- at most r + 2. It holds of our box (proofs/Demand3), and of none of the wrong ones in specs/Boxes (proofs/Wrong).
+  -- "A single claim about the series from opening to end": the Challenge is read; each packet of our peer is written and draws what it should; "with
+  -- k invalid tries the box judges exactly k + 1 packets, or k + 2 with the record expired", and the conversation has ended; of any steps at all it
+  -- judges at most r + 2, and a step whose packet it does not judge leaves all as it was. It holds of our box and writer (proofs/Demand3), and of none
+  -- of the wrong ones in specs/Boxes and specs/Writers (proofs/Wrong, WrongWriters).
   abbrev pub Demand3 : Type 0
   Demand3 =
       (o : Opening) → opened o .refusal ≡ 0 → length (o .challenge) ≡ 8
@@ -203,4 +212,5 @@ module _ (box : Box) where
       → Along next (Claimed a) (start o behind) ms
       × (total next judgedAt (start o behind) ms ≡ k + cond (a .expired) 2 1)
       × (end next (start o behind) ms .conversation .phase ≡ Ended))
-      × ((ss : List Lent) → total (nextAfter box) (judged box) (opened o .conversation) ss ≤ retriesOf (o .retries) + 2)
+      × ((ss : List Lent) → (total (nextAfter box) (judged box) (opened o .conversation) ss ≤ retriesOf (o .retries) + 2)
+      × Along (nextAfter box) (Leaves box) (opened o .conversation) ss)

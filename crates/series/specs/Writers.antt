@@ -1,0 +1,39 @@
+-- Our peer's writer, and wrong ones. Demand 3 holds of ours (proofs/Demand3) and of none of the others (proofs/WrongWriters).
+-- Assumes nothing: these are definitions.
+use mathlib.Core.List.{List}
+use Prim.Native.Nat.{ℕ}
+use Rattle.packets.specs.Response.{responsePacket}
+use Rattle.packets.specs.declared.Response.{Response}
+use Rattle.peer.specs.Write.{Wrote, responseFields, writeResponseRefusal, wroteBy, writeResponse, writeChange}
+use Rattle.peer.specs.declared.Turn.{Turn}
+
+-- what a writer of our peer's two packets answers and leaves in its output buffer: a Response from a turn, a password and a
+-- name; a change from a turn, the old and the new password and the filler
+pub record Writer : Type 0 where
+  pub response : Turn → List ℕ → List ℕ → List ℕ → Wrote
+  pub change : Turn → List ℕ → List ℕ → List ℕ → List ℕ → Wrote
+
+-- refuses everything, with one number or another
+abbrev pub refusingToWrite : ℕ → Writer
+refusingToWrite n =
+    record {
+      response = λ turn password name out. record { answer = record { refusal = n; length = 0 }; out = out };
+      change = λ turn old new filler out. record { answer = record { refusal = n; length = 0 }; out = out };
+    }
+
+-- writes ours, but asks for the LM response, which it zero-fills, to be judged: the flag is 0
+abbrev pub lmFields : Response → Response
+lmFields f = record { lm = f .lm; nt = f .nt; flag = 0 }
+
+abbrev pub asksForLm : Writer
+asksForLm =
+    record {
+      response = λ turn password name out.
+          wroteBy (writeResponseRefusal password name out)
+          (responsePacket (turn .id) (lmFields (responseFields (turn .challenge) password)) name) out;
+      change = writeChange;
+    }
+
+-- what the promises of the peer's writers say
+abbrev pub ourWriter : Writer
+ourWriter = record { response = writeResponse; change = writeChange }
