@@ -25,7 +25,7 @@ left w = take (w .answer .length) (w .out)
 
 -- ---- by the refusal
 
-left-good : (n : ℕ) (packet out : List ℕ) → n ≡ 0 → length packet ≤ length out → left (wroteBy n packet out) ≡ packet
+pub left-good : (n : ℕ) (packet out : List ℕ) → n ≡ 0 → length packet ≤ length out → left (wroteBy n packet out) ≡ packet
 left-good n packet out e h =
     ap (λ (k : ℕ). left (wroteBy k packet out)) e
     ∙ taken packet out h

@@ -8,6 +8,8 @@ pub mod Twelve
 pub mod Sample
 pub mod Witness
 pub mod Wrong
+pub mod WrongRefusals
+pub mod WrongWriters
 pub mod OneList
 pub mod Shared
 pub mod WrongOpeners

@@ -33,11 +33,11 @@ use Rattle.series.specs.Boxes.{refusing, Judge, judging, findsNone, acce
 use Rattle.series.specs.Writers.{ourWriter}
 use Rattle.series.proofs.Sample.{opening, opens-default, opens-once, old, bad, new, user, account, rightful, line, badTry, rightTry, newPassword, change, bad-allowed, right-allowed, change-allowed, new-within}
 
-success-code : (id : ℕ) → octet 0 (successPacket id) ≡ 3
+pub success-code : (id : ℕ) → octet 0 (successPacket id) ≡ 3
 unfolding successPacket
 success-code id = refl
 
-failure-code : (id : ℕ) (message : List ℕ) → octet 0 (failurePacket id message) ≡ 4
+pub failure-code : (id : ℕ) (message : List ℕ) → octet 0 (failurePacket id message) ≡ 4
 unfolding failurePacket
 failure-code id message = refl
 
@@ -73,7 +73,7 @@ module _ (d : Judge) where
       ∙ ap (λ (o : Outcome). octet 0 (replyOf o)) (sym (drew c s e pos)) ∙ e
 
 -- the sample's opening is not refused
-first-default : opened (opening Default) .conversation ≡ firstConversation (opening Default)
+pub first-default : opened (opening Default) .conversation ≡ firstConversation (opening Default)
 first-default = opened-first (opening Default) opens-default
 
 -- ---- 691 always
@@ -204,7 +204,7 @@ not-leaving-record h =
 -- ---- retries do not fall
 
 -- a Response that is lent no record, with an identifier
-abbrev try : ℕ → Lent
+abbrev pub try : ℕ → Lent
 try id = record { packet = 2 ∷ id ∷ 0 ∷ 55 ∷ 49 ∷ (replicate 48 0 ++ (1 ∷ 117 ∷ [])); account = noRecord; buffer = replicate 17 0 }
 
 abbrev tries : List Lent

@@ -1,0 +1,117 @@
+-- Demand 3 holds of no box that judges as ours does and answers otherwise what ours refuses: lays the reply into the buffer and says
+-- that it refused, hands out the record that was lent, changes the conversation, ends it unseen, or judges the packet after all.
+-- Assumes nothing.
+use mathlib.Core.Bool.{true, false, cond, true≢false}
+use mathlib.Core.List.{List, [], _∷_}
+use mathlib.Core.Logic.{inr}
+use mathlib.Core.Path.{_≡_, refl, sym, ap, _∙_, subst}
+use Prim.Native.Nat.{ℕ, zero, suc}
+use native.Mathlib.Omega.{arith}
+use borrow.Author.Tests.{lt-ltb}
+use lib.ListN.{take, replicate}
+use Rattle.octets.specs.Parts.{agrees}
+use Rattle.message.specs.Message.{textOf}
+use Rattle.packets.specs.Frame.{octet, headed}
+use Rattle.packets.specs.Response.{responseRefusal}
+use Rattle.packets.specs.Reply.{successPacket, failurePacket}
+use Rattle.authenticator.specs.Account.{found}
+use Rattle.authenticator.specs.Conversation.{isEnded}
+use Rattle.authenticator.specs.Opening.{firstConversation, opened}
+use Rattle.authenticator.specs.Refusal.{refusalOf}
+use Rattle.authenticator.specs.Response.{firstReason, reasonOf, responseDrawn}
+use Rattle.authenticator.specs.Step.{Outcome, drawn, step}
+use Rattle.authenticator.specs.Steps.{Lent, Box, replyOf, drewReply, nextAfter, judged, Leaves}
+use Rattle.authenticator.specs.declared.Conversation.{Conversation}
+use Rattle.authenticator.specs.declared.Retries.the-variants.{Count}
+use Rattle.authenticator.proofs.Openings.{opened-first}
+use Rattle.series.specs.Course.{total}
+use Rattle.series.specs.Series.{right, other, start, exchange, next, Demand3}
+use Rattle.series.specs.Boxes.{answeringRefused, laysReply, handsOutRecord, allowsLm, endsUnseen, judgesStrays}
+use Rattle.series.specs.Writers.{ourWriter}
+use Rattle.series.proofs.Sample.{opening, opens-once, old, user, account, rightful, line, rightTry, right-allowed}
+use Rattle.series.proofs.Wrong.{success-code, try}
+
+abbrev first : Conversation
+first = firstConversation (opening (Count 1))
+
+first-once : opened (opening (Count 1)) .conversation ≡ first
+first-once = opened-first (opening (Count 1)) opens-once
+
+-- a Response under another identifier than 255, which the first conversation awaits: our box refuses it with 5
+abbrev stray : Lent
+stray = try 9
+
+-- ---- lays the reply into the buffer
+
+-- with r = 1, four of them draw a reply
+abbrev strays : Box → Conversation → ℕ
+strays box c = total (nextAfter box) (judged box) c (stray ∷ stray ∷ stray ∷ stray ∷ [])
+
+four-laid : strays (answeringRefused laysReply) first ≡ 4
+unfolding refusalOf responseRefusal step drawn responseDrawn reasonOf firstReason failurePacket textOf headed agrees
+four-laid = refl
+
+pub not-laying-replies : Demand3 (answeringRefused laysReply) ourWriter → ⊥
+not-laying-replies h =
+    let most = h (opening (Count 1)) opens-once refl .2 (stray ∷ stray ∷ stray ∷ stray ∷ []) .0 in
+    omega (arith, ap (strays (answeringRefused laysReply)) first-once ∙ four-laid)
+
+-- ---- a step that draws no reply leaves all as it was
+
+-- what a box is held to, of one step of the first conversation
+left-by : (box : Box) → Demand3 box ourWriter → (s : Lent) → Leaves box first s
+left-by box h s = subst (λ (c : Conversation). Leaves box c s) first-once (h (opening (Count 1)) opens-once refl .2 (s ∷ []) .1 .0)
+
+-- a stray packet that is lent a record
+abbrev lentRecord : Lent
+lentRecord = record { packet = stray .packet; account = found (account true); buffer = stray .buffer }
+
+pub not-handing-out : Demand3 (answeringRefused handsOutRecord) ourWriter → ⊥
+unfolding refusalOf step agrees
+not-handing-out h = true≢false (left-by (answeringRefused handsOutRecord) h lentRecord refl .1)
+
+pub not-allowing-lm : Demand3 (answeringRefused allowsLm) ourWriter → ⊥
+unfolding refusalOf step agrees
+not-allowing-lm h =
+    true≢false (ap (λ (c : Conversation). c .terms .lm) (left-by (answeringRefused allowsLm) h stray refl .0))
+
+pub not-ending-unseen : Demand3 (answeringRefused endsUnseen) ourWriter → ⊥
+unfolding refusalOf step agrees
+not-ending-unseen h =
+    true≢false (ap (λ (c : Conversation). isEnded (c .phase)) (left-by (answeringRefused endsUnseen) h stray refl .0))
+
+-- ---- judges strays
+
+abbrev box : Box
+box = answeringRefused judgesStrays
+
+-- document 01's table refuses the packet, and this box draws a reply to it
+stray-refused : refusalOf first (stray .packet) (stray .buffer) ≡ 5
+unfolding refusalOf
+stray-refused = refl
+
+stray-judged : judged box first stray ≡ 1
+unfolding refusalOf responseRefusal step drawn responseDrawn reasonOf firstReason failurePacket textOf
+stray-judged = refl
+
+-- a Success was drawn
+success-drew : (o : Outcome) (before : List ℕ) (id : ℕ) → replyOf o ≡ successPacket id → _≡_ {A = ℕ} (cond (drewReply o before) 1 0) 1
+success-drew o before id e = which (o .answer .written) refl
+  where
+    which : (n : ℕ) → o .answer .written ≡ n → _≡_ {A = ℕ} (cond (drewReply o before) 1 0) 1
+    which zero z =
+        let code = ap (octet 0) (ap (λ (n : ℕ). take n (o .buffer)) (sym z) ∙ e) ∙ success-code id in
+        absurd (omega arith)
+    which (suc n) z = rw (lt-ltb 0 (o .answer .written) (omega (arith, z)))
+
+-- so with the right password behind it two packets are judged, where it should be one
+pub not-judging-strays : Demand3 box ourWriter → ⊥
+not-judging-strays h =
+    let p = start (opening (Count 1)) [] in
+    let q = next box ourWriter p (other stray) in
+    let five = ap (λ (c : Conversation). refusalOf c (stray .packet) (stray .buffer)) first-once ∙ stray-refused in
+    let all = h (opening (Count 1)) opens-once refl .1 (account false) 0 [] (other stray ∷ rightTry false ∷ []) (rightful false) (omega arith) refl
+    (inr (λ z. omega (arith, five, z)), (right-allowed box ourWriter q false, tt)) in
+    let x = exchange box ourWriter q (right old user) (line 55 (found (account false))) in
+    let one = success-drew (x .outcome) (replicate 17 0) (q .peer .turn .id) (all .0 .1 .0 .0 .0) in
+    omega (arith, all .1, one, ap (λ (c : Conversation). judged box c stray) first-once ∙ stray-judged)

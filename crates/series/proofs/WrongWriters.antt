@@ -1,0 +1,109 @@
+-- Demand 3 holds of no writer that refuses everything, and of none that asks for the LM response to be judged.
+-- Assumes nothing.
+use mathlib.Core.Bool.{Bool, true, false, cond, _&&_}
+use mathlib.Core.List.{List, [], _∷_, _++_}
+use mathlib.Core.Path.{_≡_, refl, sym, ap, _∙_}
+use Prim.Native.Nat.{ℕ, _≤_}
+use native.Mathlib.Omega.{arith}
+use borrow.Author.Tests.{eqb-true, eqb-false}
+use lib.Dec.{eqb}
+use lib.ListN.{length, replicate}
+use Rattle.credentials.specs.Credentials.{ntHashOf}
+use Rattle.credentials.proofs.Laws.{length-response}
+use Rattle.message.specs.Message.{textOf}
+use Rattle.packets.specs.Frame.{octet}
+use Rattle.packets.specs.Response.{responsePacket, responseIn, responseWriteRefusal}
+use Rattle.packets.specs.Reply.{failurePacket}
+use Rattle.packets.specs.declared.Response as fields
+use Rattle.packets.proofs.ReadBack.{response-back}
+use Rattle.packets.proofs.Writing as writing
+use Rattle.authenticator.specs.Account.{found}
+use Rattle.authenticator.specs.Opening.{firstConversation}
+use Rattle.authenticator.specs.Refusal.{refusalOf}
+use Rattle.authenticator.specs.Response.{version, valid, firstReason, reasonOf, mayRetry, replyFor, responseDrawn}
+use Rattle.authenticator.specs.Step.{Outcome, drawnIn, drawn, step}
+use Rattle.authenticator.specs.Steps.{Lent, stepOn, replyOf, refusalAt}
+use Rattle.authenticator.specs.declared.Conversation.{Conversation}
+use Rattle.authenticator.specs.declared.Phase.{Phase}
+use Rattle.authenticator.specs.declared.Phase.the-variants.{Response}
+use Rattle.authenticator.specs.declared.Retries.the-variants.{Default}
+use Rattle.authenticator.proofs.Steps.{number-step, judged-step, refused-whole, reply-of}
+use Rattle.authenticator.proofs.Written.{failure-fits}
+use Rattle.peer.specs.Write.{responseFields, writeResponseRefusal}
+use Rattle.peer.proofs.Left.{left-good}
+use Rattle.series.specs.Series.{right, start, exchange, Demand3}
+use Rattle.series.specs.Boxes.{ourBox}
+use Rattle.series.specs.Writers.{refusingToWrite, lmFields, asksForLm}
+use Rattle.series.proofs.Sample.{opening, opens-default, old, user, account, rightful, line, rightTry, right-allowed}
+use Rattle.series.proofs.Wrong.{success-code, failure-code, first-default}
+
+-- ---- refuses everything
+
+-- what reaches the box is the padding alone, and draws nothing
+abbrev codeFor : Conversation → ℕ
+codeFor c = octet 0 (replyOf (ourBox c (record { packet = 9 ∷ []; account = found (account false); buffer = replicate 17 0 })))
+
+padding-draws-nothing : codeFor (firstConversation (opening Default)) ≡ 0
+unfolding refusalOf step
+padding-draws-nothing = refl
+
+-- with any number, 0 too
+pub not-refusing-to-write : (n : ℕ) → Demand3 ourBox (refusingToWrite n) → ⊥
+not-refusing-to-write n h =
+    let writer = refusingToWrite n in
+    let p = start (opening Default) [] in
+    let all = h (opening Default) opens-default refl .1 (account false) 0 [] (rightTry false ∷ []) (rightful false) (omega arith) refl
+    (right-allowed ourBox writer p false, tt) in
+    let code = ap (octet 0) (all .0 .0 .0 .0) ∙ success-code _ in
+    omega (arith, code, ap codeFor first-default ∙ padding-draws-nothing)
+
+-- ---- asks for the LM response to be judged
+
+-- with the flag 0, where LM is not allowed, no Response draws Success: it is refused, or draws a Failure
+module _ (c : Conversation) (lm : c .terms .lm ≡ false) (ph : c .phase ≡ Response) (s : Lent) (flag : responseIn (s .packet) .flag ≡ 0)
+    (room : 17 ≤ length (s .buffer)) where
+  not-valid : valid c (s .account .account) (responseIn (s .packet)) ≡ false
+  unfolding valid
+  not-valid = simp (flag, lm)
+
+  found-not : (f : Bool) → (f && valid c (s .account .account) (responseIn (s .packet))) ≡ false
+  found-not true = not-valid
+  found-not false = refl
+
+  fails : drawn c (s .packet) (s .account) .reply ≡ failurePacket (c .id) (textOf 691 (cond (mayRetry c 691) 1 0) version)
+  unfolding drawn responseDrawn reasonOf firstReason
+  fails =
+      ap (λ (x : Phase). drawnIn x c (s .packet) (s .account) .reply) ph
+      ∙ ap (λ (v : Bool). replyFor c (firstReason v (s .account .account))) (found-not (s .account .found))
+
+  no-success : octet 0 (replyOf (stepOn c s)) ≡ 3 → ⊥
+  no-success e = which (eqb (refusalAt stepOn c s) 0) refl
+    where
+      which : (t : Bool) → eqb (refusalAt stepOn c s) 0 ≡ t → ⊥
+      which true z =
+          let ok = sym (number-step c (s .packet) (s .account) (s .buffer)) ∙ eqb-true (refusalAt stepOn c s) 0 z in
+          let d = drawn c (s .packet) (s .account) in
+          let short = failure-fits (c .id) 691 (cond (mayRetry c 691) 1 0) version .1 in
+          let code = ap (λ (o : Outcome). octet 0 (replyOf o)) (judged-step c (s .packet) (s .account) (s .buffer) ok)
+          ∙ ap (octet 0) (reply-of d (s .buffer) (omega (arith, short, ap length fails)) ∙ fails) ∙ failure-code (c .id) _ in
+          omega arith
+      which false z =
+          let none = ap (λ (o : Outcome). octet 0 (replyOf o)) (refused-whole c s (eqb-false (refusalAt stepOn c s) 0 z)) in
+          omega arith
+
+pub not-asking-for-lm : Demand3 ourBox asksForLm → ⊥
+unfolding writeResponseRefusal responseWriteRefusal
+not-asking-for-lm h =
+    let p = start (opening Default) [] in
+    let all = h (opening Default) opens-default refl .1 (account false) 0 [] (rightTry false ∷ []) (rightful false) (omega arith) refl
+    (right-allowed ourBox asksForLm p false, tt) in
+    let f = lmFields (responseFields (p .peer .turn .challenge) old) in
+    let packet = responsePacket (p .peer .turn .id) f user in
+    let s = exchange ourBox asksForLm p (right old user) (line 55 (found (account false))) .lent in
+    let nt = length-response (ntHashOf old) (p .peer .turn .challenge) in
+    let long = writing.length-response (p .peer .turn .id) f user refl nt in
+    let same = ap (λ (x : List ℕ). x ++ 9 ∷ []) (left-good 0 packet (replicate 55 0) refl (omega (arith, long))) in
+    let flag = ap (λ (x : List ℕ). responseIn x .flag) same
+    ∙ ap (λ (g : fields.Response). g .flag) (response-back (p .peer .turn .id) f user (9 ∷ []) refl nt (omega arith) (omega arith) .fields) in
+    no-success (p .conversation) (ap (λ (c : Conversation). c .terms .lm) first-default) (ap (λ (c : Conversation). c .phase) first-default) s flag (omega arith)
+    (ap (octet 0) (all .0 .0 .0 .0) ∙ success-code _)
