@@ -1,5 +1,6 @@
 pub mod Steps
 pub mod Judged
+pub mod Accepted
 pub mod Bound
 pub mod Spends
 pub mod Openings

@@ -4,6 +4,7 @@ pub mod Opening
 pub mod Refusal
 pub mod Response
 pub mod Change
+pub mod Accepted
 pub mod Step
 pub mod Steps
 pub mod Code

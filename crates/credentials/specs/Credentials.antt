@@ -95,6 +95,10 @@ sealedAs old password filler =
 abbrev pub lengthIn : List ℕ → ℕ
 lengthIn plain = fromLe (part 512 4 plain)
 
+-- of a sealed one, opened under the old hash
+abbrev pub lengthUnder : List ℕ → List ℕ → ℕ
+lengthUnder old block = lengthIn (crypted old block)
+
 -- what a block with the length n holds: over 512, odd, or a password of that length
 unfoldable pub contentFor : ℕ → Content
 contentFor n = cond (ltb 512 n) Over (cond (eqb (n % 2) 1) Odd (Password n))
@@ -117,7 +121,7 @@ Sound (Password n) = (n ≤ 512) × (n % 2 ≡ 0)
 
 -- opening a block: what it holds, and its 512 octets, of which a password is the last
 unfoldable pub unsealedAs : List ℕ → List ℕ → Unsealed
-unsealedAs old block = record { content = contentFor (lengthIn (crypted old block)); octets = fixed 512 (crypted old block) }
+unsealedAs old block = record { content = contentFor (lengthUnder old block); octets = fixed 512 (crypted old block) }
 
 -- the password of n octets in an opened block
 unfoldable pub passwordIn : Unsealed → ℕ → List ℕ

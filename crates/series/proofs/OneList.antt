@@ -1,10 +1,13 @@
--- Many boxes on one list: no challenge is put in force by two openings, and no recorded answer is right in two conversations.
+-- Many boxes on one list: an opening that needs nothing more is not refused, no challenge is put in force by two openings, and no
+-- recorded answer or change is right in two conversations.
 -- Assumes nothing.
 use mathlib.Core.Bool.{Bool, true, false, cond, _&&_, false≢true}
 use mathlib.Core.List.{List, [], _∷_, _++_}
 use mathlib.Core.Logic.{_≢_}
-use mathlib.Core.Path.{_≡_, refl, sym, _∙_, subst}
+use mathlib.Core.Option.{Option, none, some}
+use mathlib.Core.Path.{_≡_, refl, sym, ap, _∙_, subst}
 use Prim.Native.Nat.{ℕ}
+use borrow.Author.Tests.{eqb-true, eqb-false}
 use lib.Dec.{eqb}
 use lib.ListN.{length}
 use Rattle.octets.specs.Parts.{agrees}
@@ -12,23 +15,39 @@ use Rattle.octets.proofs.Parts.{agrees-equal}
 use Rattle.octets.proofs.Numbers.{Octets}
 use Rattle.issued.specs.Issued.{Issued, listed, holds}
 use Rattle.issued.proofs.Listing.{not-met}
-use Rattle.credentials.specs.Credentials.{responseOf}
+use Rattle.credentials.specs.Credentials.{ntHashOf, responseOf, lengthUnder, unsealedAs, passwordIn}
 use Rattle.credentials.proofs.Laws.{response-tells}
+use Rattle.packets.specs.declared.Change.{Change}
 use Rattle.packets.specs.declared.Response.{Response}
 use Rattle.authenticator.specs.Account.{answers}
+use Rattle.authenticator.specs.Change.{newHash}
+use Rattle.authenticator.specs.Conversation.{isEnded}
 use Rattle.authenticator.specs.Opening.{Opening, spends, opened, openedIssued}
 use Rattle.authenticator.specs.Response.{valid}
 use Rattle.authenticator.specs.Steps.{Lent, stepOn, nextAfter}
 use Rattle.authenticator.specs.declared.Account.{Account}
 use Rattle.authenticator.specs.declared.Conversation.{Conversation}
 use Rattle.authenticator.specs.declared.Hash.{Hash}
+use Rattle.authenticator.specs.declared.Opened.{Opened}
+use Rattle.authenticator.proofs.Accepted.{accepted-only}
 use Rattle.authenticator.proofs.Spends.{succession-octets}
-use Rattle.authenticator.proofs.Openings.{opened-first, opened-fresh, opened-holds, opened-keeps}
+use Rattle.authenticator.proofs.Openings.{opened-first, opened-written, opened-fresh, opened-not, opened-holds, opened-keeps, may-open}
 use Rattle.authenticator.proofs.InForce.{CanBeInForce, now-in-force, step-adds-none}
 use Rattle.series.specs.Course.{end, Along}
 use Rattle.series.specs.Openers.{spendsAll, ourOpener}
-use Rattle.series.specs.OneList.{LentTo, leftBy, OnOneList, Two, reached, NoneTwice, NoneAnsweredTwice, NoneValidTwice}
+use Rattle.series.specs.OneList.{LentTo, leftBy, OnOneList, Opens, Two, reached, NoneTwice, NoneAnsweredTwice, NoneValidTwice, NoneChangedTwice, MayOpen, OneList}
 use Rattle.series.proofs.Invariant.{along-behind}
+
+-- ---- an opening that hands out a conversation that goes on was not refused
+
+opens : (o : Opening) → Opens spendsAll o → opened o .refusal ≡ 0
+opens o live = which (eqb (opened o .refusal) 0) refl
+  where
+    which : (t : Bool) → eqb (opened o .refusal) 0 ≡ t → opened o .refusal ≡ 0
+    which true e = eqb-true (opened o .refusal) 0 e
+    which false e =
+        let ended = ap (λ (x : Opened). isEnded (x .conversation .phase)) (opened-not o (eqb-false (opened o .refusal) 0 e) .0) in
+        absurd (false≢true (sym live ∙ ended))
 
 -- ---- what a conversation can put in force is what its opening spent
 
@@ -49,6 +68,12 @@ listed-stays i [] p after x h e = h .0 .kept x e
 listed-stays i (o ∷ os) p after x h e = listed-stays (openedIssued o) os p after x (h .1) (opened-keeps o (h .0 .eight) x (h .0 .kept x e))
 
 module _ (i : Issued) (first second : Opening) (two : Two spendsAll i first second) where
+  first-opens : opened first .refusal ≡ 0
+  first-opens = opens first (two .firstOpens)
+
+  second-opens : opened second .refusal ≡ 0
+  second-opens = opens second (two .secondOpens)
+
   from-first : Along (leftBy spendsAll) LentTo (end (leftBy spendsAll) i (two .before)) (first ∷ two .between ++ (second ∷ two .after))
   from-first = along-behind (leftBy spendsAll) LentTo i (two .before) (first ∷ two .between ++ (second ∷ two .after)) (two .run)
 
@@ -58,8 +83,8 @@ module _ (i : Issued) (first second : Opening) (two : Two spendsAll i first seco
   -- what the first opening spent, the second did not
   apart : (x : List ℕ) → holds (spends first) x ≡ true → holds (spends second) x ≡ true → ⊥
   apart x h k =
-      let there = listed-stays (openedIssued first) (two .between) second (two .after) x (from-first .1) (opened-holds first (from-first .0 .eight) (two .firstOpens) x h) in
-      false≢true (sym (not-met (spends second) (listed 8 (second .issued)) x (opened-fresh second (two .secondOpens)) k) ∙ there)
+      let there = listed-stays (openedIssued first) (two .between) second (two .after) x (from-first .1) (opened-holds first (from-first .0 .eight) first-opens x h) in
+      false≢true (sym (not-met (spends second) (listed 8 (second .issued)) x (opened-fresh second second-opens) k) ∙ there)
 
   module _ (ss ts : List Lent) where
     abbrev inFirst : Conversation
@@ -70,8 +95,8 @@ module _ (i : Issued) (first second : Opening) (two : Two spendsAll i first seco
 
     never : inFirst .challenge ≢ inSecond .challenge
     never e =
-        apart (inFirst .challenge) (reached-spent first (two .firstOpens) ss)
-        (subst (λ (x : List ℕ). holds (spends second) x ≡ true) (sym e) (reached-spent second (two .secondOpens) ts))
+        apart (inFirst .challenge) (reached-spent first first-opens ss)
+        (subst (λ (x : List ℕ). holds (spends second) x ≡ true) (sym e) (reached-spent second second-opens ts))
 
     -- ---- a recorded answer
 
@@ -79,20 +104,20 @@ module _ (i : Issued) (first second : Opening) (two : Two spendsAll i first seco
         → (length (reached spendsAll o us .challenge) ≡ 8) × Octets (reached spendsAll o us .challenge)
     eight-octets o e k ok us = succession-octets _ (o .challenge) (reached spendsAll o us .challenge) e k (reached-spent o ok us)
 
+    -- 24 octets are a hash's response to one challenge
+    responses-apart : (h r : List ℕ) → r ≡ responseOf h (inFirst .challenge) → r ≡ responseOf h (inSecond .challenge) → ⊥
+    responses-apart h r p q =
+        let a = eight-octets first (from-first .0 .eight) (from-first .0 .octets) first-opens ss in
+        let b = eight-octets second (of-second .0 .eight) (of-second .0 .octets) second-opens ts in
+        never (response-tells h (inFirst .challenge) (inSecond .challenge) (a .0) (a .1) (b .0) (b .1) (sym p ∙ q))
+
     answered-both : (h : Hash) (r : List ℕ) → answers h (inFirst .challenge) r ≡ true → answers h (inSecond .challenge) r ≡ true → ⊥
     unfolding answers
     answered-both h r p q = which (h .present) p q
       where
-        same : (t u : List ℕ) → agrees r t ≡ true → agrees r u ≡ true → t ≡ u
-        same t u p q = sym (agrees-equal r t p) ∙ agrees-equal r u q
-
         which : (t : Bool) → (t && agrees r (responseOf (h .octets) (inFirst .challenge))) ≡ true
             → (t && agrees r (responseOf (h .octets) (inSecond .challenge))) ≡ true → ⊥
-        which true p q =
-            let a = eight-octets first (from-first .0 .eight) (from-first .0 .octets) (two .firstOpens) ss in
-            let b = eight-octets second (of-second .0 .eight) (of-second .0 .octets) (two .secondOpens) ts in
-            never (response-tells (h .octets) (inFirst .challenge) (inSecond .challenge) (a .0) (a .1) (b .0) (b .1)
-            (same (responseOf (h .octets) (inFirst .challenge)) (responseOf (h .octets) (inSecond .challenge)) p q))
+        which true p q = responses-apart (h .octets) r (agrees-equal r _ p) (agrees-equal r _ q)
         which false p q = false≢true p
 
     valid-both : (a : Account) (f : Response) → valid inFirst a f ≡ true → valid inSecond a f ≡ true → ⊥
@@ -106,6 +131,26 @@ module _ (i : Issued) (first second : Opening) (two : Two spendsAll i first seco
         which false true false p q = false≢true q
         which false false w p q = false≢true p
 
+    -- ---- a recorded change
+
+    changed-both : (f : Change) (h : List ℕ) → newHash inFirst f ≡ some h → newHash inSecond f ≡ some h → ⊥
+    changed-both f h p q =
+        let a = accepted-only inFirst f h p in
+        let b = accepted-only inSecond f h q in
+        responses-apart h (f .nt) (a .0 .response ∙ ap (λ (x : List ℕ). responseOf x (inFirst .challenge)) (sym (a .1)))
+        (b .0 .response ∙ ap (λ (x : List ℕ). responseOf x (inSecond .challenge)) (sym (b .1)))
+
+    -- under the same NT hash the block holds the same password
+    unchanged : (f : Change) (h : List ℕ) → newHash inFirst f ≡ some h → inSecond .kept .nt .octets ≡ inFirst .kept .nt .octets → newHash inSecond f ≡ none
+    unchanged f h p e = which (newHash inSecond f) refl
+      where
+        which : (o : Option (List ℕ)) → newHash inSecond f ≡ o → newHash inSecond f ≡ none
+        which none q = q
+        which (some k) q =
+            let same : k ≡ h = accepted-only inSecond f k q .1
+            ∙ ap (λ (x : List ℕ). ntHashOf (passwordIn (unsealedAs x (f .block)) (lengthUnder x (f .block)))) e ∙ sym (accepted-only inFirst f h p .1) in
+            absurd (changed-both f h p (q ∙ ap some same))
+
 -- what is not true is false
 refuted : (t : Bool) → (t ≡ true → ⊥) → t ≡ false
 refuted true h = absurd (h refl)
@@ -115,7 +160,26 @@ pub none-twice : NoneTwice ourOpener
 none-twice i first second two ss ts = never i first second two ss ts
 
 pub none-answered-twice : NoneAnsweredTwice ourOpener
-none-answered-twice i first second two ss ts h r p = refuted (answers h (reached ourOpener second ts .challenge) r) (answered-both i first second two ss ts h r p)
+none-answered-twice i first second two ss ts h r p =
+    refuted (answers h (reached ourOpener second ts .challenge) r) (answered-both i first second two ss ts h r p)
 
 pub none-valid-twice : NoneValidTwice ourOpener
 none-valid-twice i first second two ss ts a f p = refuted (valid (reached ourOpener second ts) a f) (valid-both i first second two ss ts a f p)
+
+pub none-changed-twice : NoneChangedTwice ourOpener
+none-changed-twice i first second two ss ts f h p = (changed-both i first second two ss ts f h p, unchanged i first second two ss ts f h p)
+
+pub opens-where-it-may : MayOpen ourOpener
+opens-where-it-may o h =
+    let ok = may-open o (h .not13) (h .not2) (h .buffer24) (h .counts24) (h .not16) (h .not17) in
+    (ok, opened-first o ok, opened-written o ok (h .eight))
+
+pub one-list : OneList ourOpener
+one-list =
+    record {
+      mayOpen = opens-where-it-may;
+      noneTwice = none-twice;
+      noneAnsweredTwice = none-answered-twice;
+      noneValidTwice = none-valid-twice;
+      noneChangedTwice = none-changed-twice;
+    }

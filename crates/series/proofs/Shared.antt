@@ -3,7 +3,7 @@
 -- Assumes nothing.
 use mathlib.Core.Bool.{Bool, true, false, _&&_, false≢true}
 use mathlib.Core.List.{List, [], _∷_, flatten}
-use mathlib.Core.Path.{_≡_, refl}
+use mathlib.Core.Path.{_≡_, refl, ap}
 use Prim.Native.Nat.{ℕ, zero, suc, _<_}
 use native.Mathlib.Omega.{arith}
 use borrow.Author.Tests.{ltb-true}
@@ -12,11 +12,13 @@ use lib.ListN.{length, getD, replicate}
 use Rattle.octets.specs.Parts.{over, agrees}
 use Rattle.issued.specs.Issued.{Issued, holds, meets, ending, endings, emptyList, badBuffer, spendRefusal}
 use Rattle.packets.specs.Next.{grown, succession}
+use Rattle.authenticator.specs.Conversation.{isEnded}
 use Rattle.authenticator.specs.Opening.{Opening, openRefusal, opened, openedIssued}
+use Rattle.authenticator.specs.declared.Conversation.{Conversation}
 use Rattle.authenticator.specs.declared.Retries.{Retries}
 use Rattle.authenticator.specs.declared.Retries.the-variants.{Default, Count}
 use Rattle.authenticator.specs.declared.LmChoice.the-variants.{Silent}
-use Rattle.authenticator.proofs.Openings.{may-open-empty}
+use Rattle.authenticator.proofs.Openings.{opened-first, may-open-empty}
 use Rattle.series.specs.Openers.{ourOpener}
 use Rattle.series.specs.OneList.{LentTo, Two}
 
@@ -65,6 +67,10 @@ octets (x ∷ l) h k = which (ltb x 256) refl h k (octets l)
 pub lent : (o : Opening) → small (o .challenge) ≡ true → length (o .challenge) ≡ 8 → LentTo (o .issued) o
 lent o s e = record { kept = λ x h. h; eight = e; octets = octets (o .challenge) s }
 
+-- an opening that is not refused hands out a conversation that goes on
+pub opens-live : (o : Opening) → opened o .refusal ≡ 0 → isEnded (opened o .conversation .phase) ≡ false
+opens-live o ok = ap (λ (c : Conversation). isEnded (c .phase)) (opened-first o ok)
+
 pub two : Two ourOpener (emptyList 8 6) first second
 two =
     record {
@@ -72,8 +78,8 @@ two =
       between = [];
       after = [];
       run = (lent first refl refl, (lent second refl refl, tt));
-      firstOpens = first-opens;
-      secondOpens = second-opens;
+      firstOpens = opens-live first first-opens;
+      secondOpens = opens-live second second-opens;
     }
 
 -- ---- refused

@@ -1,5 +1,7 @@
--- The claim about one list shuts out an opener that leaves the list as it was, and one that spends the challenge alone.
+-- The claim about one list shuts out an opener that refuses everything, one that hands out a conversation with a refusal, one that leaves
+-- the list as it was, and one that spends the challenge alone.
 -- Assumes nothing.
+use mathlib.Core.Bool.{true≢false}
 use mathlib.Core.List.{List, [], _∷_, _++_, flatten}
 use mathlib.Core.Path.{_≡_, refl, sym, ap, _∙_}
 use Prim.Native.Nat.{ℕ}
@@ -10,18 +12,59 @@ use Rattle.issued.specs.Issued.{holds, meets, ending, endings, emptyList, badBu
 use Rattle.packets.specs.Next.{grown, succession}
 use Rattle.packets.specs.Response.{responseRefusal}
 use Rattle.authenticator.specs.Account.{noRecord}
+use Rattle.authenticator.specs.Conversation.{isEnded}
 use Rattle.authenticator.specs.Opening.{Opening, openRefusal, firstConversation, opened, openedIssued}
 use Rattle.authenticator.specs.Refusal.{refusalOf}
 use Rattle.authenticator.specs.Response.{firstReason, reasonOf, responseDrawn}
 use Rattle.authenticator.specs.Step.{drawn, step}
 use Rattle.authenticator.specs.Steps.{Lent, nextAfter}
 use Rattle.authenticator.specs.declared.Conversation.{Conversation}
-use Rattle.authenticator.specs.declared.Retries.the-variants.{Count}
+use Rattle.authenticator.specs.declared.Retries.the-variants.{Default, Count}
 use Rattle.authenticator.proofs.Openings.{opened-first, may-open-empty}
 use Rattle.series.specs.Boxes.{withRetries, ourBox}
-use Rattle.series.specs.Openers.{leavesList, noRetries, spendsOne}
-use Rattle.series.specs.OneList.{Two, NoneTwice}
-use Rattle.series.proofs.Shared.{openingOn, challenge, first, six-places, first-opens, lent}
+use Rattle.series.specs.Openers.{refusesToOpen, opensRefused, leavesList, noRetries, spendsOne}
+use Rattle.series.specs.OneList.{Openable, Two, NoneTwice, OneList}
+use Rattle.series.proofs.Shared.{openingOn, challenge, first, six-places, first-opens, lent, opens-live}
+
+-- ---- refuses everything
+
+-- the first opening on an empty list needs nothing more
+first-openable : Openable first
+unfolding endings ending meets succession holds
+first-openable =
+    record {
+      eight = refl;
+      not13 = omega arith;
+      not2 = omega arith;
+      buffer24 = six-places;
+      counts24 = refl;
+      not16 = refl;
+      not17 = omega arith;
+    }
+
+-- its conversation awaits a Response, and what this one hands out has ended
+pub not-refusing-to-open : (n : ℕ) → OneList (refusesToOpen n) → ⊥
+not-refusing-to-open n claim = true≢false (ap (λ (c : Conversation). isEnded (c .phase)) (claim .mayOpen first first-openable .1))
+
+-- ---- a conversation is handed out with a refusal
+
+-- the first one's challenge again, on the list that it left: refused with 16, and put in force all the same
+pub not-opening-refused : NoneTwice opensRefused → ⊥
+not-opening-refused claim = claim (emptyList 8 6) first again both [] [] refl
+  where
+    again : Opening
+    again = openingOn (openedIssued first) Default challenge
+
+    both : Two opensRefused (emptyList 8 6) first again
+    both =
+        record {
+          before = [];
+          between = [];
+          after = [];
+          run = (lent first refl refl, (lent again refl refl, tt));
+          firstOpens = refl;
+          secondOpens = refl;
+        }
 
 -- ---- the list is left as it was
 
@@ -36,8 +79,8 @@ not-leaving-list claim = claim (emptyList 8 6) first first twice [] [] refl
           between = [];
           after = [];
           run = (lent first refl refl, (lent first refl refl, tt));
-          firstOpens = first-opens;
-          secondOpens = first-opens;
+          firstOpens = opens-live first first-opens;
+          secondOpens = opens-live first first-opens;
         }
 
 -- ---- the challenge alone is spent
@@ -81,6 +124,6 @@ not-spending-one claim =
           between = [];
           after = [];
           run = (lent retrying refl refl, (lent following refl refl, tt));
-          firstOpens = retrying-opens;
-          secondOpens = following-opens;
+          firstOpens = opens-live (noRetries retrying) retrying-opens;
+          secondOpens = opens-live (noRetries following) following-opens;
         }

@@ -4,13 +4,17 @@
 use mathlib.Core.Bool.{true, false}
 use mathlib.Core.List.{List, _∷_, _++_}
 use mathlib.Core.Logic.{_≢_}
+use mathlib.Core.Option.{none, some}
 use mathlib.Core.Path.{_≡_}
-use Prim.Native.Nat.{ℕ, _<_}
-use lib.ListN.{length, getD}
-use Rattle.issued.specs.Issued.{Issued, listed, holds}
+use Prim.Native.Nat.{ℕ, suc, _+_, _≤_, _<_}
+use lib.ListN.{length, getD, take}
+use Rattle.issued.specs.Issued.{Issued, places, listed, holds, meets, countsOf, badBuffer}
+use Rattle.packets.specs.declared.Change.{Change}
 use Rattle.packets.specs.declared.Response.{Response}
 use Rattle.authenticator.specs.Account.{answers}
-use Rattle.authenticator.specs.Opening.{Opening}
+use Rattle.authenticator.specs.Change.{newHash}
+use Rattle.authenticator.specs.Conversation.{isEnded}
+use Rattle.authenticator.specs.Opening.{Opening, retriesOf, spends, firstConversation, openingPacket}
 use Rattle.authenticator.specs.Response.{valid}
 use Rattle.authenticator.specs.Steps.{Lent, nextAfter}
 use Rattle.authenticator.specs.declared.Account.{Account}
@@ -26,6 +30,16 @@ pub record LentTo (i : Issued) (o : Opening) : Type 0 where
   pub eight : length (o .challenge) ≡ 8
   pub octets : (k : ℕ) → getD (o .challenge) k 0 < 256
 
+-- what is lent to an opening meets none of 13, 2, 24, 16 and 17
+pub record Openable (o : Opening) : Type 0 where
+  pub eight : length (o .challenge) ≡ 8
+  pub not13 : retriesOf (o .retries) ≤ 7
+  pub not2 : 17 ≤ length (o .buffer)
+  pub buffer24 : badBuffer 8 (o .issued .buffer) (o .issued .used) ≡ false
+  pub counts24 : o .issued .counts ≡ countsOf (listed 8 (o .issued))
+  pub not16 : meets (spends o) (listed 8 (o .issued)) ≡ false
+  pub not17 : o .issued .used + suc (retriesOf (o .retries)) ≤ places 8 (o .issued .buffer)
+
 module _ (opener : Opener) where
   abbrev pub leftBy : Issued → Opening → Issued
   leftBy i o = opener .leaves o
@@ -34,14 +48,19 @@ module _ (opener : Opener) where
   abbrev pub OnOneList : Issued → List Opening → Type 0
   OnOneList i os = Along leftBy LentTo i os
 
+  -- An opening was not refused, by what is seen of it: it hands out a conversation that goes on. The number that it answers
+  -- counts for nothing here: one that names a refusal and hands out a conversation is held to the claim too.
+  abbrev pub Opens : Opening → Type 0
+  Opens o = isEnded (opener .answer o .conversation .phase) ≡ false
+
   -- two openings of a run that were not refused, one before the other
   pub record Two (i : Issued) (first second : Opening) : Type 0 where
     pub before : List Opening
     pub between : List Opening
     pub after : List Opening
     pub run : OnOneList i (before ++ (first ∷ between ++ (second ∷ after)))
-    pub firstOpens : opener .answer first .refusal ≡ 0
-    pub secondOpens : opener .answer second .refusal ≡ 0
+    pub firstOpens : Opens first
+    pub secondOpens : Opens second
 
   -- the conversation that an opening and any steps after it led to
   abbrev pub reached : Opening → List Lent → Conversation
@@ -64,3 +83,28 @@ module _ (opener : Opener) where
   NoneValidTwice =
       (i : Issued) (first second : Opening) → Two i first second → (ss ts : List Lent) (a : Account) (f : Response)
       → valid (reached first ss) a f ≡ true → valid (reached second ts) a f ≡ false
+
+  -- Nor does a recorded change: one that is accepted in one conversation gives that new hash in no other, whatever record was kept
+  -- there, and is not accepted in another whose kept record has the same NT hash.
+  abbrev pub NoneChangedTwice : Type 0
+  NoneChangedTwice =
+      (i : Issued) (first second : Opening) → Two i first second → (ss ts : List Lent) (f : Change) (h : List ℕ)
+      → newHash (reached first ss) f ≡ some h
+      → (newHash (reached second ts) f ≢ some h)
+      × (reached second ts .kept .nt .octets ≡ reached first ss .kept .nt .octets → newHash (reached second ts) f ≡ none)
+
+  -- An opening that needs nothing more is not refused: it hands out the conversation, and writes the Challenge. Without it an opener that
+  -- refuses everything would meet the rest.
+  abbrev pub MayOpen : Type 0
+  MayOpen =
+      (o : Opening) → Openable o
+      → (opener .answer o .refusal ≡ 0) × (opener .answer o .conversation ≡ firstConversation o)
+      × (take (opener .answer o .written) (opener .reply o) ≡ openingPacket o)
+
+  -- the whole claim about one list
+  pub record OneList : Type 0 where
+    pub mayOpen : MayOpen
+    pub noneTwice : NoneTwice
+    pub noneAnsweredTwice : NoneAnsweredTwice
+    pub noneValidTwice : NoneValidTwice
+    pub noneChangedTwice : NoneChangedTwice

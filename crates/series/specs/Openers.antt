@@ -1,20 +1,44 @@
 -- Our way to open, and wrong ones. The claim about one list (specs/OneList) holds of ours (proofs/OneList) and of none of the others
 -- (proofs/WrongOpeners).
 -- Assumes nothing: these are definitions.
+use mathlib.Core.List.{List}
+use Prim.Native.Nat.{ℕ}
+use lib.ListN.{length}
 use Rattle.issued.specs.Issued.{Issued}
-use Rattle.authenticator.specs.Opening.{Opening, retriesOf, opened, openedIssued}
+use Rattle.authenticator.specs.Conversation.{closed}
+use Rattle.authenticator.specs.Opening.{Opening, retriesOf, openRefusal, firstConversation, openingPacket, opened, openedIssued, openedBuffer}
 use Rattle.authenticator.specs.declared.Opened.{Opened}
 use Rattle.authenticator.specs.declared.Retries.the-variants.{Count}
 use Rattle.series.specs.Boxes.{withRetries}
 
--- what an opening answers, and what it leaves in the list
+-- what an opening answers, and what it leaves in the list and in the reply buffer
 pub record Opener : Type 0 where
   pub answer : Opening → Opened
   pub leaves : Opening → Issued
+  pub reply : Opening → List ℕ
+
+-- refuses everything, with one number or another
+abbrev pub refusesToOpen : ℕ → Opener
+refusesToOpen n =
+    record {
+      answer = λ o. record { refusal = n; conversation = closed; written = 0; used = o .issued .used };
+      leaves = λ o. o .issued;
+      reply = λ o. o .buffer;
+    }
+
+-- says what it refuses, and hands out a conversation all the same
+abbrev pub opensRefused : Opener
+opensRefused =
+    record {
+      answer = λ o.
+          record { refusal = openRefusal o; conversation = firstConversation o; written = length (openingPacket o); used = openedIssued o .used };
+      leaves = openedIssued;
+      reply = openedBuffer;
+    }
 
 -- the list is left as it was
 abbrev pub leavesList : Opener
-leavesList = record { answer = opened; leaves = λ o. o .issued }
+leavesList = record { answer = opened; leaves = λ o. o .issued; reply = openedBuffer }
 
 -- the same opening with no retries
 abbrev pub noRetries : Opening → Opening
@@ -29,11 +53,12 @@ spendsOne =
           let a = opened (noRetries o) in
           record { refusal = a .refusal; conversation = withRetries (retriesOf (o .retries)) (a .conversation); written = a .written; used = a .used };
       leaves = λ o. openedIssued (noRetries o);
+      reply = λ o. openedBuffer (noRetries o);
     }
 
 -- what the promise of the authenticator's `open` says
 abbrev pub spendsAll : Opener
-spendsAll = record { answer = opened; leaves = openedIssued }
+spendsAll = record { answer = opened; leaves = openedIssued; reply = openedBuffer }
 
 -- ours
 abbrev pub ourOpener : Opener
