@@ -1,6 +1,7 @@
 pub mod Steps
 pub mod Judged
 pub mod Accepted
+pub mod Padding
 pub mod Bound
 pub mod Spends
 pub mod Openings

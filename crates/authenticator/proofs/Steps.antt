@@ -93,17 +93,6 @@ passes c p b h =
     (le-ltb (length b) 17 (h .room)) (h .frame) (ap not (eq-eqb (octet 0 p) (awaitedCode (c .phase)) (h .code)))
     (ap not (eq-eqb (octet 1 p) (c .id) (h .id))) (h .body)
 
--- a live conversation: where a buffer with no room does not draw 2, there is none
-pub roomy : (c : Conversation) (s : Lent) → isEnded (c .phase) ≡ false → (badRoom (s .buffer) ≡ true → refusalAt stepOn c s ≢ 2) → 17 ≤ length (s .buffer)
-unfolding refusalOf
-roomy c s live two =
-    ltb-false (length (s .buffer)) 17
-    (which (isEnded (c .phase)) (badRoom (s .buffer)) _ live (λ h e. two h (number-step c (s .packet) (s .account) (s .buffer) ∙ e)))
-  where
-    which : (t₁ t₂ : Bool) (n : ℕ) → t₁ ≡ false → (t₂ ≡ true → cond t₁ 1 (cond t₂ 2 n) ≢ 2) → t₂ ≡ false
-    which t₁ true n e h = absurd (h refl (rw e))
-    which t₁ false n e h = refl
-
 -- ---- the numbers that a step can have
 
 six-or-seven : (t u : Bool) → (cond t 6 (cond u 7 0) ≤ 7) × _≢_ {A = ℕ} (cond t 6 (cond u 7 0)) 2
@@ -143,6 +132,19 @@ live-and-roomy c p b e = which (isEnded (c .phase)) (badRoom b) _ refl refl e
     which true t₂ n p q z = absurd (omega arith)
     which false true n p q z = absurd (omega arith)
     which false false n p q z = (p, ltb-false (length b) 17 q)
+
+-- and passed the checks of its own body
+pub body-passed : (c : Conversation) (p b : List ℕ) → refusalOf c p b ≡ 0 → bodyRefusal (c .phase) p ≡ 0
+unfolding refusalOf
+body-passed c p b e = which (isEnded (c .phase)) (badRoom b) (badFrame p) (badCode (c .phase) p) (badId (c .id) p) (bodyRefusal (c .phase) p) e
+  where
+    which : (t₁ t₂ t₃ t₄ t₅ : Bool) (n : ℕ) → _≡_ {A = ℕ} (cond t₁ 1 (cond t₂ 2 (cond t₃ 3 (cond t₄ 4 (cond t₅ 5 n))))) 0 → n ≡ 0
+    which true t₂ t₃ t₄ t₅ n z = absurd (omega arith)
+    which false true t₃ t₄ t₅ n z = absurd (omega arith)
+    which false false true t₄ t₅ n z = absurd (omega arith)
+    which false false false true t₅ n z = absurd (omega arith)
+    which false false false false true n z = absurd (omega arith)
+    which false false false false false n z = z
 
 -- ---- the reply
 

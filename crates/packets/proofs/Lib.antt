@@ -1,5 +1,6 @@
 pub mod Fields
 pub mod Framing
+pub mod Padding
 pub mod Writing
 pub mod Split
 pub mod Places

@@ -183,7 +183,7 @@ module _ (a : Account) (g : Rightful a) where
             subst (λ (n : ℕ). DrawsSuccess (exchange stepOn ourWriter p (renewal old new filler) l) n) (i .id) (x .draws),
             ap (λ (b : Lookup). b .found) handed,
             subst (λ (b : Lookup). LetsIn stepOn ourWriter (b .account) new) (sym handed)
-            (lets-in (renewed (p .conversation .kept) (ntHashOf new)) new (n .0) (n .1) (sym (n .2))),
+                (lets-in (renewed (p .conversation .kept) (ntHashOf new)) new (n .0) (n .1) (sym (n .2))),
           ),
           renewal-written p i old new filler l (h .0) (f .0),
         ),

@@ -1,0 +1,66 @@
+-- "Octets after Length are padding and ignored" (document 01), for whole steps: a packet with a good frame, cut at its Length with any octets
+-- behind, makes the same step, refused or judged, in any conversation.
+-- Assumes nothing.
+use mathlib.Core.Bool.{Bool, true, false, cond}
+use mathlib.Core.List.{List, _++_}
+use mathlib.Core.Path.{_≡_, refl, sym, ap, _∙_}
+use Prim.Native.Nat.{ℕ}
+use native.Mathlib.Omega.{arith}
+use borrow.Author.Tests.{eqb-true, eqb-false}
+use lib.Dec.{eqb}
+use lib.ListN.{take}
+use Rattle.packets.specs.Frame.{lengthOf, badFrame}
+use Rattle.packets.specs.Response.{badResponseSize, badResponseFlag, responseRefusal}
+use Rattle.packets.specs.Change.{badChangeSize, badChangeFlags, changeRefusal}
+use Rattle.packets.proofs.Padding.{SamePacket, cut-at-length, same-code, same-id, same-response-refusal, same-response, same-change-refusal, same-change}
+use Rattle.authenticator.specs.Change.{changeDrawn}
+use Rattle.authenticator.specs.Refusal.{bodyRefusal, refusalOf}
+use Rattle.authenticator.specs.Response.{Drawn, responseDrawn}
+use Rattle.authenticator.specs.Step.{drawnIn, drawn, judgedAs, refusedAs, step}
+use Rattle.authenticator.specs.declared.Conversation.{Conversation}
+use Rattle.authenticator.specs.declared.Lookup.{Lookup}
+use Rattle.authenticator.specs.declared.Phase.{Phase}
+use Rattle.authenticator.specs.declared.Phase.the-variants.{Response, Change, Ended}
+use Rattle.authenticator.proofs.Steps.{judged-step, refused-step, body-passed}
+
+-- neither 6 nor 7: the size is good
+size-good : (t u : Bool) → _≡_ {A = ℕ} (cond t 6 (cond u 7 0)) 0 → t ≡ false
+size-good true u e = absurd (omega arith)
+size-good false u e = refl
+
+module _ (p q : List ℕ) (s : SamePacket p q) where
+  same-body : (ph : Phase) → bodyRefusal ph q ≡ bodyRefusal ph p
+  same-body Response = same-response-refusal p q s
+  same-body Change = same-change-refusal p q s
+  same-body Ended = refl
+
+  same-refusal : (c : Conversation) (b : List ℕ) → refusalOf c q b ≡ refusalOf c p b
+  unfolding refusalOf
+  same-refusal c b = rw (s .frame, same-code p q s, same-id p q s, same-body (c .phase))
+
+  -- where neither 6 nor 7 is due, the fields are the same
+  same-drawn : (ph : Phase) (c : Conversation) (l : Lookup) → bodyRefusal ph p ≡ 0 → drawnIn ph c q l ≡ drawnIn ph c p l
+  unfolding responseRefusal changeRefusal
+  same-drawn Response c l e =
+      ap (responseDrawn c l) (same-response p q s (size-good (badResponseSize p) (badResponseFlag p) e))
+  same-drawn Change c l e =
+      ap (changeDrawn c) (same-change p q s (size-good (badChangeSize p) (badChangeFlags p) e))
+  same-drawn Ended c l e = refl
+
+  same-step : (c : Conversation) (l : Lookup) (b : List ℕ) → step c q l b ≡ step c p l b
+  unfolding drawn
+  same-step c l b = which (eqb (refusalOf c p b) 0) refl
+    where
+      which : (t : Bool) → eqb (refusalOf c p b) 0 ≡ t → step c q l b ≡ step c p l b
+      which true e =
+          let ok = eqb-true (refusalOf c p b) 0 e in
+          judged-step c q l b (same-refusal c b ∙ ok)
+          ∙ ap (λ (d : Drawn). judgedAs d b) (same-drawn (c .phase) c l (body-passed c p b ok)) ∙ sym (judged-step c p l b ok)
+      which false e =
+          let no = eqb-false (refusalOf c p b) 0 e in
+          refused-step c q l b (λ z. no (sym (same-refusal c b) ∙ z))
+          ∙ ap (λ (n : ℕ). refusedAs n c b) (same-refusal c b) ∙ sym (refused-step c p l b no)
+
+pub padding-ignored : (p behind : List ℕ) → badFrame p ≡ false → (c : Conversation) (l : Lookup) (b : List ℕ)
+    → step c (take (lengthOf p) p ++ behind) l b ≡ step c p l b
+padding-ignored p behind good = same-step p (take (lengthOf p) p ++ behind) (cut-at-length p behind good)
