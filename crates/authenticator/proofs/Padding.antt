@@ -36,7 +36,7 @@ module _ (p q : List ℕ) (s : SamePacket p q) where
 
   same-refusal : (c : Conversation) (b : List ℕ) → refusalOf c q b ≡ refusalOf c p b
   unfolding refusalOf
-  same-refusal c b = rw (s .frame, same-code p q s, same-id p q s, same-body (c .phase))
+  same-refusal c b = simp (s .frame, same-code p q s, same-id p q s, same-body (c .phase))
 
   -- where neither 6 nor 7 is due, the fields are the same
   same-drawn : (ph : Phase) (c : Conversation) (l : Lookup) → bodyRefusal ph p ≡ 0 → drawnIn ph c q l ≡ drawnIn ph c p l
