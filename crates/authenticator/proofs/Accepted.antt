@@ -1,5 +1,5 @@
--- "A change is accepted exactly when ..": the five conditions of document 01 give a new hash, and a new hash is found only where all of
--- them hold. What is to be ignored has no effect.
+-- "A change is accepted exactly when ..": the five conditions of document 01 give a new hash, and a
+-- new hash is found only where all of them hold. What is to be ignored has no effect.
 -- Assumes nothing.
 use mathlib.Core.Bool.{Bool, true, false, cond, _&&_, false≢true}
 use mathlib.Core.List.{List}
@@ -102,7 +102,8 @@ module _ (c : Conversation) (f : changes.Change) where
 
 -- ---- what is ignored
 
--- bit 1 of the flags, the LM block, the old LM hash and the LM response have no effect on what a change draws
+-- bit 1 of the flags, the LM block, the old LM hash and the LM response have no effect on what a
+-- change draws
 pub ignored-drawn : (c : Conversation) (f g : changes.Change) → SameButIgnored f g → changeDrawn c f ≡ changeDrawn c g
 unfolding changeDrawn newHash
 ignored-drawn c f g e =

@@ -1,5 +1,6 @@
--- "Octets after Length are padding and ignored" (document 01), for whole steps: a packet with a good frame, cut at its Length with any octets
--- behind, makes the same step, refused or judged, in any conversation.
+-- "Octets after Length are padding and ignored" (document 01), for whole steps: a packet with a
+-- good frame, cut at its Length with any octets behind, makes the same step, refused or judged, in
+-- any conversation.
 -- Assumes nothing.
 use mathlib.Core.Bool.{Bool, true, false, cond}
 use mathlib.Core.List.{List, _++_}

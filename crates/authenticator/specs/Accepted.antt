@@ -1,7 +1,8 @@
--- Document 01's sentence on an accepted change, condition by condition: "A change is accepted exactly when the kept record has an NT hash,
--- flag bit 0 is set, the opened block's length is even and at most 512, the old hash under the new hash is the one sent, and the NT response
--- equals that of the new hash and the challenge in force. Bit 1 and the LM fields are ignored."
--- That `newHash` (specs/Change) says the same is proved in proofs/Accepted.
+-- Document 01's sentence on an accepted change, condition by condition: "A change is accepted
+-- exactly when the kept record has an NT hash, flag bit 0 is set, the opened block's length is even
+-- and at most 512, the old hash under the new hash is the one sent, and the NT response equals that
+-- of the new hash and the challenge in force. Bit 1 and the LM fields are ignored." That `newHash`
+-- (specs/Change) says the same is proved in proofs/Accepted.
 -- Assumes nothing: these are definitions.
 use mathlib.Core.Bool.{true}
 use mathlib.Core.List.{List}
@@ -11,7 +12,8 @@ use Rattle.credentials.specs.Credentials.{ntHashOf, responseOf, oldUnderNew, le
 use Rattle.packets.specs.declared.Change.{Change}
 use Rattle.authenticator.specs.declared.Conversation.{Conversation}
 
--- the length that the block gives, opened under the kept record's NT hash, and the hash of the password of that length
+-- the length that the block gives, opened under the kept record's NT hash, and the hash of the
+-- password of that length
 abbrev pub lengthFor : Conversation → Change → ℕ
 lengthFor c f = lengthUnder (c .kept .nt .octets) (f .block)
 

@@ -32,8 +32,8 @@ stepOn c s = step c (s .packet) (s .account) (s .buffer)
 abbrev pub replyOf : Outcome → List ℕ
 replyOf o = take (o .answer .written) (o .buffer)
 
--- What is seen of a reply: octets were written, or the buffer is not as it was. A box that lays a reply into the buffer
--- and calls the packet refused, with nothing written, drew one all the same.
+-- What is seen of a reply: octets were written, or the buffer is not as it was. A box that lays a
+-- reply into the buffer and calls the packet refused, with nothing written, drew one all the same.
 abbrev pub drewReply : Outcome → List ℕ → Bool
 drewReply o before = ltb 0 (o .answer .written) || not (agrees (o .buffer) before)
 
@@ -50,13 +50,15 @@ module _ (box : Box) where
   abbrev pub judged : Conversation → Lent → ℕ
   judged c s = cond (drewReply (box c s) (s .buffer)) 1 0
 
-  -- A packet "with which the box refuses it": it draws no reply, or document 01's table refuses it. So the box's own word
-  -- for what it did counts for nothing, and a box that judges what it should refuse is held to the claim too.
+  -- A packet "with which the box refuses it": it draws no reply, or document 01's table refuses it.
+  -- So the box's own word for what it did counts for nothing, and a box that judges what it should
+  -- refuse is held to the claim too.
   abbrev pub Refused : Conversation → Lent → Type 0
   Refused c s = (judged c s ≡ 0) ⊎ (refusalOf c (s .packet) (s .buffer) ≢ 0)
 
-  -- "A refused packet leaves conversation, account record and reply buffer as they were" (demand 1): a step that draws no
-  -- reply, which leaves the buffer, leaves the conversation too and hands out no record.
+  -- "A refused packet leaves conversation, account record and reply buffer as they were" (demand
+  -- 1): a step that draws no reply, which leaves the buffer, leaves the conversation too and hands
+  -- out no record.
   abbrev pub Leaves : Conversation → Lent → Type 0
   Leaves c s = judged c s ≡ 0 → (nextAfter c s ≡ c) × (box c s .answer .handed .found ≡ false)
 

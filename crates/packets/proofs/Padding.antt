@@ -1,5 +1,6 @@
--- "Octets after Length are padding and ignored" (document 01; RFC 1994, section 4): a packet with a good frame, cut at its Length with any
--- octets behind, is read as the packet is, by every reader and whatever the packet holds.
+-- "Octets after Length are padding and ignored" (document 01; RFC 1994, section 4): a packet with a
+-- good frame, cut at its Length with any octets behind, is read as the packet is, by every reader
+-- and whatever the packet holds.
 -- Assumes nothing.
 use mathlib.Core.Bool.{Bool, true, false, cond, not, _||_}
 use mathlib.Core.List.{List, [], _∷_, _++_}

@@ -1,5 +1,5 @@
--- Many boxes on one list: an opening that needs nothing more is not refused, no challenge is put in force by two openings, and no
--- recorded answer or change is right in two conversations.
+-- Many boxes on one list: an opening that needs nothing more is not refused, no challenge is put in
+-- force by two openings, and no recorded answer or change is right in two conversations.
 -- Assumes nothing.
 use mathlib.Core.Bool.{Bool, true, false, cond, _&&_, false≢true}
 use mathlib.Core.List.{List, [], _∷_, _++_}

@@ -1,5 +1,6 @@
--- The claim about one list shuts out an opener that refuses everything, one that hands out a conversation with a refusal, one that leaves
--- the list as it was, and one that spends the challenge alone.
+-- The claim about one list shuts out an opener that refuses everything, one that hands out a
+-- conversation with a refusal, one that leaves the list as it was, and one that spends the
+-- challenge alone.
 -- Assumes nothing.
 use mathlib.Core.Bool.{true≢false}
 use mathlib.Core.List.{List, [], _∷_, _++_, flatten}
@@ -48,7 +49,8 @@ not-refusing-to-open n claim = true≢false (ap (λ (c : Conversation). isEnded 
 
 -- ---- a conversation is handed out with a refusal
 
--- the first one's challenge again, on the list that it left: refused with 16, and put in force all the same
+-- the first one's challenge again, on the list that it left: refused with 16, and put in force all
+-- the same
 pub not-opening-refused : NoneTwice opensRefused → ⊥
 not-opening-refused claim = claim (emptyList 8 6) first again both [] [] refl
   where

@@ -1,5 +1,6 @@
--- Demand 3 holds of no box that judges as ours does and answers otherwise what ours refuses: lays the reply into the buffer and says
--- that it refused, hands out the record that was lent, changes the conversation, ends it unseen, or judges the packet after all.
+-- Demand 3 holds of no box that judges as ours does and answers otherwise what ours refuses: lays
+-- the reply into the buffer and says that it refused, hands out the record that was lent, changes
+-- the conversation, ends it unseen, or judges the packet after all.
 -- Assumes nothing.
 use mathlib.Core.Bool.{true, false, cond, true≢false}
 use mathlib.Core.List.{List, [], _∷_}
@@ -37,7 +38,8 @@ first = firstConversation (opening (Count 1))
 first-once : opened (opening (Count 1)) .conversation ≡ first
 first-once = opened-first (opening (Count 1)) opens-once
 
--- a Response under another identifier than 255, which the first conversation awaits: our box refuses it with 5
+-- a Response under another identifier than 255, which the first conversation awaits: our box
+-- refuses it with 5
 abbrev stray : Lent
 stray = try 9
 

@@ -1,4 +1,5 @@
--- Demand 3 holds of no writer that refuses everything, and of none that asks for the LM response to be judged.
+-- Demand 3 holds of no writer that refuses everything, and of none that asks for the LM response to
+-- be judged.
 -- Assumes nothing.
 use mathlib.Core.Bool.{Bool, true, false, cond, _&&_}
 use mathlib.Core.List.{List, [], _∷_, _++_}
@@ -59,7 +60,8 @@ not-refusing-to-write n h =
 
 -- ---- asks for the LM response to be judged
 
--- with the flag 0, where LM is not allowed, no Response draws Success: it is refused, or draws a Failure
+-- with the flag 0, where LM is not allowed, no Response draws Success: it is refused, or draws a
+-- Failure
 module _ (c : Conversation) (lm : c .terms .lm ≡ false) (ph : c .phase ≡ Response) (s : Lent) (flag : responseIn (s .packet) .flag ≡ 0)
     (room : 17 ≤ length (s .buffer)) where
   not-valid : valid c (s .account .account) (responseIn (s .packet)) ≡ false

@@ -1,5 +1,6 @@
--- Our box, and wrong ones: one that refuses everything, and boxes that are ours but for one slip each. Demand 3 holds of ours
--- (proofs/Demand3) and of none of the others (proofs/Wrong, WrongRefusals).
+-- Our box, and wrong ones: one that refuses everything, and boxes that are ours but for one slip
+-- each. Demand 3 holds of ours (proofs/Demand3) and of none of the others (proofs/Wrong,
+-- WrongRefusals).
 -- Assumes nothing: these are definitions.
 use mathlib.Core.Bool.{true, cond}
 use Prim.Native.Nat.{ℕ}
@@ -61,8 +62,8 @@ neverCounts c s =
 abbrev pub answeringRefused : Box → Box
 answeringRefused f c s = cond (eqb (refusalAt stepOn c s) 0) (stepOn c s) (f c s)
 
--- says that it refuses, and lays the reply that the packet would have earned into the buffer: with it a password can be
--- guessed without end
+-- says that it refuses, and lays the reply that the packet would have earned into the buffer: with
+-- it a password can be guessed without end
 abbrev pub laysReply : Box
 laysReply c s =
     record {

@@ -48,8 +48,9 @@ module _ (opener : Opener) where
   abbrev pub OnOneList : Issued → List Opening → Type 0
   OnOneList i os = Along leftBy LentTo i os
 
-  -- An opening was not refused, by what is seen of it: it hands out a conversation that goes on. The number that it answers
-  -- counts for nothing here: one that names a refusal and hands out a conversation is held to the claim too.
+  -- An opening was not refused, by what is seen of it: it hands out a conversation that goes on.
+  -- The number that it answers counts for nothing here: one that names a refusal and hands out a
+  -- conversation is held to the claim too.
   abbrev pub Opens : Opening → Type 0
   Opens o = isEnded (opener .answer o .conversation .phase) ≡ false
 
@@ -84,8 +85,9 @@ module _ (opener : Opener) where
       (i : Issued) (first second : Opening) → Two i first second → (ss ts : List Lent) (a : Account) (f : Response)
       → valid (reached first ss) a f ≡ true → valid (reached second ts) a f ≡ false
 
-  -- Nor does a recorded change: one that is accepted in one conversation gives that new hash in no other, whatever record was kept
-  -- there, and is not accepted in another whose kept record has the same NT hash.
+  -- Nor does a recorded change: one that is accepted in one conversation gives that new hash in no
+  -- other, whatever record was kept there, and is not accepted in another whose kept record has the
+  -- same NT hash.
   abbrev pub NoneChangedTwice : Type 0
   NoneChangedTwice =
       (i : Issued) (first second : Opening) → Two i first second → (ss ts : List Lent) (f : Change) (h : List ℕ)
@@ -93,8 +95,8 @@ module _ (opener : Opener) where
       → (newHash (reached second ts) f ≢ some h)
       × (reached second ts .kept .nt .octets ≡ reached first ss .kept .nt .octets → newHash (reached second ts) f ≡ none)
 
-  -- An opening that needs nothing more is not refused: it hands out the conversation, and writes the Challenge. Without it an opener that
-  -- refuses everything would meet the rest.
+  -- An opening that needs nothing more is not refused: it hands out the conversation, and writes
+  -- the Challenge. Without it an opener that refuses everything would meet the rest.
   abbrev pub MayOpen : Type 0
   MayOpen =
       (o : Opening) → Openable o

@@ -98,9 +98,9 @@ pub record Exchange : Type 0 where
 
 -- ---- the premises
 
--- "The limits are kept when our peer's calls and the steps that take its packets meet none of 2, 8, 9, 10 and 12." They are
--- said of what is lent, by the rules of these refusals, and not of what box or writer answers: so neither gets out of the
--- claim by refusing.
+-- "The limits are kept when our peer's calls and the steps that take its packets meet none of 2, 8,
+-- 9, 10 and 12." They are said of what is lent, by the rules of these refusals, and not of what box
+-- or writer answers: so neither gets out of the claim by refusing.
 pub record TryWithin (password name : List ℕ) (l : Lending) : Type 0 where
   pub not8 : badNtPassword password ≡ false
   pub not10 : badName name ≡ false
@@ -179,7 +179,8 @@ module _ (box : Box) (writer : Writer) where
   abbrev pub later : Opening → List ℕ → List Lent → State
   later o behind ss = record { conversation = end (nextAfter box) (opened o .conversation) ss; peer = start o behind .peer }
 
-  -- A record "lets a password in at the first Response of a later conversation", "under the same limits".
+  -- A record "lets a password in at the first Response of a later conversation", "under the same
+  -- limits".
   abbrev pub LetsIn : Account → List ℕ → Type 0
   LetsIn a password =
       (o : Opening) (behind name : List ℕ) (ss : List Lent) (l : Lending) → opened o .refusal ≡ 0 → length (o .challenge) ≡ 8
@@ -199,10 +200,12 @@ module _ (box : Box) (writer : Writer) where
   Claimed a p (ours t l) = Answered a (p .peer .turn .id) t (exchange p t l) × (exchange p t l .wrote .answer .refusal ≡ 0)
   Claimed a p (other s) = Unit {0}
 
-  -- "A single claim about the series from opening to end": the Challenge is read; each packet of our peer is written and draws what it should; "with
-  -- k invalid tries the box judges exactly k + 1 packets, or k + 2 with the record expired", and the conversation has ended; of any steps at all it
-  -- judges at most r + 2, and a step whose packet it does not judge leaves all as it was. It holds of our box and writer (proofs/Demand3), and of none
-  -- of the wrong ones in specs/Boxes and specs/Writers (proofs/Wrong, WrongWriters).
+  -- "A single claim about the series from opening to end": the Challenge is read; each packet of
+  -- our peer is written and draws what it should; "with k invalid tries the box judges exactly k +
+  -- 1 packets, or k + 2 with the record expired", and the conversation has ended; of any steps at
+  -- all it judges at most r + 2, and a step whose packet it does not judge leaves all as it was. It
+  -- holds of our box and writer (proofs/Demand3), and of none of the wrong ones in specs/Boxes and
+  -- specs/Writers (proofs/Wrong, WrongWriters).
   abbrev pub Demand3 : Type 0
   Demand3 =
       (o : Opening) → opened o .refusal ≡ 0 → length (o .challenge) ≡ 8

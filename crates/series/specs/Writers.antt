@@ -1,4 +1,5 @@
--- Our peer's writer, and wrong ones. Demand 3 holds of ours (proofs/Demand3) and of none of the others (proofs/WrongWriters).
+-- Our peer's writer, and wrong ones. Demand 3 holds of ours (proofs/Demand3) and of none of the
+-- others (proofs/WrongWriters).
 -- Assumes nothing: these are definitions.
 use mathlib.Core.List.{List}
 use Prim.Native.Nat.{ℕ}
@@ -7,8 +8,8 @@ use Rattle.packets.specs.declared.Response.{Response}
 use Rattle.peer.specs.Write.{Wrote, responseFields, writeResponseRefusal, wroteBy, writeResponse, writeChange}
 use Rattle.peer.specs.declared.Turn.{Turn}
 
--- what a writer of our peer's two packets answers and leaves in its output buffer: a Response from a turn, a password and a
--- name; a change from a turn, the old and the new password and the filler
+-- what a writer of our peer's two packets answers and leaves in its output buffer: a Response from
+-- a turn, a password and a name; a change from a turn, the old and the new password and the filler
 pub record Writer : Type 0 where
   pub response : Turn → List ℕ → List ℕ → List ℕ → Wrote
   pub change : Turn → List ℕ → List ℕ → List ℕ → List ℕ → Wrote
