@@ -1,4 +1,5 @@
--- The peer's turns (document 01, "What the peer reads"). A Challenge and a reply are read by `packets`.
+-- The peer's turns (document 01, "What the peer reads"). A Challenge and a reply are read by
+-- `packets`.
 -- Assumes nothing: these are definitions.
 use mathlib.Core.Bool.{cond}
 use Rattle.message.specs.declared.Reading.{Reading}
@@ -9,6 +10,7 @@ use Rattle.message.specs.declared.Call.{Call}
 use Rattle.message.specs.declared.Call.the-variants.{Retry, ChangeTwo, ChangeOne, End}
 use Rattle.packets.specs.Next.{nextId, grown}
 use Rattle.packets.specs.declared.Asked.{Asked}
+use Rattle.peer.specs.declared.Peer.{Peer}
 use Rattle.peer.specs.declared.Turn.{Turn}
 use Rattle.peer.specs.declared.Sent.{Sent}
 
@@ -26,7 +28,8 @@ sameTurn s = record { id = s .id; challenge = s .challenge }
 
 -- a retry takes C where given, else the 23 rule
 abbrev pub retryTurn : Sent → Given → Turn
-retryTurn s c = record { id = nextId (s .id); challenge = cond (c .given) (c .octets) (grown (s .challenge)) }
+retryTurn s c =
+    record { id = nextId (s .id); challenge = cond (c .given) (c .octets) (grown (s .challenge)) }
 
 -- a change uses the last Response's challenge, whatever C says
 abbrev pub changeTurn : Sent → Turn
@@ -38,10 +41,11 @@ turnFor ChangeTwo s c = changeTurn s
 turnFor ChangeOne s c = sameTurn s
 turnFor End s c = sameTurn s
 
-abbrev pub turnAfter : Verdict → Sent → Given → Turn
-turnAfter Success s c = sameTurn s
-turnAfter (Failure f) s c = turnFor (f .call) s c
-turnAfter (Refused n) s c = sameTurn s
+-- by what was sent; a packet that is refused leaves the turn as it was
+abbrev pub turnAfter : Verdict → Peer → Given → Turn
+turnAfter Success q c = sameTurn (q .sent)
+turnAfter (Failure f) q c = turnFor (f .call) (q .sent) c
+turnAfter (Refused n) q c = q .turn
 
-unfoldable pub nextTurn : Sent → Reading → Turn
-nextTurn s r = turnAfter (r .verdict) s (r .c)
+unfoldable pub nextTurn : Peer → Reading → Turn
+nextTurn q r = turnAfter (r .verdict) q (r .c)

@@ -1,12 +1,10 @@
-// The peer: what it sent, its next turn from what it reads, and its two packets.
+// The peer: what it keeps from one packet to the next, and what it reads and writes.
+mod peers;
 mod turns;
 mod writes;
 
-pub use turns::first_turn;
-pub use turns::next_turn;
-pub use turns::sent_for;
-pub use writes::write_change;
-pub use writes::write_response;
+use message::Reading;
+use packets::Written;
 
 // The identifier and the challenge of the peer's next packet.
 pub struct Turn {
@@ -14,9 +12,33 @@ pub struct Turn {
     pub challenge: [u8; 8],
 }
 
-// The last packet that the peer sent: its identifier, and the challenge of the last Response. Reading leaves it alone, so that a reply may be
-// read again.
+// The last packet that the peer sent: its identifier, and the challenge of the last Response.
+// Reading leaves it alone, so that a reply may be read again.
 pub struct Sent {
     pub id: u8,
     pub challenge: [u8; 8],
+}
+
+// A peer is a value: reading and writing take it and give back the next.
+pub struct Peer {
+    pub sent: Sent,
+    pub turn: Turn,
+}
+
+// A Challenge was read: the refusal (0 is none), and the peer, of fixed values beside a refusal.
+pub struct ChallengeRead {
+    pub refusal: u8,
+    pub peer: Peer,
+}
+
+// A packet was written: what its writer answers, and the peer, as it was beside a refusal.
+pub struct PacketWritten {
+    pub written: Written,
+    pub peer: Peer,
+}
+
+// A reply was read: what it says, and the peer, as it was beside a refusal.
+pub struct ReplyRead {
+    pub reading: Reading,
+    pub peer: Peer,
 }

@@ -1,4 +1,5 @@
 // The peer's turns: the first, from a Challenge, and the next, from what a reply says.
+use crate::Peer;
 use crate::Sent;
 use crate::Turn;
 use message::Call;
@@ -12,7 +13,7 @@ ghost use Rattle.packets.specs.Next.{grown};
 ghost use Rattle.peer.specs.Turn.{firstTurn, sentFor, sameTurn, retryTurn, changeTurn, turnFor, nextTurn};
 
 // The turn that a Challenge asks for.
-pub fn first_turn(asked: Asked) -> Turn
+pub(crate) fn first_turn(asked: Asked) -> Turn
     ensures { λ r. ⌜ r ≡ firstTurn asked ⌝ }
 {
     let challenge = asked.challenge;
@@ -23,7 +24,7 @@ pub fn first_turn(asked: Asked) -> Turn
 }
 
 // What was sent, once the packet of a turn is written.
-pub fn sent_for(turn: Turn) -> Sent
+pub(crate) fn sent_for(turn: Turn) -> Sent
     ensures { λ r. ⌜ r ≡ sentFor turn ⌝ }
 {
     let challenge = turn.challenge;
@@ -87,11 +88,12 @@ fn turn_for(call: Call, sent: Sent, c: Given) -> Turn
     }
 }
 
-// The turn after a reading. A turn is to be taken where the verdict calls for a retry or a version 2 change.
-pub fn next_turn(sent: Sent, reading: Reading) -> Turn
-    ensures { λ r. ⌜ r ≡ nextTurn sent reading ⌝ }
+// The turn after a reading; as it was where the packet is refused.
+pub(crate) fn next_turn(peer: Peer, reading: Reading) -> Turn
+    ensures { λ r. ⌜ r ≡ nextTurn peer reading ⌝ }
 {
     let verdict = reading.verdict;
+    let sent = peer.sent;
     let c = reading.c;
     match verdict {
         Verdict::Success => same_turn(sent),
@@ -99,6 +101,9 @@ pub fn next_turn(sent: Sent, reading: Reading) -> Turn
             let call = failed.call;
             turn_for(call, sent, c)
         }
-        Verdict::Refused(_) => same_turn(sent),
+        Verdict::Refused(_) => {
+            let turn = peer.turn;
+            turn
+        }
     }
 }

@@ -28,7 +28,7 @@ fn response_fields(hash: [u8; 16], challenge: [u8; 8]) -> Response
 }
 
 // Writes a Response from a password at the front of out. Refusal 8: the password; 10: the name; 9: too little room.
-pub fn write_response(turn: Turn, password: &[u8], name: &[u8], out: &mut [u8]) -> Written
+pub(crate) fn write_response(turn: Turn, password: &[u8], name: &[u8], out: &mut [u8]) -> Written
     ensures { λ r. ⌜ (r ≡ writeResponse turn (now (password .entry)) (now (name .entry)) (now (out .entry)) .answer) × (now (out .exit) ≡ writeResponse turn (now (password .entry)) (now (name .entry)) (now (out .entry)) .out) ⌝ }
 {
     let hashed = credentials::nt_hash(password);
@@ -60,7 +60,13 @@ fn change_fields(old: [u8; 16], new: [u8; 16], block: [u8; 516], challenge: [u8;
 
 // Writes a version 2 change from the old and the new password at the front of out. Refusal 8: either password; 12: the filler; 9: too little
 // room.
-pub fn write_change(turn: Turn, old: &[u8], new: &[u8], filler: &[u8], out: &mut [u8]) -> Written
+pub(crate) fn write_change(
+    turn: Turn,
+    old: &[u8],
+    new: &[u8],
+    filler: &[u8],
+    out: &mut [u8],
+) -> Written
     ensures { λ r. ⌜ (r ≡ writeChange turn (now (old .entry)) (now (new .entry)) (now (filler .entry)) (now (out .entry)) .answer) × (now (out .exit) ≡ writeChange turn (now (old .entry)) (now (new .entry)) (now (filler .entry)) (now (out .entry)) .out) ⌝ }
 {
     let before = credentials::nt_hash(old);

@@ -5,7 +5,6 @@ use mathlib.Core.List.{List, _++_}
 use mathlib.Core.Path.{_≡_, ap, ap₂, _∙_}
 use Prim.Native.Nat.{ℕ, _≤_}
 use native.Mathlib.Omega.{arith}
-use lib.Dec.{eqb}
 use lib.ListN.{length}
 use Rattle.message.specs.declared.Reading.{Reading}
 use Rattle.packets.specs.Reply.{readReply}
@@ -18,12 +17,17 @@ use Rattle.authenticator.proofs.Written.{Fits}
 use Rattle.peer.specs.Turn.{sentFor, nextTurn}
 use Rattle.peer.specs.Write.{Wrote}
 use Rattle.peer.specs.Peer.{sending, receiving}
-use Rattle.peer.specs.declared.Sent.{Sent}
+use Rattle.peer.specs.declared.Peer.{Peer}
+use Rattle.peer.specs.declared.Turn.{Turn}
 use Rattle.series.specs.Series.{Lending, State, reaching, carried, Draws}
 
-place-same : {b b' : Conversation} {s s' : Sent} {r r' : Reading} → b ≡ b' → s ≡ s' → r ≡ r'
-    → _≡_ {A = State} (record { conversation = b; peer = record { sent = s; turn = nextTurn s r } })
-    (record { conversation = b'; peer = record { sent = s'; turn = nextTurn s' r' } })
+-- our peer once the packet of a turn was sent
+abbrev pub sentBy : Turn → Peer
+sentBy t = record { sent = sentFor t; turn = t }
+
+place-same : {b b' : Conversation} {q q' : Peer} {r r' : Reading} → b ≡ b' → q ≡ q' → r ≡ r'
+    → _≡_ {A = State} (record { conversation = b; peer = record { sent = q .sent; turn = nextTurn q r } })
+    (record { conversation = b'; peer = record { sent = q' .sent; turn = nextTurn q' r' } })
 place-same e f g = cc
 
 pub record Exchanged (p : State) (w : Wrote) (l : Lending) (d : Drawn) (reading : Reading) : Type 0 where
@@ -31,19 +35,19 @@ pub record Exchanged (p : State) (w : Wrote) (l : Lending) (d : Drawn) (reading 
   pub judges : judged stepOn (p .conversation) (reaching w l) ≡ 1
   pub leads : _≡_ {A = State}
       (record { conversation = carried stepOn p w l .outcome .answer .next; peer = receiving (carried stepOn p w l .peer) (carried stepOn p w l .reply) })
-      (record { conversation = d .next; peer = record { sent = sentFor (p .peer .turn); turn = nextTurn (sentFor (p .peer .turn)) reading } })
+      (record { conversation = d .next; peer = record { sent = sentFor (p .peer .turn); turn = nextTurn (sentBy (p .peer .turn)) reading } })
 
 module _ (p : State) (w : Wrote) (l : Lending) (d : Drawn) (reading : Reading) (zero : w .answer .refusal ≡ 0) (room : 17 ≤ length (l .buffer))
     (fits : Fits (d .reply)) (took : stepOn (p .conversation) (reaching w l) ≡ judgedAs d (l .buffer))
     (heard : readReply (p .peer .turn .id) (d .reply ++ l .replyPadding) ≡ reading) where
-  sent-same : sending (p .peer) (w .answer) .sent ≡ sentFor (p .peer .turn)
-  sent-same = ap (λ (n : ℕ). cond (eqb n 0) (sentFor (p .peer .turn)) (p .peer .sent)) zero
+  sent-same : sending (p .peer) (w .answer) ≡ sentBy (p .peer .turn)
+  sent-same = rw zero
 
   reply-same : replyOf (stepOn (p .conversation) (reaching w l)) ≡ d .reply
   reply-same = ap replyOf took ∙ reply-of d (l .buffer) (omega arith)
 
   read-same : readReply (sending (p .peer) (w .answer) .sent .id) (replyOf (stepOn (p .conversation) (reaching w l)) ++ l .replyPadding) ≡ reading
-  read-same = ap₂ (λ (s : Sent) (r : List ℕ). readReply (s .id) (r ++ l .replyPadding)) sent-same reply-same ∙ heard
+  read-same = ap₂ (λ (q : Peer) (r : List ℕ). readReply (q .sent .id) (r ++ l .replyPadding)) sent-same reply-same ∙ heard
 
   pub exchanged : Exchanged p w l d reading
   exchanged =

@@ -23,11 +23,12 @@ use Rattle.authenticator.specs.declared.Phase.the-variants.{Response, Change, E
 use Rattle.authenticator.proofs.Written.{Fits, success-fits, failure-fits}
 use Rattle.authenticator.proofs.Judged.{expiry, accepted}
 use Rattle.authenticator.proofs.Openings.{opened-first}
-use Rattle.peer.specs.Turn.{sentFor, nextTurn}
+use Rattle.peer.specs.Turn.{nextTurn}
 use Rattle.peer.specs.declared.Turn.{Turn}
 use Rattle.series.specs.Series.{Kind, Invalid, Right, Renewal, plan, start}
 use Rattle.series.proofs.RoundTrips.{challenge-read}
 use Rattle.series.proofs.Taken.{InStep}
+use Rattle.series.proofs.Exchanged.{sentBy}
 
 -- ---- the conversation is fit for the packets that are due
 
@@ -73,20 +74,20 @@ right-fits false c a = success-fits (c .id)
 
 module _ (c : Conversation) (t : Turn) (h : InStep c t) where
   -- after 691, R=1
-  pub retried-in-step : InStep (retried c) (nextTurn (sentFor t) (failedWith 691 1 2 noC))
+  pub retried-in-step : InStep (retried c) (nextTurn (sentBy t) (failedWith 691 1 2 noC))
   unfolding nextTurn calledFor
   retried-in-step = record { id = ap nextId (h .id); challenge = ap grown (h .challenge) }
 
   -- after 648
-  kept-in-step : (a : Account) → InStep (keeping c a) (nextTurn (sentFor t) (failedWith 648 0 2 noC))
+  kept-in-step : (a : Account) → InStep (keeping c a) (nextTurn (sentBy t) (failedWith 648 0 2 noC))
   unfolding nextTurn calledFor
   kept-in-step a = record { id = ap nextId (h .id); challenge = h .challenge }
 
-  pub ended-in-step : InStep (ended c) (nextTurn (sentFor t) succeeded)
+  pub ended-in-step : InStep (ended c) (nextTurn (sentBy t) succeeded)
   unfolding nextTurn
   ended-in-step = record { id = h .id; challenge = h .challenge }
 
-  pub right-in-step : (x : Bool) (a : Account) → InStep (drawnRight x c a .next) (nextTurn (sentFor t) (readRight x))
+  pub right-in-step : (x : Bool) (a : Account) → InStep (drawnRight x c a .next) (nextTurn (sentBy t) (readRight x))
   right-in-step true a = kept-in-step a
   right-in-step false a = ended-in-step
 

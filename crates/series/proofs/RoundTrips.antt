@@ -24,7 +24,8 @@ use Rattle.authenticator.specs.declared.Conversation.{Conversation}
 use Rattle.authenticator.proofs.Openings.{opened-written}
 use Rattle.authenticator.proofs.Replies.{readFor, judged-read}
 use Rattle.peer.specs.Write.{responseFields, changeFields, responseFor, writeResponse, writeChange}
-use Rattle.peer.specs.Peer.{Peer, reads}
+use Rattle.peer.specs.Peer.{reads}
+use Rattle.peer.specs.declared.Peer.{Peer}
 use Rattle.peer.specs.declared.Turn.{Turn}
 use Rattle.peer.proofs.Found.{response-found, change-found}
 use Rattle.peer.proofs.Left.{left, name-fits, response-left, new-fits, filler-full, change-left}

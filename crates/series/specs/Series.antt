@@ -21,7 +21,8 @@ use Rattle.authenticator.specs.declared.Lookup.{Lookup}
 use Rattle.authenticator.specs.declared.Conversation.{Conversation}
 use Rattle.authenticator.specs.declared.Phase.the-variants.{Ended}
 use Rattle.peer.specs.Write.{Wrote}
-use Rattle.peer.specs.Peer.{Peer, asked, sending, reads, receiving}
+use Rattle.peer.specs.Peer.{asked, sending, reads, receiving}
+use Rattle.peer.specs.declared.Peer.{Peer}
 use Rattle.peer.specs.declared.Turn.{Turn}
 use Rattle.series.specs.Course.{collect, end, Along, total}
 use Rattle.series.specs.Writers.{Writer}

@@ -1,0 +1,108 @@
+// The peer's methods: what it reads and writes, and what that makes of it.
+use crate::ChallengeRead;
+use crate::PacketWritten;
+use crate::Peer;
+use crate::ReplyRead;
+use crate::Sent;
+use crate::turns::first_turn;
+use crate::turns::next_turn;
+use crate::turns::sent_for;
+use crate::writes::write_change;
+use crate::writes::write_response;
+use packets::Asked;
+use packets::Written;
+ghost use mathlib.Core.Path.{_≡_};
+ghost use Rattle.packets.specs.Reply.{readChallenge};
+ghost use Rattle.peer.specs.Write.{writeResponse, writeChange};
+ghost use Rattle.peer.specs.Peer.{asked, sending, Writes, Reads};
+
+fn after_challenge(read: Asked) -> Peer
+    ensures { λ r. ⌜ r ≡ asked read ⌝ }
+{
+    let sent = Sent {
+        id: 0,
+        challenge: [0; 8],
+    };
+    let turn = first_turn(read);
+    Peer { sent, turn }
+}
+
+impl Peer {
+    // Reads a Challenge: the peer that is to answer it. Refusal 3: the frame; 11: another kind, cut
+    // short, or of a size other than 8.
+    pub fn read_challenge(packet: &[u8]) -> ChallengeRead
+        ensures { λ r. ⌜ r ≡ record {
+          refusal = readChallenge (now (packet .entry)) .refusal;
+          peer = asked (readChallenge (now (packet .entry)));
+        } ⌝ }
+    {
+        let read = packets::read_challenge(packet);
+        let peer = after_challenge(read);
+        ChallengeRead {
+            refusal: read.refusal,
+            peer,
+        }
+    }
+
+    // The peer once a writer has answered: a packet that was refused was not sent.
+    fn after_writing(self, written: Written) -> Peer
+        ensures { λ r. ⌜ r ≡ sending self written ⌝ }
+    {
+        if written.refusal != 0 {
+            return self;
+        }
+        let turn = self.turn;
+        let sent = sent_for(turn);
+        Peer { sent, turn }
+    }
+
+    // Writes the Response of the turn from a password at the front of out. Refusal 8: the password;
+    // 10: the name; 9: too little room. What was written counts as sent.
+    pub fn write_response(self, password: &[u8], name: &[u8], out: &mut [u8]) -> PacketWritten
+        ensures { λ r. ⌜ Writes self
+            (writeResponse (self .turn) (now (password .entry)) (now (name .entry))
+            (now (out .entry)))
+            r (now (out .exit)) ⌝ }
+    {
+        let turn = self.turn;
+        let written = write_response(turn, password, name, out);
+        let peer = self.after_writing(written);
+        PacketWritten { written, peer }
+    }
+
+    // Writes the version 2 change of the turn from the old and the new password at the front of
+    // out. Refusal 8: either password; 12: the filler; 9: too little room. What was written counts
+    // as sent.
+    pub fn write_change(
+        self,
+        old: &[u8],
+        new: &[u8],
+        filler: &[u8],
+        out: &mut [u8],
+    ) -> PacketWritten
+        ensures { λ r. ⌜ Writes self
+            (writeChange (self .turn) (now (old .entry)) (now (new .entry)) (now (filler .entry))
+            (now (out .entry)))
+            r (now (out .exit)) ⌝ }
+    {
+        let turn = self.turn;
+        let written = write_change(turn, old, new, filler, out);
+        let peer = self.after_writing(written);
+        PacketWritten { written, peer }
+    }
+
+    // Reads the reply to the last packet, and makes the next turn from it. A packet is to be sent
+    // where the verdict calls for a retry or a version 2 change. Refusal 3: the frame; 5: another
+    // identifier; 11: another kind, or by the message.
+    pub fn read_reply(self, packet: &[u8]) -> ReplyRead
+        ensures { λ r. ⌜ Reads self (now (packet .entry)) r ⌝ }
+    {
+        let sent = self.sent;
+        let reading = packets::read_reply(sent.id, packet);
+        let turn = next_turn(self, reading);
+        ReplyRead {
+            reading,
+            peer: Peer { sent, turn },
+        }
+    }
+}
