@@ -1,7 +1,7 @@
 -- The peer's turns (document 01, "What the peer reads"). A Challenge and a reply are read by
 -- `packets`.
 -- Assumes nothing: these are definitions.
-use mathlib.Core.Bool.{cond}
+use mathlib.Core.Bool.{true, cond}
 use Rattle.message.specs.declared.Reading.{Reading}
 use Rattle.message.specs.declared.Given.{Given}
 use Rattle.message.specs.declared.Verdict.{Verdict}
@@ -20,7 +20,7 @@ firstTurn a = record { id = a .id; challenge = a .challenge }
 
 -- what was sent, once the packet of a turn is written
 abbrev pub sentFor : Turn → Sent
-sentFor t = record { id = t .id; challenge = t .challenge }
+sentFor t = record { present = true; id = t .id; challenge = t .challenge }
 
 -- nothing is to be sent: the turn of the last packet
 abbrev pub sameTurn : Sent → Turn

@@ -9,10 +9,15 @@ use crate::turns::next_turn;
 use crate::turns::sent_for;
 use crate::writes::write_change;
 use crate::writes::write_response;
+use message::Reading;
 use packets::Asked;
 use packets::Written;
+ghost use mathlib.Core.Bool.{cond};
+ghost use mathlib.Core.List.{[]};
 ghost use mathlib.Core.Path.{_≡_};
-ghost use Rattle.packets.specs.Reply.{readChallenge};
+ghost use Rattle.message.specs.Message.{numberOf, valuesOf, refusedWith};
+ghost use Rattle.packets.specs.Frame.{badFrame};
+ghost use Rattle.packets.specs.Reply.{readChallenge, readReply, replyRefusal, replyValues};
 ghost use Rattle.peer.specs.Write.{writeResponse, writeChange};
 ghost use Rattle.peer.specs.Peer.{asked, sending, Writes, Reads};
 
@@ -20,11 +25,30 @@ fn after_challenge(read: Asked) -> Peer
     ensures { λ r. ⌜ r ≡ asked read ⌝ }
 {
     let sent = Sent {
+        present: false,
         id: 0,
         challenge: [0; 8],
     };
     let turn = first_turn(read);
     Peer { sent, turn }
+}
+
+// The refusal of a reply that comes before any packet was sent: 3 by the frame, else 5.
+fn refusal_before(packet: &[u8]) -> u8
+    ensures { λ r. ⌜ r ≡ cond (badFrame (now (packet .entry))) 3 5 ⌝ }
+{
+    if packets::frame_refusal(packet) == 3 { 3 } else { 5 }
+}
+
+// What a packet says as the reply to the last one that was sent; where none was, no packet has its
+// identifier.
+fn reading_after(sent: Sent, packet: &[u8]) -> Reading
+    ensures { λ r. ⌜ (r ≡ cond (sent .present) (readReply (sent .id) (now (packet .entry))) (refusedWith (cond (badFrame (now (packet .entry))) 3 5))) × (numberOf (r .verdict) ≡ cond (sent .present) (replyRefusal (sent .id) (now (packet .entry))) (cond (badFrame (now (packet .entry))) 3 5)) × (valuesOf (r .verdict) ≡ cond (sent .present) (replyValues (sent .id) (now (packet .entry))) []) ⌝ }
+{
+    if sent.present {
+        return packets::read_reply(sent.id, packet);
+    }
+    message::refused_with(refusal_before(packet))
 }
 
 impl Peer {
@@ -98,7 +122,7 @@ impl Peer {
         ensures { λ r. ⌜ Reads self (now (packet .entry)) r ⌝ }
     {
         let sent = self.sent;
-        let reading = packets::read_reply(sent.id, packet);
+        let reading = reading_after(sent, packet);
         let turn = next_turn(self, reading);
         ReplyRead {
             reading,

@@ -29,6 +29,7 @@ pub(crate) fn sent_for(turn: Turn) -> Sent
 {
     let challenge = turn.challenge;
     Sent {
+        present: true,
         id: turn.id,
         challenge,
     }

@@ -16,7 +16,7 @@ use Rattle.authenticator.proofs.Steps.{reply-of, judged-as}
 use Rattle.authenticator.proofs.Written.{Fits}
 use Rattle.peer.specs.Turn.{sentFor, nextTurn}
 use Rattle.peer.specs.Write.{Wrote}
-use Rattle.peer.specs.Peer.{sending, receiving}
+use Rattle.peer.specs.Peer.{sending, reads, receiving}
 use Rattle.peer.specs.declared.Peer.{Peer}
 use Rattle.peer.specs.declared.Turn.{Turn}
 use Rattle.series.specs.Series.{Lending, State, reaching, carried, Draws}
@@ -46,8 +46,8 @@ module _ (p : State) (w : Wrote) (l : Lending) (d : Drawn) (reading : Reading) (
   reply-same : replyOf (stepOn (p .conversation) (reaching w l)) ≡ d .reply
   reply-same = ap replyOf took ∙ reply-of d (l .buffer) (omega arith)
 
-  read-same : readReply (sending (p .peer) (w .answer) .sent .id) (replyOf (stepOn (p .conversation) (reaching w l)) ++ l .replyPadding) ≡ reading
-  read-same = ap₂ (λ (q : Peer) (r : List ℕ). readReply (q .sent .id) (r ++ l .replyPadding)) sent-same reply-same ∙ heard
+  read-same : reads (sending (p .peer) (w .answer)) (replyOf (stepOn (p .conversation) (reaching w l)) ++ l .replyPadding) ≡ reading
+  read-same = ap₂ (λ (q : Peer) (r : List ℕ). reads q (r ++ l .replyPadding)) sent-same reply-same ∙ heard
 
   pub exchanged : Exchanged p w l d reading
   exchanged =

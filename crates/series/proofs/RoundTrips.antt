@@ -1,7 +1,7 @@
 -- "What our peer writes, our box reads back field for field, and the other way round": over what the writers leave in their buffers, with any
 -- padding behind.
 -- Assumes nothing.
-use mathlib.Core.Bool.{false}
+use mathlib.Core.Bool.{true, false}
 use mathlib.Core.List.{List, _∷_, _++_}
 use mathlib.Core.Path.{_≡_, refl, sym, ap, _∙_, subst}
 use Prim.Native.Nat.{ℕ}
@@ -40,9 +40,10 @@ challenge-read o ok eight behind =
     ap (λ (x : List ℕ). readChallenge (x ++ behind)) (opened-written o ok eight) ∙ challenge-back (o .id) (o .challenge) behind eight
 
 -- Success, or the Failure with the reason (646 to 649, 691, 709), R, no C and V=2: what our peer reads of the reply to its last packet
-pub reply-read : (c : Conversation) (s : Lent) (q : Peer) (behind : List ℕ) → refusalAt stepOn c s ≡ 0 → q .sent .id ≡ c .id
+pub reply-read : (c : Conversation) (s : Lent) (q : Peer) (behind : List ℕ) → refusalAt stepOn c s ≡ 0 → q .sent .present ≡ true → q .sent .id ≡ c .id
     → reads q (replyOf (stepOn c s) ++ behind) ≡ readFor c (reasonIn (stepOn c s .answer .kind))
-reply-read c s q behind ok id = ap (λ (i : ℕ). readReply i (replyOf (stepOn c s) ++ behind)) id ∙ judged-read c s ok behind
+reply-read c s q behind ok sent id =
+    rw sent (ap (λ (i : ℕ). readReply i (replyOf (stepOn c s) ++ behind)) id ∙ judged-read c s ok behind)
 
 -- ---- a Response
 

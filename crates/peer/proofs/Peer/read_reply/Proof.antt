@@ -6,7 +6,7 @@ use Rattle.peer.proofs.Peer.read_reply.Tie as tie
 
 returns : tie.Need-returns
 returns c =
-    let read = c .before .read-reply .ensures in
+    let read = c .before .reading-after .ensures in
     record { answer = rw (c .next-turn .ensures, read .0); number = read .1; values = read .2 }
 
 pub read-reply-spec : {M : Type 1} → statement M
