@@ -37,7 +37,11 @@ fn after_challenge(read: Asked) -> Peer
 fn refusal_before(packet: &[u8]) -> u8
     ensures { λ r. ⌜ r ≡ cond (badFrame (now (packet .entry))) 3 5 ⌝ }
 {
-    if packets::frame_refusal(packet) == 3 { 3 } else { 5 }
+    if packets::frame_refusal(packet) == 3 {
+        3
+    } else {
+        5
+    }
 }
 
 // What a packet says as the reply to the last one that was sent; where none was, no packet has its
