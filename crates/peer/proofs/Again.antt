@@ -1,5 +1,6 @@
 -- Our peer's turns: a reply, read again, reads the same and gives the same turn ("however often the
--- reply is read"), and a reply that is refused changes nothing, as every one is before the first packet.
+-- reply is read"), and a reply that is refused changes nothing, as every one is before the first
+-- packet.
 -- Assumes nothing.
 use mathlib.Core.List.{List}
 use mathlib.Core.Path.{_≡_, refl, ap}
