@@ -21,7 +21,3 @@ pub handed-behind : (x y out : List ℕ) {a b n r : ℕ} {run value after : List
     → (r ≡ numbered (sized a x && (sized b y && sized n out)) 0) × (after ≡ left r value out)
 handed-behind x y out {a} {b} {n} {r} {run} {value} {after} p q e f h =
     (h .0 ∙ ap (λ (i : ℕ). numbered (sized i out) 0) e ∙ sym (simp (eq-eqb (length x) a p, eq-eqb (length y) b q)), h .1 ∙ ap (λ (v : List ℕ). left r v out) f)
-
--- a number behind one more run, which fits
-pub behind : (x : List ℕ) {a r : ℕ} (fit : Bool) (n : ℕ) → length x ≡ a → r ≡ numbered fit n → r ≡ numbered (sized a x && fit) n
-behind x {a} fit n p h = h ∙ sym (simp (eq-eqb (length x) a p))

@@ -4,3 +4,4 @@ pub mod RoundTrip
 pub mod Talking
 pub mod Peering
 pub mod Fitting
+pub mod PeerFitting

@@ -1,14 +1,14 @@
 -- Reading back what was written gives the value, for every value; and a run that fits is what its value writes.
 -- Assumes nothing.
-use mathlib.Core.Path.{_≡_, refl, sym, ap, _∙_}
+use mathlib.Core.Path.{_≡_, refl, sym, ap, ap₂, _∙_}
 use mathlib.Core.Bool.{Bool, true, false}
 use mathlib.Core.List.{List, [], _∷_, _++_}
 use Prim.Native.Nat.{ℕ, suc, _+_}
 use native.Mathlib.Omega.{arith}
-use lib.ListN.{length, take, drop, getD, length-append}
-use lib.Seq.{take-all, take-at, drop-at, getD-drop}
+use lib.ListN.{length, take, drop, getD, length-append, length-drop, take-append-drop}
+use lib.Seq.{take-all, take-at, drop-at, getD-drop, drop-cons, drop-drop}
 use Rattle.octets.specs.Parts.{part, fixed, agrees}
-use Rattle.octets.proofs.Parts.{fixed-same, length-fixed, agrees-refl, agrees-equal}
+use Rattle.octets.proofs.Parts.{fixed-same, fixed-part, length-fixed, agrees-refl, agrees-equal}
 use Rattle.packets.specs.Frame.{octet}
 use Rattle.packets.proofs.Framing.{field}
 use Rattle.authenticator.specs.Conversation.{awaitedCode}
@@ -18,8 +18,7 @@ use Rattle.authenticator.specs.declared.Lookup.{Lookup}
 use Rattle.authenticator.specs.declared.Conversation.{Conversation}
 use Rattle.authenticator.specs.declared.Phase.{Phase}
 use Rattle.authenticator.specs.declared.Phase.the-variants.{Response, Change, Ended}
-use Rattle.peer.specs.declared.Turn.{Turn}
-use Rattle.peer.specs.declared.Sent.{Sent}
+use Rattle.peer.specs.declared.Peer.{Peer}
 use Rattle.mschap.specs.Layout as layout
 use Rattle.octets.proofs.Parts.{fixed-whole}
 
@@ -32,6 +31,10 @@ pub record SizedAccount (a : Account) : Type 0 where
 pub record SizedConversation (c : Conversation) : Type 0 where
   pub challenge : length (c .challenge) ≡ 8
   pub kept : SizedAccount (c .kept)
+
+pub record SizedPeer (q : Peer) : Type 0 where
+  pub sent : length (q .sent .challenge) ≡ 8
+  pub turn : length (q .turn .challenge) ≡ 8
 
 -- ---- hashes and accounts
 
@@ -149,16 +152,54 @@ pub length-fitting : (run : List ℕ) → layout.isConversation run ≡ true →
 length-fitting run e =
     ap length (sym (conversation-written run e)) ∙ length-conversation (layout.conversationIn run) (conversation-sized run)
 
--- ---- turns, and what was sent
+-- ---- peers
 
-turn-same : {c c' : List ℕ} (id : ℕ) → c ≡ c' → _≡_ {A = Turn} (record { id = id; challenge = c }) (record { id = id; challenge = c' })
-turn-same id e = cc
+peer-same : {c c' t t' : List ℕ} {n n' : ℕ} (last : ℕ) → c ≡ c' → n ≡ n' → t ≡ t'
+    → _≡_ {A = Peer}
+    record { sent = record { id = last; challenge = c }; turn = record { id = n; challenge = t } }
+    record { sent = record { id = last; challenge = c' }; turn = record { id = n'; challenge = t' } }
+peer-same last e f g = cc
 
-pub turn-back : (t : Turn) → length (t .challenge) ≡ 8 → layout.turnIn (layout.turnRun t) ≡ t
-turn-back t e = turn-same (t .id) (fixed-whole 8 (t .challenge) e)
+pub peer-back : (q : Peer) → SizedPeer q → layout.peerIn (layout.peerRun q) ≡ q
+unfolding layout.peerRun layout.peerIn
+peer-back q s =
+    peer-same (q .sent .id) (ap (fixed 8) (sent .0) ∙ fixed-same 8 (q .sent .challenge) (s .sent))
+    (sym (getD-drop 9 run 0 0) ∙ ap (λ (l : List ℕ). getD l 0 0) (sent .1))
+    (ap (λ (l : List ℕ). fixed 8 (take 8 l)) (sym (drop-drop 1 9 run) ∙ ap (drop 1) (sent .1))
+    ∙ fixed-whole 8 (q .turn .challenge) (s .turn))
+  where
+    turn : List ℕ
+    turn = q .turn .id ∷ q .turn .challenge
 
-sent-same : {c c' : List ℕ} (id : ℕ) → c ≡ c' → _≡_ {A = Sent} (record { id = id; challenge = c }) (record { id = id; challenge = c' })
-sent-same id e = cc
+    run : List ℕ
+    run = q .sent .id ∷ (q .sent .challenge ++ turn)
 
-pub sent-back : (s : Sent) → length (s .challenge) ≡ 8 → layout.sentIn (layout.sentRun s) ≡ s
-sent-back s e = sent-same (s .id) (fixed-whole 8 (s .challenge) e)
+    sent : (part 1 8 run ≡ q .sent .challenge) × (drop 9 run ≡ turn)
+    sent = field run 1 8 (q .sent .challenge) turn refl (s .sent)
+
+pub length-peer : (q : Peer) → SizedPeer q → length (layout.peerRun q) ≡ 18
+unfolding layout.peerRun
+length-peer q s = simp (length-append, s .sent, s .turn)
+
+pub peer-sized : (run : List ℕ) → SizedPeer (layout.peerIn run)
+unfolding layout.peerIn
+peer-sized run =
+    record { sent = length-fixed 8 (part 1 8 run); turn = length-fixed 8 (part 10 8 run) }
+
+-- every run of 18 octets is what a peer writes
+pub peer-written : (run : List ℕ) → length run ≡ 18 → layout.peerRun (layout.peerIn run) ≡ run
+unfolding layout.peerRun layout.peerIn
+peer-written run n =
+    ap₂ (λ (x y : List ℕ). octet 0 run ∷ (x ++ y)) (fixed-part 1 8 run (omega arith)) turn ∙ whole
+  where
+    turn : octet 9 run ∷ fixed 8 (part 10 8 run) ≡ drop 8 (drop 1 run)
+    turn =
+        ap (λ (l : List ℕ). octet 9 run ∷ l)
+        (fixed-part 10 8 run (omega arith)
+        ∙ take-all 8 (drop 10 run) (omega (arith, length-drop 10 run)))
+        ∙ sym (drop-cons run 9 0 (omega arith)) ∙ sym (drop-drop 8 1 run)
+
+    whole : octet 0 run ∷ (take 8 (drop 1 run) ++ drop 8 (drop 1 run)) ≡ run
+    whole =
+        ap (λ (l : List ℕ). octet 0 run ∷ l) (take-append-drop 8 (drop 1 run))
+        ∙ sym (drop-cons run 0 0 (omega arith))

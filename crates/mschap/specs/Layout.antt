@@ -22,8 +22,7 @@ use Rattle.authenticator.specs.declared.Lookup.{Lookup}
 use Rattle.authenticator.specs.declared.Conversation.{Conversation}
 use Rattle.authenticator.specs.declared.Phase.{Phase}
 use Rattle.authenticator.specs.declared.Phase.the-variants.{Response, Change, Ended}
-use Rattle.peer.specs.declared.Turn.{Turn}
-use Rattle.peer.specs.declared.Sent.{Sent}
+use Rattle.peer.specs.declared.Peer.{Peer}
 
 -- a mark: 1 for true, 0 for false
 abbrev pub mark : Bool → ℕ
@@ -82,18 +81,16 @@ conversationIn run =
       kept = accountIn (part 12 38 run);
     }
 
--- a turn and what was sent, 9 octets each: identifier, challenge 8
-abbrev pub turnRun : Turn → List ℕ
-turnRun t = t .id ∷ t .challenge
+-- a peer, 18 octets: identifier and challenge 8 of the last packet, and of the next one
+unfoldable pub peerRun : Peer → List ℕ
+peerRun q = q .sent .id ∷ (q .sent .challenge ++ (q .turn .id ∷ q .turn .challenge))
 
-abbrev pub turnIn : List ℕ → Turn
-turnIn run = record { id = octet 0 run; challenge = fixed 8 (part 1 8 run) }
-
-abbrev pub sentRun : Sent → List ℕ
-sentRun s = s .id ∷ s .challenge
-
-abbrev pub sentIn : List ℕ → Sent
-sentIn run = record { id = octet 0 run; challenge = fixed 8 (part 1 8 run) }
+unfoldable pub peerIn : List ℕ → Peer
+peerIn run =
+    record {
+      sent = record { id = octet 0 run; challenge = fixed 8 (part 1 8 run) };
+      turn = record { id = octet 9 run; challenge = fixed 8 (part 10 8 run) };
+    }
 
 -- what a reply says, 35 octets: Success (0) or a Failure (1), the call, E 8, R 8, V 8, C given, C 8; numbers most significant octet first
 abbrev pub callNumber : Call → ℕ

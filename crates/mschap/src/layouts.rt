@@ -5,11 +5,12 @@ use authenticator::Hash;
 use authenticator::Lookup;
 use authenticator::Phase;
 use authenticator::Terms;
+use peer::Peer;
 use peer::Sent;
 use peer::Turn;
 ghost use mathlib.Core.Path.{_≡_};
 ghost use Rattle.authenticator.specs.Conversation.{awaitedCode};
-ghost use Rattle.mschap.specs.Layout.{mark, isMark, hashRun, hashIn, accountRun, accountIn, recordRun, recordIn, phaseOf, conversationRun, conversationIn, isRecord, isConversation, turnRun, turnIn, sentIn};
+ghost use Rattle.mschap.specs.Layout.{mark, isMark, hashRun, hashIn, accountRun, accountIn, recordRun, recordIn, phaseOf, conversationRun, conversationIn, isRecord, isConversation, peerRun, peerIn};
 
 pub fn mark(b: bool) -> u8
     ensures { λ r. ⌜ r ≡ mark b ⌝ }
@@ -175,31 +176,40 @@ pub fn is_conversation(run: &[u8]) -> bool
     octets::agree(&written, run)
 }
 
-// ---- turns, and what was sent
+// ---- peers
 
-pub fn turn_run(turn: Turn) -> [u8; 9]
-    ensures { λ r. ⌜ r ≡ turnRun turn ⌝ }
+pub fn peer_run(peer: Peer) -> [u8; 18]
+    ensures { λ r. ⌜ r ≡ peerRun peer ⌝ }
 {
-    let mut run = [0u8; 9];
-    let id = [turn.id];
+    let mut run = [0u8; 18];
+    let sent = peer.sent;
+    let turn = peer.turn;
+    let last = [sent.id];
+    let answered = sent.challenge;
+    let next = [turn.id];
     let challenge = turn.challenge;
-    octets::copy_at(&mut run, 0, &id);
-    octets::copy_at(&mut run, 1, &challenge);
+    octets::copy_at(&mut run, 0, &last);
+    octets::copy_at(&mut run, 1, &answered);
+    octets::copy_at(&mut run, 9, &next);
+    octets::copy_at(&mut run, 10, &challenge);
     run
 }
 
-pub fn turn_in(run: &[u8]) -> Turn
-    ensures { λ r. ⌜ r ≡ turnIn (now (run .entry)) ⌝ }
+pub fn peer_in(run: &[u8]) -> Peer
+    ensures { λ r. ⌜ r ≡ peerIn (now (run .entry)) ⌝ }
 {
-    let id = packets::octet(run, 0);
-    let challenge = octets::eight_at(run, 1);
-    Turn { id, challenge }
-}
-
-pub fn sent_in(run: &[u8]) -> Sent
-    ensures { λ r. ⌜ r ≡ sentIn (now (run .entry)) ⌝ }
-{
-    let id = packets::octet(run, 0);
-    let challenge = octets::eight_at(run, 1);
-    Sent { id, challenge }
+    let last = packets::octet(run, 0);
+    let answered = octets::eight_at(run, 1);
+    let next = packets::octet(run, 9);
+    let challenge = octets::eight_at(run, 10);
+    Peer {
+        sent: Sent {
+            id: last,
+            challenge: answered,
+        },
+        turn: Turn {
+            id: next,
+            challenge,
+        },
+    }
 }

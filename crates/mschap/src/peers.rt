@@ -1,93 +1,98 @@
-// The peer: what it reads, its next turn, and its two packets.
-use crate::layouts::sent_in;
-use crate::layouts::turn_in;
-use crate::layouts::turn_run;
+// The peer: what it reads, and its two packets. A run holds it between the calls.
+use crate::layouts::peer_in;
+use crate::layouts::peer_run;
 use crate::readings::reading_run;
 use crate::readings::verdict_number;
 use crate::runs::hand;
-use crate::runs::wide;
-ghost use mathlib.Core.Path.{_≡_};
-ghost use mathlib.Core.Bool.{_&&_};
-ghost use Rattle.message.specs.Message.{numberOf};
-ghost use Rattle.packets.specs.Reply.{readChallenge, readReply};
-ghost use Rattle.peer.specs.Turn.{firstTurn};
-ghost use Rattle.mschap.specs.Call.{sized, numbered, left};
-ghost use Rattle.mschap.specs.Layout.{turnRun, readingRun};
-ghost use Rattle.mschap.specs.Peers.{replyTo, turnAfter, responseFrom, changeFrom};
+use peer::Peer;
+ghost use Rattle.mschap.specs.Peers.{ReadsChallenge, ReadsReply, Writes};
+ghost use Rattle.mschap.specs.Peers.{responseFrom, changeFrom};
 
-// The turn that a Challenge asks for. 3: the frame. 11: another kind, cut short, or of a size other than 8.
+// Reads a Challenge, and writes the peer that is to answer it. 3: the frame. 11: another kind, cut
+// short, or of a size other than 8.
 #[no_mangle]
-pub extern "C" fn mschap_read_challenge(packet: &[u8], turn: &mut [u8]) -> u32
-    ensures { λ r. ⌜ (r ≡ numbered (sized 9 (now (turn .entry))) (readChallenge (now (packet .entry)) .refusal)) × (now (turn .exit) ≡ left r (turnRun (firstTurn (readChallenge (now (packet .entry))))) (now (turn .entry))) ⌝ }
+pub extern "C" fn mschap_read_challenge(packet: &[u8], peer: &mut [u8]) -> u32
+    ensures { λ r. ⌜ ReadsChallenge (now (packet .entry)) (now (peer .entry))
+        r (now (peer .exit)) ⌝ }
 {
-    let asked = packets::read_challenge(packet);
-    let first = peer::first_turn(asked);
-    let run = turn_run(first);
-    hand(asked.refusal, &run, turn)
+    let read = Peer::read_challenge(packet);
+    let first = read.peer;
+    let run = peer_run(first);
+    hand(read.refusal, &run, peer)
 }
 
-// What a reply to the packet with the identifier last says. 3: the frame. 5: another identifier. 11: another kind, or by the message.
+// Reads the reply to the last packet: writes what it says into fields, and the next turn into the
+// peer. 3: the frame. 5: another identifier. 11: another kind, or by the message.
 #[no_mangle]
-pub extern "C" fn mschap_read_reply(last: u8, packet: &[u8], fields: &mut [u8]) -> u32
-    ensures { λ r. ⌜ (r ≡ numbered (sized 35 (now (fields .entry))) (numberOf (readReply last (now (packet .entry)) .verdict))) × (now (fields .exit) ≡ left r (readingRun (readReply last (now (packet .entry)))) (now (fields .entry))) ⌝ }
+pub extern "C" fn mschap_read_reply(peer: &mut [u8], packet: &[u8], fields: &mut [u8]) -> u32
+    ensures { λ r. ⌜ ReadsReply (now (peer .entry)) (now (packet .entry)) (now (fields .entry))
+        r (now (peer .exit)) (now (fields .exit)) ⌝ }
 {
-    let reading = packets::read_reply(last, packet);
-    let verdict = reading.verdict;
-    let number = verdict_number(verdict);
-    let run = reading_run(reading);
-    hand(number, &run, fields)
-}
-
-// The turn after a reply to what was sent. Numbers as above.
-#[no_mangle]
-pub extern "C" fn mschap_next_turn(sent: &[u8], packet: &[u8], turn: &mut [u8]) -> u32
-    ensures { λ r. ⌜ (r ≡ numbered (sized 9 (now (sent .entry)) && sized 9 (now (turn .entry))) (numberOf (replyTo (now (sent .entry)) (now (packet .entry)) .verdict))) × (now (turn .exit) ≡ left r (turnRun (turnAfter (now (sent .entry)) (now (packet .entry)))) (now (turn .entry))) ⌝ }
-{
-    if sent.len() != 9 {
+    if peer.len() != 18 {
         return 100;
     }
-    let last = sent_in(sent);
-    let reading = packets::read_reply(last.id, packet);
+    if fields.len() != 35 {
+        return 100;
+    }
+    let before = peer_in(peer);
+    let read = before.read_reply(packet);
+    let reading = read.reading;
+    let after = read.peer;
     let verdict = reading.verdict;
     let number = verdict_number(verdict);
-    let next = peer::next_turn(last, reading);
-    let run = turn_run(next);
-    hand(number, &run, turn)
+    let says = reading_run(reading);
+    let run = peer_run(after);
+    hand(number, &run, peer);
+    hand(number, &says, fields)
 }
 
-// Writes the Response of a turn at the front of out. 8: the password. 10: the name. 9: too little room.
+// Writes the Response of the turn at the front of out; the peer has then sent it. 8: the password.
+// 10: the name. 9: too little room.
 #[no_mangle]
 pub extern "C" fn mschap_write_response(
-    turn: &[u8],
+    peer: &mut [u8],
     password: &[u8],
     name: &[u8],
     out: &mut [u8],
 ) -> u32
-    ensures { λ r. ⌜ (r ≡ numbered (sized 9 (now (turn .entry))) (responseFrom (now (turn .entry)) (now (password .entry)) (now (name .entry)) (now (out .entry)) .answer .refusal)) × (now (out .exit) ≡ left r (responseFrom (now (turn .entry)) (now (password .entry)) (now (name .entry)) (now (out .entry)) .out) (now (out .entry))) ⌝ }
+    ensures { λ r. ⌜ Writes
+        (responseFrom (now (peer .entry)) (now (password .entry)) (now (name .entry))
+        (now (out .entry)))
+        (now (peer .entry)) (now (out .entry)) r (now (peer .exit)) (now (out .exit)) ⌝ }
 {
-    if turn.len() != 9 {
+    if peer.len() != 18 {
         return 100;
     }
-    let due = turn_in(turn);
-    let written = peer::write_response(due, password, name, out);
-    wide(written.refusal)
+    let before = peer_in(peer);
+    let wrote = before.write_response(password, name, out);
+    let written = wrote.written;
+    let after = wrote.peer;
+    let run = peer_run(after);
+    hand(written.refusal, &run, peer)
 }
 
-// Writes the version 2 change of a turn at the front of out. 8: either password. 12: the filler. 9: too little room.
+// Writes the version 2 change of the turn at the front of out; the peer has then sent it. 8: either
+// password. 12: the filler. 9: too little room.
 #[no_mangle]
 pub extern "C" fn mschap_write_change(
-    turn: &[u8],
+    peer: &mut [u8],
     old: &[u8],
     new: &[u8],
     filler: &[u8],
     out: &mut [u8],
 ) -> u32
-    ensures { λ r. ⌜ (r ≡ numbered (sized 9 (now (turn .entry))) (changeFrom (now (turn .entry)) (now (old .entry)) (now (new .entry)) (now (filler .entry)) (now (out .entry)) .answer .refusal)) × (now (out .exit) ≡ left r (changeFrom (now (turn .entry)) (now (old .entry)) (now (new .entry)) (now (filler .entry)) (now (out .entry)) .out) (now (out .entry))) ⌝ }
+    ensures { λ r. ⌜ Writes
+        (changeFrom (now (peer .entry)) (now (old .entry)) (now (new .entry)) (now (filler .entry))
+        (now (out .entry)))
+        (now (peer .entry)) (now (out .entry)) r (now (peer .exit)) (now (out .exit)) ⌝ }
 {
-    if turn.len() != 9 {
+    if peer.len() != 18 {
         return 100;
     }
-    let due = turn_in(turn);
-    let written = peer::write_change(due, old, new, filler, out);
-    wide(written.refusal)
+    let before = peer_in(peer);
+    let wrote = before.write_change(old, new, filler, out);
+    let written = wrote.written;
+    let after = wrote.peer;
+    let run = peer_run(after);
+    hand(written.refusal, &run, peer)
 }

@@ -1,27 +1,45 @@
 -- `mschap::peers::mschap_read_reply` meets its contract.
 -- Assumes nothing.
-use mathlib.Core.Path.{_≡_, ap, _∙_}
+use mathlib.Core.Path.{_≡_, refl}
 use borrow.Author.Needs.{needs}
+use borrow.Author.Tests.{eq-eqb, ne-eqb}
 use lib.ListN.{length}
-use Rattle.message.specs.Message.{numberOf}
-use Rattle.message.specs.declared.Reading.{Reading}
-use Rattle.mschap.specs.Layout.{readingRun}
-use Rattle.mschap.proofs.Handing.{handed}
+use Rattle.mschap.proofs.Peering.{reply-called}
 use Rattle.mschap.proofs.peers.mschap_read_reply.Statement.{statement}
 use Rattle.mschap.proofs.peers.mschap_read_reply.Tie as tie
 
 returns : tie.Need-returns
-returns c =
-    let k = c .before .before in
-    let t = k .before .before .before in
-    let q = t .before .before in
-    let e = q .read-reply .ensures .0 in
-    let n : length (t .reading-run .result) ≡ 35 = search needs in
-    handed (q .before .before .before .args .fields .now) n (t .reading-run .ensures ∙ ap readingRun e)
-    (t .before .verdict-number .ensures ∙ ap (λ (v : Reading). numberOf (v .verdict)) e) (k .hand .ensures)
+returns c = record { number = simp (ne-eqb _ _ (c .if1 .taken)); next = refl; says = refl }
+
+returns-2 : tie.Need-returns-2
+returns-2 c =
+    record {
+      number = simp (eq-eqb _ _ (c .before .if1 .left), ne-eqb _ _ (c .if2 .taken));
+      next = refl;
+      says = refl;
+    }
+
+returns-3 : tie.Need-returns-3
+returns-3 c =
+    let h₂ = c .before .before in
+    let h₁ = h₂ .before .before .before .before .before in
+    let w = h₁ .before .before .before in
+    let f = w .before in
+    let m = f .before in
+    let r = m .before .before .before in
+    let p = r .before in
+    let k = p .before .before in
+    let a = k .before .before .before .before .before .args in
+    let n₁ : length (w .peer-run .result) ≡ 18 = search (needs, w .peer-run) in
+    let n₂ : length (f .reading-run .result) ≡ 35 = search (needs, f .reading-run) in
+    reply-called (a .peer .now) (a .packet .now) (a .fields .now) (k .before .if1 .left)
+    (k .if2 .left) (p .peer-in .ensures) (r .read-reply .ensures) (m .verdict-number .ensures)
+    n₁ (w .peer-run .ensures) n₂ (f .reading-run .ensures) (h₁ .hand .ensures) (h₂ .hand2 .ensures)
 
 pub mschap-read-reply-spec : {M : Type 1} → statement M
 mschap-read-reply-spec =
     tie.close
     (tie.spec
-    (λ c κs. search needs) (λ c κs. search needs) (λ c κs. search needs) (λ c. search needs) (λ c κs. search needs) (λ c. search needs) returns)
+    returns returns-2 (λ c κs. search needs) (λ c κs. search needs) (λ c κs. search needs)
+    (λ c κs. search needs) (λ c κs. search needs) (λ c. search needs) (λ c κs. search needs)
+    (λ c. search needs) (λ c κs. search needs) (λ c. search needs) (λ c. search needs) returns-3)

@@ -1,31 +1,35 @@
 -- `mschap::peers::mschap_write_change` meets its contract.
 -- Assumes nothing.
-use mathlib.Core.Path.{refl, ap, _∙_}
+use mathlib.Core.Path.{_≡_, refl}
 use borrow.Author.Needs.{needs}
 use borrow.Author.Tests.{ne-eqb}
+use lib.ListN.{length}
 use Rattle.peer.specs.Write.{writeChange}
 use Rattle.peer.specs.declared.Turn.{Turn}
-use Rattle.mschap.specs.Layout.{turnIn}
 use Rattle.mschap.proofs.Peering.{change-kept, wrote-called}
 use Rattle.mschap.proofs.peers.mschap_write_change.Statement.{statement}
 use Rattle.mschap.proofs.peers.mschap_write_change.Tie as tie
 
 returns : tie.Need-returns
-returns c = (simp (ne-eqb _ _ (c .if1 .taken)), refl)
+returns c = record { number = simp (ne-eqb _ _ (c .if1 .taken)); next = refl; packet = refl }
 
 returns-2 : tie.Need-returns-2
 returns-2 c =
-    let w = c .before .before .before in
-    let t = w .before .before in
-    let h = t .before in
+    let k = c .before .before in
+    let t = k .before .before .before in
+    let w = t .before .before .before .before .before in
+    let p = w .before .before in
+    let h = p .before .before in
     let a = h .before .before .before .before .before .before .args in
-    let e = t .turn-in .ensures in
-    wrote-called (writeChange (turnIn (a .turn .now)) (a .old .now) (a .new .now) (a .filler .now) (a .out .now)) (a .turn .now) (a .out .now)
-    (change-kept (turnIn (a .turn .now)) (a .old .now) (a .new .now) (a .filler .now) (a .out .now)) (h .if1 .left) (c .wide .ensures)
-    (w .write-change .ensures .0 ∙ ap (λ (v : Turn). writeChange v (a .old .now) (a .new .now) (a .filler .now) (a .out .now) .answer) e)
-    (w .write-change .ensures .1 ∙ ap (λ (v : Turn). writeChange v (a .old .now) (a .new .now) (a .filler .now) (a .out .now) .out) e)
+    let n : length (t .peer-run .result) ≡ 18 = search needs in
+    let out = a .out .now in
+    wrote-called (λ (t : Turn). writeChange t (a .old .now) (a .new .now) (a .filler .now) out)
+    (a .peer .now) out (h .if1 .left) (change-kept (a .old .now) (a .new .now) (a .filler .now) out)
+    (p .peer-in .ensures) (w .write-change .ensures) n (t .peer-run .ensures) (k .hand .ensures)
 
 pub mschap-write-change-spec : {M : Type 1} → statement M
 mschap-write-change-spec =
     tie.close
-    (tie.spec returns (λ c κs. search needs) (λ c κs. search needs) (λ c κs. search needs) (λ c. search needs) returns-2)
+    (tie.spec
+    returns (λ c κs. search needs) (λ c κs. search needs) (λ c κs. search needs) (λ c. search needs)
+    (λ c κs. search needs) (λ c. search needs) (λ c. search needs) returns-2)

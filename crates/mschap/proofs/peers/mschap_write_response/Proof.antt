@@ -1,31 +1,35 @@
 -- `mschap::peers::mschap_write_response` meets its contract.
 -- Assumes nothing.
-use mathlib.Core.Path.{refl, ap, _∙_}
+use mathlib.Core.Path.{_≡_, refl}
 use borrow.Author.Needs.{needs}
 use borrow.Author.Tests.{ne-eqb}
+use lib.ListN.{length}
 use Rattle.peer.specs.Write.{writeResponse}
 use Rattle.peer.specs.declared.Turn.{Turn}
-use Rattle.mschap.specs.Layout.{turnIn}
 use Rattle.mschap.proofs.Peering.{response-kept, wrote-called}
 use Rattle.mschap.proofs.peers.mschap_write_response.Statement.{statement}
 use Rattle.mschap.proofs.peers.mschap_write_response.Tie as tie
 
 returns : tie.Need-returns
-returns c = (simp (ne-eqb _ _ (c .if1 .taken)), refl)
+returns c = record { number = simp (ne-eqb _ _ (c .if1 .taken)); next = refl; packet = refl }
 
 returns-2 : tie.Need-returns-2
 returns-2 c =
-    let w = c .before .before .before in
-    let t = w .before .before in
-    let h = t .before in
+    let k = c .before .before in
+    let t = k .before .before .before in
+    let w = t .before .before .before .before .before in
+    let p = w .before .before in
+    let h = p .before .before in
     let a = h .before .before .before .before .before .args in
-    let e = t .turn-in .ensures in
-    wrote-called (writeResponse (turnIn (a .turn .now)) (a .password .now) (a .name .now) (a .out .now)) (a .turn .now) (a .out .now)
-    (response-kept (turnIn (a .turn .now)) (a .password .now) (a .name .now) (a .out .now)) (h .if1 .left) (c .wide .ensures)
-    (w .write-response .ensures .0 ∙ ap (λ (v : Turn). writeResponse v (a .password .now) (a .name .now) (a .out .now) .answer) e)
-    (w .write-response .ensures .1 ∙ ap (λ (v : Turn). writeResponse v (a .password .now) (a .name .now) (a .out .now) .out) e)
+    let n : length (t .peer-run .result) ≡ 18 = search needs in
+    let out = a .out .now in
+    wrote-called (λ (t : Turn). writeResponse t (a .password .now) (a .name .now) out)
+    (a .peer .now) out (h .if1 .left) (response-kept (a .password .now) (a .name .now) out)
+    (p .peer-in .ensures) (w .write-response .ensures) n (t .peer-run .ensures) (k .hand .ensures)
 
 pub mschap-write-response-spec : {M : Type 1} → statement M
 mschap-write-response-spec =
     tie.close
-    (tie.spec returns (λ c κs. search needs) (λ c κs. search needs) (λ c κs. search needs) (λ c. search needs) returns-2)
+    (tie.spec
+    returns (λ c κs. search needs) (λ c κs. search needs) (λ c κs. search needs) (λ c. search needs)
+    (λ c κs. search needs) (λ c. search needs) (λ c. search needs) returns-2)

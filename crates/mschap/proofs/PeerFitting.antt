@@ -1,0 +1,140 @@
+-- What the peer's functions hand out fits the next of them: no run that they wrote is ever answered
+-- with 100.
+-- Assumes nothing.
+use mathlib.Core.Bool.{Bool, true, false, cond}
+use mathlib.Core.List.{List, [], _∷_}
+use mathlib.Core.Option.{Option, none, some}
+use mathlib.Core.Path.{_≡_, refl, ap}
+use Prim.Native.Nat.{ℕ, zero, suc, _+_}
+use native.Mathlib.Omega.{arith}
+use borrow.Author.Tests.{eq-eqb}
+use lib.Dec.{eqb, ltb}
+use lib.ListN.{length}
+use Rattle.octets.specs.Parts.{part, fixed}
+use Rattle.octets.proofs.Parts.{length-fixed}
+use Rattle.message.specs.Message.{words, first, fieldE, fieldC, pairs, givenAs, readFields}
+use Rattle.message.specs.Message.{readMessage}
+use Rattle.message.specs.Walk.{Where, Eight}
+use Rattle.message.specs.declared.Call.{Call}
+use Rattle.message.specs.declared.Call.the-variants.{Retry, ChangeTwo, ChangeOne, End}
+use Rattle.message.specs.declared.Given.{Given}
+use Rattle.message.specs.declared.Reading.{Reading}
+use Rattle.message.specs.declared.Verdict.{Verdict}
+use Rattle.message.specs.declared.Verdict.the-variants.{Success, Failure, Refused}
+use Rattle.message.proofs.Formed.{first-eight}
+use Rattle.packets.specs.Frame.{octet, badFrame, badId, dataOf}
+use Rattle.packets.specs.Next.{grown}
+use Rattle.packets.specs.Reply.{notAsked, badChallenge, readChallenge, readReply}
+use Rattle.packets.specs.declared.Asked.{Asked}
+use Rattle.packets.specs.declared.Written.{Written}
+use Rattle.authenticator.proofs.Spends.{length-grown}
+use Rattle.peer.specs.Turn.{sentFor, turnFor, turnAfter, nextTurn}
+use Rattle.peer.specs.Peer.{asked, sending, reads, receiving}
+use Rattle.peer.specs.declared.Peer.{Peer}
+use Rattle.peer.specs.declared.Sent.{Sent}
+use Rattle.mschap.specs.Call.{sized}
+use Rattle.mschap.specs.Layout.{peerRun, peerIn}
+use Rattle.mschap.proofs.RoundTrip.{SizedPeer, length-peer, peer-sized}
+
+-- ---- the challenge that a reply may give
+
+-- digits in pairs are half as many octets
+half : (n : ℕ) (ds : List ℕ) → length ds ≡ n + n → length (pairs ds) ≡ n
+half zero [] h = refl
+half zero (x ∷ ds) h = absurd (omega arith)
+half (suc n) [] h = absurd (omega arith)
+half (suc n) (x ∷ []) h = absurd (omega arith)
+half (suc n) (x ∷ y ∷ ds) h = ap suc (half n ds (omega arith))
+
+-- a challenge C, given or not, has eight octets
+given-eight : (o : Option (List ℕ)) → Where Eight o → length (givenAs o .octets) ≡ 8
+given-eight none h = refl
+given-eight (some ds) h = half 8 ds (h .long)
+
+record EightGiven (r : Reading) : Type 0 where
+  eight : length (r .c .octets) ≡ 8
+
+choice-given : (b : Bool) {x y : Reading} → EightGiven x → EightGiven y → EightGiven (cond b x y)
+choice-given true s t = s
+choice-given false s t = t
+
+fields-given : (ws : List (List ℕ)) (e : Option (List ℕ)) → EightGiven (readFields ws e)
+fields-given ws none = record { eight = refl }
+fields-given ws (some e) = record { eight = given-eight (first fieldC ws) (first-eight ws) }
+
+reply-given : (last : ℕ) (p : List ℕ) → EightGiven (readReply last p)
+unfolding readReply readMessage
+reply-given last p =
+    let ws = words (dataOf p) in
+    choice-given (badFrame p) (record { eight = refl })
+    (choice-given (badId last p) (record { eight = refl })
+    (choice-given (eqb (octet 0 p) 3) (record { eight = refl })
+    (choice-given (eqb (octet 0 p) 4)
+    (choice-given (ltb 256 (length (dataOf p))) (record { eight = refl })
+    (fields-given ws (first fieldE ws)))
+    (record { eight = refl }))))
+
+-- ---- the peer's next turn
+
+module _ (q : Peer) (s : SizedPeer q) (c : Given) (e : length (c .octets) ≡ 8) where
+  retry-eight : (b : Bool) → length (cond b (c .octets) (grown (q .sent .challenge))) ≡ 8
+  retry-eight true = e
+  retry-eight false = rw length-grown (s .sent)
+
+  call-eight : (k : Call) → length (turnFor k (q .sent) c .challenge) ≡ 8
+  call-eight Retry = retry-eight (c .given)
+  call-eight ChangeTwo = s .sent
+  call-eight ChangeOne = s .sent
+  call-eight End = s .sent
+
+  turn-eight : (v : Verdict) → length (turnAfter v q c .challenge) ≡ 8
+  turn-eight Success = s .sent
+  turn-eight (Failure f) = call-eight (f .call)
+  turn-eight (Refused n) = s .turn
+
+-- ---- the peer after each call
+
+asked-sized : (packet : List ℕ) → SizedPeer (asked (readChallenge packet))
+unfolding readChallenge
+asked-sized packet = record { sent = refl; turn = by (badFrame packet) (badChallenge packet) }
+  where
+    read : Asked
+    read = record { refusal = 0; id = octet 1 packet; challenge = fixed 8 (part 5 8 packet) }
+
+    by : (b d : Bool)
+        → length (cond {A = Asked} b (notAsked 3) (cond d (notAsked 11) read) .challenge) ≡ 8
+    by true d = refl
+    by false true = refl
+    by false false = length-fixed 8 (part 5 8 packet)
+
+sending-sized : (q : Peer) (w : Written) → SizedPeer q → SizedPeer (sending q w)
+sending-sized q w s = record { sent = by (eqb (w .refusal) 0); turn = s .turn }
+  where
+    by : (b : Bool) → length (cond {A = Sent} b (sentFor (q .turn)) (q .sent) .challenge) ≡ 8
+    by true = s .turn
+    by false = s .sent
+
+receiving-sized : (q : Peer) (packet : List ℕ) → SizedPeer q → SizedPeer (receiving q packet)
+unfolding nextTurn
+receiving-sized q packet s =
+    let r = reads q packet in
+    let c = reply-given (q .sent .id) packet .eight in
+    record { sent = s .sent; turn = turn-eight q s (r .c) c (r .verdict) }
+
+-- the run of a peer is taken by the next call
+abbrev pub Fits : Peer → Type 0
+Fits q = sized 18 (peerRun q) ≡ true
+
+fits : (q : Peer) → SizedPeer q → Fits q
+fits q s = eq-eqb (length (peerRun q)) 18 (length-peer q s)
+
+pub challenge-fits : (packet : List ℕ) → Fits (asked (readChallenge packet))
+challenge-fits packet = fits (asked (readChallenge packet)) (asked-sized packet)
+
+pub writing-fits : (peer : List ℕ) (w : Written) → Fits (sending (peerIn peer) w)
+writing-fits peer w =
+    fits (sending (peerIn peer) w) (sending-sized (peerIn peer) w (peer-sized peer))
+
+pub reply-fits : (peer packet : List ℕ) → Fits (receiving (peerIn peer) packet)
+reply-fits peer packet =
+    fits (receiving (peerIn peer) packet) (receiving-sized (peerIn peer) packet (peer-sized peer))
