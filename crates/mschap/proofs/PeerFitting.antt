@@ -7,7 +7,6 @@ use mathlib.Core.Option.{Option, none, some}
 use mathlib.Core.Path.{_≡_, refl, ap}
 use Prim.Native.Nat.{ℕ, zero, suc, _+_}
 use native.Mathlib.Omega.{arith}
-use borrow.Author.Tests.{eq-eqb}
 use lib.Dec.{eqb, ltb}
 use lib.ListN.{length}
 use Rattle.octets.specs.Parts.{part, fixed}
@@ -32,9 +31,8 @@ use Rattle.peer.specs.Turn.{sentFor, turnFor, turnAfter, nextTurn}
 use Rattle.peer.specs.Peer.{asked, sending, reads, receiving}
 use Rattle.peer.specs.declared.Peer.{Peer}
 use Rattle.peer.specs.declared.Sent.{Sent}
-use Rattle.mschap.specs.Call.{sized}
-use Rattle.mschap.specs.Layout.{peerRun, peerIn}
-use Rattle.mschap.proofs.RoundTrip.{SizedPeer, length-peer, peer-sized}
+use Rattle.mschap.specs.Layout.{peerRun, peerIn, isPeer}
+use Rattle.mschap.proofs.RoundTrip.{SizedPeer, peer-sized, peer-fits}
 
 -- ---- the challenge that a reply may give
 
@@ -73,6 +71,10 @@ reply-given last p =
     (choice-given (ltb 256 (length (dataOf p))) (record { eight = refl })
     (fields-given ws (first fieldE ws)))
     (record { eight = refl }))))
+
+-- before the first packet none is given
+reads-given : (q : Peer) (p : List ℕ) → EightGiven (reads q p)
+reads-given q p = choice-given (q .sent .present) (reply-given (q .sent .id) p) (record { eight = refl })
 
 -- ---- the peer's next turn
 
@@ -118,23 +120,20 @@ receiving-sized : (q : Peer) (packet : List ℕ) → SizedPeer q → SizedPeer (
 unfolding nextTurn
 receiving-sized q packet s =
     let r = reads q packet in
-    let c = reply-given (q .sent .id) packet .eight in
+    let c = reads-given q packet .eight in
     record { sent = s .sent; turn = turn-eight q s (r .c) c (r .verdict) }
 
 -- the run of a peer is taken by the next call
 abbrev pub Fits : Peer → Type 0
-Fits q = sized 18 (peerRun q) ≡ true
-
-fits : (q : Peer) → SizedPeer q → Fits q
-fits q s = eq-eqb (length (peerRun q)) 18 (length-peer q s)
+Fits q = isPeer (peerRun q) ≡ true
 
 pub challenge-fits : (packet : List ℕ) → Fits (asked (readChallenge packet))
-challenge-fits packet = fits (asked (readChallenge packet)) (asked-sized packet)
+challenge-fits packet = peer-fits (asked (readChallenge packet)) (asked-sized packet)
 
 pub writing-fits : (peer : List ℕ) (w : Written) → Fits (sending (peerIn peer) w)
 writing-fits peer w =
-    fits (sending (peerIn peer) w) (sending-sized (peerIn peer) w (peer-sized peer))
+    peer-fits (sending (peerIn peer) w) (sending-sized (peerIn peer) w (peer-sized peer))
 
 pub reply-fits : (peer packet : List ℕ) → Fits (receiving (peerIn peer) packet)
 reply-fits peer packet =
-    fits (receiving (peerIn peer) packet) (receiving-sized (peerIn peer) packet (peer-sized peer))
+    peer-fits (receiving (peerIn peer) packet) (receiving-sized (peerIn peer) packet (peer-sized peer))

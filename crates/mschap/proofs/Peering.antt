@@ -17,13 +17,17 @@ use Rattle.peer.specs.declared.Turn.{Turn}
 use Rattle.peer.specs.declared.PacketWritten.{PacketWritten}
 use Rattle.peer.specs.declared.ReplyRead.{ReplyRead}
 use Rattle.mschap.specs.Call.{sized, numbered, left}
-use Rattle.mschap.specs.Layout.{peerRun, peerIn, readingRun}
+use Rattle.mschap.specs.Layout.{peerRun, peerIn, isPeer, readingRun}
 use Rattle.mschap.specs.Peers.{ReadsReply, Writes}
 use Rattle.mschap.proofs.Handing.{handed}
+use Rattle.mschap.proofs.RoundTrip.{length-peer-run}
 
 -- ---- a reply
 
-module _ (peer packet fields : List ℕ) (n₁ : length peer ≡ 18) (n₂ : length fields ≡ 35) where
+module _ (peer packet fields : List ℕ) (good : isPeer peer ≡ true) (n₂ : length fields ≡ 35) where
+  n₁ : length peer ≡ 19
+  n₁ = length-peer-run peer good
+
   abbrev reading : Reading
   reading = peers.reads (peerIn peer) packet
 
@@ -33,7 +37,7 @@ module _ (peer packet fields : List ℕ) (n₁ : length peer ≡ 18) (n₂ : len
   pub reply-called : {q : Peer} {answer : ReplyRead} {number r r' : ℕ}
       {run says peerAfter fieldsAfter : List ℕ} → q ≡ peerIn peer → peers.Reads q packet answer
       → number ≡ numberOf (answer .reading .verdict)
-      → length run ≡ 18 → run ≡ peerRun (answer .peer)
+      → length run ≡ 19 → run ≡ peerRun (answer .peer)
       → length says ≡ 35 → says ≡ readingRun (answer .reading)
       → (r ≡ numbered (sized (length run) peer) number) × (peerAfter ≡ left r run peer)
       → (r' ≡ numbered (sized (length says) fields) number) × (fieldsAfter ≡ left r' says fields)
@@ -43,10 +47,10 @@ module _ (peer packet fields : List ℕ) (n₁ : length peer ≡ 18) (n₂ : len
       let n = told ∙ ap (λ (v : ReplyRead). numberOf (v .reading .verdict)) a in
       let x = handed peer m₁ (e₁ ∙ ap (λ (v : ReplyRead). peerRun (v .peer)) a) n h₁ in
       let y = handed fields m₂ (e₂ ∙ ap (λ (v : ReplyRead). readingRun (v .reading)) a) n h₂ in
-      let k₁ : r ≡ numberOf (reading .verdict) = x .0 ∙ simp (eq-eqb (length peer) 18 n₁) in
+      let k₁ : r ≡ numberOf (reading .verdict) = x .0 ∙ simp (eq-eqb (length peer) 19 n₁) in
       let k₂ : r' ≡ numberOf (reading .verdict) = y .0 ∙ simp (eq-eqb (length fields) 35 n₂) in
       record {
-        number = y .0 ∙ sym (simp (eq-eqb (length peer) 18 n₁));
+        number = y .0 ∙ sym (simp good);
         next = x .1 ∙ ap (λ (i : ℕ). left i after peer) (k₁ ∙ sym k₂);
         says = y .1;
       }
@@ -77,14 +81,14 @@ change-kept old new filler out t =
     wrote-kept (writeChangeRefusal old new filler out) (changeFor t old new filler) out
 
 -- either of them, by what it writes for a turn
-module _ (writes : Turn → Wrote) (peer out : List ℕ) (n : length peer ≡ 18)
+module _ (writes : Turn → Wrote) (peer out : List ℕ) (good : isPeer peer ≡ true)
     (kept : (t : Turn) → Kept out (writes t)) where
   abbrev wrote : Wrote
   wrote = writes (peerIn peer .turn)
 
   pub wrote-called : {q : Peer} {answer : PacketWritten} {r : ℕ} {run peerAfter outAfter : List ℕ}
       → q ≡ peerIn peer → peers.Writes q (writes (q .turn)) answer outAfter
-      → length run ≡ 18 → run ≡ peerRun (answer .peer)
+      → length run ≡ 19 → run ≡ peerRun (answer .peer)
       → (r ≡ numbered (sized (length run) peer) (answer .written .refusal))
       × (peerAfter ≡ left r run peer)
       → Writes wrote peer out r peerAfter outAfter
@@ -93,9 +97,9 @@ module _ (writes : Turn → Wrote) (peer out : List ℕ) (n : length peer ≡ 18
       let refusal = ap (λ (v : PacketWritten). v .written .refusal) (g .answer) in
       let next = e₁ ∙ ap (λ (v : PacketWritten). peerRun (v .peer)) (g .answer) in
       let done = handed peer m next refusal h in
-      let number : r ≡ wrote .answer .refusal = done .0 ∙ simp (eq-eqb (length peer) 18 n) in
+      let number : r ≡ wrote .answer .refusal = done .0 ∙ simp (eq-eqb (length peer) 19 (length-peer-run peer good)) in
       record {
-        number = done .0;
+        number = number ∙ sym (simp good);
         next = done .1;
         packet =
             g .out ∙ kept (peerIn peer .turn)

@@ -154,52 +154,46 @@ length-fitting run e =
 
 -- ---- peers
 
-peer-same : {c c' t t' : List ℕ} {n n' : ℕ} (last : ℕ) → c ≡ c' → n ≡ n' → t ≡ t'
+peer-same : {b b' : Bool} {c c' t t' : List ℕ} {n n' : ℕ} (last : ℕ) → b ≡ b' → c ≡ c' → n ≡ n' → t ≡ t'
     → _≡_ {A = Peer}
-    record { sent = record { id = last; challenge = c }; turn = record { id = n; challenge = t } }
-    record { sent = record { id = last; challenge = c' }; turn = record { id = n'; challenge = t' } }
-peer-same last e f g = cc
+    record { sent = record { present = b; id = last; challenge = c }; turn = record { id = n; challenge = t } }
+    record { sent = record { present = b'; id = last; challenge = c' }; turn = record { id = n'; challenge = t' } }
+peer-same last d e f g = cc
 
 pub peer-back : (q : Peer) → SizedPeer q → layout.peerIn (layout.peerRun q) ≡ q
 unfolding layout.peerRun layout.peerIn
 peer-back q s =
-    peer-same (q .sent .id) (ap (fixed 8) (sent .0) ∙ fixed-same 8 (q .sent .challenge) (s .sent))
-    (sym (getD-drop 9 run 0 0) ∙ ap (λ (l : List ℕ). getD l 0 0) (sent .1))
-    (ap (λ (l : List ℕ). fixed 8 (take 8 l)) (sym (drop-drop 1 9 run) ∙ ap (drop 1) (sent .1))
+    peer-same (q .sent .id) (mark-back (q .sent .present)) (ap (fixed 8) (sent .0) ∙ fixed-same 8 (q .sent .challenge) (s .sent))
+    (sym (getD-drop 10 run 0 0) ∙ ap (λ (l : List ℕ). getD l 0 0) (sent .1))
+    (ap (λ (l : List ℕ). fixed 8 (take 8 l)) (sym (drop-drop 1 10 run) ∙ ap (drop 1) (sent .1))
     ∙ fixed-whole 8 (q .turn .challenge) (s .turn))
   where
     turn : List ℕ
     turn = q .turn .id ∷ q .turn .challenge
 
     run : List ℕ
-    run = q .sent .id ∷ (q .sent .challenge ++ turn)
+    run = layout.mark (q .sent .present) ∷ q .sent .id ∷ (q .sent .challenge ++ turn)
 
-    sent : (part 1 8 run ≡ q .sent .challenge) × (drop 9 run ≡ turn)
-    sent = field run 1 8 (q .sent .challenge) turn refl (s .sent)
+    sent : (part 2 8 run ≡ q .sent .challenge) × (drop 10 run ≡ turn)
+    sent = field run 2 8 (q .sent .challenge) turn refl (s .sent)
 
-pub length-peer : (q : Peer) → SizedPeer q → length (layout.peerRun q) ≡ 18
+pub length-peer : (q : Peer) → SizedPeer q → length (layout.peerRun q) ≡ 19
 unfolding layout.peerRun
 length-peer q s = simp (length-append, s .sent, s .turn)
 
 pub peer-sized : (run : List ℕ) → SizedPeer (layout.peerIn run)
 unfolding layout.peerIn
 peer-sized run =
-    record { sent = length-fixed 8 (part 1 8 run); turn = length-fixed 8 (part 10 8 run) }
+    record { sent = length-fixed 8 (part 2 8 run); turn = length-fixed 8 (part 11 8 run) }
 
--- every run of 18 octets is what a peer writes
-pub peer-written : (run : List ℕ) → length run ≡ 18 → layout.peerRun (layout.peerIn run) ≡ run
-unfolding layout.peerRun layout.peerIn
-peer-written run n =
-    ap₂ (λ (x y : List ℕ). octet 0 run ∷ (x ++ y)) (fixed-part 1 8 run (omega arith)) turn ∙ whole
-  where
-    turn : octet 9 run ∷ fixed 8 (part 10 8 run) ≡ drop 8 (drop 1 run)
-    turn =
-        ap (λ (l : List ℕ). octet 9 run ∷ l)
-        (fixed-part 10 8 run (omega arith)
-        ∙ take-all 8 (drop 10 run) (omega (arith, length-drop 10 run)))
-        ∙ sym (drop-cons run 9 0 (omega arith)) ∙ sym (drop-drop 8 1 run)
+pub peer-written : (run : List ℕ) → layout.isPeer run ≡ true → layout.peerRun (layout.peerIn run) ≡ run
+unfolding layout.isPeer
+peer-written run e = agrees-equal (layout.peerRun (layout.peerIn run)) run e
 
-    whole : octet 0 run ∷ (take 8 (drop 1 run) ++ drop 8 (drop 1 run)) ≡ run
-    whole =
-        ap (λ (l : List ℕ). octet 0 run ∷ l) (take-append-drop 8 (drop 1 run))
-        ∙ sym (drop-cons run 0 0 (omega arith))
+pub length-peer-run : (run : List ℕ) → layout.isPeer run ≡ true → length run ≡ 19
+length-peer-run run e = ap length (sym (peer-written run e)) ∙ length-peer (layout.peerIn run) (peer-sized run)
+
+-- what a peer writes is taken for one
+pub peer-fits : (q : Peer) → SizedPeer q → layout.isPeer (layout.peerRun q) ≡ true
+unfolding layout.isPeer
+peer-fits q s = ap (λ (v : Peer). agrees (layout.peerRun v) (layout.peerRun q)) (peer-back q s) ∙ agrees-refl (layout.peerRun q)

@@ -81,15 +81,16 @@ conversationIn run =
       kept = accountIn (part 12 38 run);
     }
 
--- a peer, 18 octets: identifier and challenge 8 of the last packet, and of the next one
+-- a peer, 19 octets: a packet was sent, its identifier and challenge 8, and those of the next one
 unfoldable pub peerRun : Peer → List ℕ
-peerRun q = q .sent .id ∷ (q .sent .challenge ++ (q .turn .id ∷ q .turn .challenge))
+peerRun q =
+    mark (q .sent .present) ∷ q .sent .id ∷ (q .sent .challenge ++ (q .turn .id ∷ q .turn .challenge))
 
 unfoldable pub peerIn : List ℕ → Peer
 peerIn run =
     record {
-      sent = record { id = octet 0 run; challenge = fixed 8 (part 1 8 run) };
-      turn = record { id = octet 9 run; challenge = fixed 8 (part 10 8 run) };
+      sent = record { present = isMark (octet 0 run); id = octet 1 run; challenge = fixed 8 (part 2 8 run) };
+      turn = record { id = octet 10 run; challenge = fixed 8 (part 11 8 run) };
     }
 
 -- what a reply says, 35 octets: Success (0) or a Failure (1), the call, E 8, R 8, V 8, C given, C 8; numbers most significant octet first
@@ -120,3 +121,6 @@ isRecord run = agrees (recordRun (recordIn run)) run
 
 unfoldable pub isConversation : List ℕ → Bool
 isConversation run = agrees (conversationRun (conversationIn run)) run
+
+unfoldable pub isPeer : List ℕ → Bool
+isPeer run = agrees (peerRun (peerIn run)) run

@@ -9,18 +9,18 @@ use Rattle.packets.specs.Reply.{readChallenge}
 use Rattle.peer.specs.Peer.{asked, sending, reads, receiving}
 use Rattle.peer.specs.Write.{Wrote, writeResponse, writeChange}
 use Rattle.mschap.specs.Call.{sized, numbered, left}
-use Rattle.mschap.specs.Layout.{peerRun, peerIn, readingRun}
+use Rattle.mschap.specs.Layout.{peerRun, peerIn, isPeer, readingRun}
 
 -- what reading a Challenge answers (r) and leaves in the peer's run
 pub record ReadsChallenge (packet peer : List ℕ) (r : ℕ) (peerAfter : List ℕ) : Type 0 where
-  pub number : r ≡ numbered (sized 18 peer) (readChallenge packet .refusal)
+  pub number : r ≡ numbered (sized 19 peer) (readChallenge packet .refusal)
   pub first : peerAfter ≡ left r (peerRun (asked (readChallenge packet))) peer
 
 -- what reading a reply answers (r) and leaves in the peer's run and in the run of its fields
 pub record ReadsReply (peer packet fields : List ℕ) (r : ℕ) (peerAfter fieldsAfter : List ℕ)
     : Type 0 where
   pub number : r
-      ≡ numbered (sized 18 peer && sized 35 fields) (numberOf (reads (peerIn peer) packet .verdict))
+      ≡ numbered (isPeer peer && sized 35 fields) (numberOf (reads (peerIn peer) packet .verdict))
   pub next : peerAfter ≡ left r (peerRun (receiving (peerIn peer) packet)) peer
   pub says : fieldsAfter ≡ left r (readingRun (reads (peerIn peer) packet)) fields
 
@@ -34,6 +34,6 @@ changeFrom peer old new filler out = writeChange (peerIn peer .turn) old new fil
 -- what a writer of the packet w answers (r) and leaves in the peer's run and in its buffer
 pub record Writes (w : Wrote) (peer out : List ℕ) (r : ℕ) (peerAfter outAfter : List ℕ)
     : Type 0 where
-  pub number : r ≡ numbered (sized 18 peer) (w .answer .refusal)
+  pub number : r ≡ numbered (isPeer peer) (w .answer .refusal)
   pub next : peerAfter ≡ left r (peerRun (sending (peerIn peer) (w .answer))) peer
   pub packet : outAfter ≡ left r (w .out) out

@@ -10,7 +10,7 @@ use peer::Sent;
 use peer::Turn;
 ghost use mathlib.Core.Path.{_≡_};
 ghost use Rattle.authenticator.specs.Conversation.{awaitedCode};
-ghost use Rattle.mschap.specs.Layout.{mark, isMark, hashRun, hashIn, accountRun, accountIn, recordRun, recordIn, phaseOf, conversationRun, conversationIn, isRecord, isConversation, peerRun, peerIn};
+ghost use Rattle.mschap.specs.Layout.{mark, isMark, hashRun, hashIn, accountRun, accountIn, recordRun, recordIn, phaseOf, conversationRun, conversationIn, isRecord, isConversation, peerRun, peerIn, isPeer};
 
 pub fn mark(b: bool) -> u8
     ensures { λ r. ⌜ r ≡ mark b ⌝ }
@@ -178,32 +178,34 @@ pub fn is_conversation(run: &[u8]) -> bool
 
 // ---- peers
 
-pub fn peer_run(peer: Peer) -> [u8; 18]
+pub fn peer_run(peer: Peer) -> [u8; 19]
     ensures { λ r. ⌜ r ≡ peerRun peer ⌝ }
 {
-    let mut run = [0u8; 18];
+    let mut run = [0u8; 19];
     let sent = peer.sent;
     let turn = peer.turn;
-    let last = [sent.id];
+    let last = [mark(sent.present), sent.id];
     let answered = sent.challenge;
     let next = [turn.id];
     let challenge = turn.challenge;
     octets::copy_at(&mut run, 0, &last);
-    octets::copy_at(&mut run, 1, &answered);
-    octets::copy_at(&mut run, 9, &next);
-    octets::copy_at(&mut run, 10, &challenge);
+    octets::copy_at(&mut run, 2, &answered);
+    octets::copy_at(&mut run, 10, &next);
+    octets::copy_at(&mut run, 11, &challenge);
     run
 }
 
 pub fn peer_in(run: &[u8]) -> Peer
     ensures { λ r. ⌜ r ≡ peerIn (now (run .entry)) ⌝ }
 {
-    let last = packets::octet(run, 0);
-    let answered = octets::eight_at(run, 1);
-    let next = packets::octet(run, 9);
-    let challenge = octets::eight_at(run, 10);
+    let present = is_mark(packets::octet(run, 0));
+    let last = packets::octet(run, 1);
+    let answered = octets::eight_at(run, 2);
+    let next = packets::octet(run, 10);
+    let challenge = octets::eight_at(run, 11);
     Peer {
         sent: Sent {
+            present,
             id: last,
             challenge: answered,
         },
@@ -212,4 +214,13 @@ pub fn peer_in(run: &[u8]) -> Peer
             challenge,
         },
     }
+}
+
+// Whether the run is what a peer writes.
+pub fn is_peer(run: &[u8]) -> bool
+    ensures { λ r. ⌜ r ≡ isPeer (now (run .entry)) ⌝ }
+{
+    let peer = peer_in(run);
+    let written = peer_run(peer);
+    octets::agree(&written, run)
 }

@@ -1,4 +1,5 @@
 // The peer: what it reads, and its two packets. A run holds it between the calls.
+use crate::layouts::is_peer;
 use crate::layouts::peer_in;
 use crate::layouts::peer_run;
 use crate::readings::reading_run;
@@ -28,7 +29,7 @@ pub extern "C" fn mschap_read_reply(peer: &mut [u8], packet: &[u8], fields: &mut
     ensures { λ r. ⌜ ReadsReply (now (peer .entry)) (now (packet .entry)) (now (fields .entry))
         r (now (peer .exit)) (now (fields .exit)) ⌝ }
 {
-    if peer.len() != 18 {
+    if !is_peer(peer) {
         return 100;
     }
     if fields.len() != 35 {
@@ -60,7 +61,7 @@ pub extern "C" fn mschap_write_response(
         (now (out .entry)))
         (now (peer .entry)) (now (out .entry)) r (now (peer .exit)) (now (out .exit)) ⌝ }
 {
-    if peer.len() != 18 {
+    if !is_peer(peer) {
         return 100;
     }
     let before = peer_in(peer);
@@ -86,7 +87,7 @@ pub extern "C" fn mschap_write_change(
         (now (out .entry)))
         (now (peer .entry)) (now (out .entry)) r (now (peer .exit)) (now (out .exit)) ⌝ }
 {
-    if peer.len() != 18 {
+    if !is_peer(peer) {
         return 100;
     }
     let before = peer_in(peer);

@@ -1,20 +1,30 @@
 -- `mschap::peers::mschap_read_reply` meets its contract.
 -- Assumes nothing.
-use mathlib.Core.Path.{_≡_, refl}
+use mathlib.Core.Bool.{true}
+use mathlib.Core.Path.{_≡_, refl, sym, _∙_}
 use borrow.Author.Needs.{needs}
-use borrow.Author.Tests.{eq-eqb, ne-eqb}
+use borrow.Author.Tests.{ne-eqb, not-true, not-false}
 use lib.ListN.{length}
+use Rattle.mschap.specs.Layout.{isPeer}
 use Rattle.mschap.proofs.Peering.{reply-called}
 use Rattle.mschap.proofs.peers.mschap_read_reply.Statement.{statement}
 use Rattle.mschap.proofs.peers.mschap_read_reply.Tie as tie
 
 returns : tie.Need-returns
-returns c = record { number = simp (ne-eqb _ _ (c .if1 .taken)); next = refl; says = refl }
+returns c =
+    record {
+      number = simp (sym (c .before .is-peer .ensures) ∙ not-true _ (c .if1 .taken));
+      next = refl;
+      says = refl;
+    }
+
+good : (c : tie.Else1) → isPeer (c .before .before .before .before .before .before .args .peer .now) ≡ true
+good c = sym (c .before .is-peer .ensures) ∙ not-false _ (c .if1 .left)
 
 returns-2 : tie.Need-returns-2
 returns-2 c =
     record {
-      number = simp (eq-eqb _ _ (c .before .if1 .left), ne-eqb _ _ (c .if2 .taken));
+      number = simp (good (c .before), ne-eqb _ _ (c .if2 .taken));
       next = refl;
       says = refl;
     }
@@ -29,10 +39,10 @@ returns-3 c =
     let r = m .before .before .before in
     let p = r .before in
     let k = p .before .before in
-    let a = k .before .before .before .before .before .args in
-    let n₁ : length (w .peer-run .result) ≡ 18 = search (needs, w .peer-run) in
+    let a = k .before .before .before .before .before .before .before .args in
+    let n₁ : length (w .peer-run .result) ≡ 19 = search (needs, w .peer-run) in
     let n₂ : length (f .reading-run .result) ≡ 35 = search (needs, f .reading-run) in
-    reply-called (a .peer .now) (a .packet .now) (a .fields .now) (k .before .if1 .left)
+    reply-called (a .peer .now) (a .packet .now) (a .fields .now) (good (k .before))
     (k .if2 .left) (p .peer-in .ensures) (r .read-reply .ensures) (m .verdict-number .ensures)
     n₁ (w .peer-run .ensures) n₂ (f .reading-run .ensures) (h₁ .hand .ensures) (h₂ .hand2 .ensures)
 
@@ -40,6 +50,7 @@ pub mschap-read-reply-spec : {M : Type 1} → statement M
 mschap-read-reply-spec =
     tie.close
     (tie.spec
-    returns returns-2 (λ c κs. search needs) (λ c κs. search needs) (λ c κs. search needs)
-    (λ c κs. search needs) (λ c κs. search needs) (λ c. search needs) (λ c κs. search needs)
-    (λ c. search needs) (λ c κs. search needs) (λ c. search needs) (λ c. search needs) returns-3)
+    (λ c κs. search needs) (λ c. search needs) returns (λ c. search needs) returns-2
+    (λ c κs. search needs) (λ c κs. search needs) (λ c κs. search needs) (λ c κs. search needs)
+    (λ c κs. search needs) (λ c. search needs) (λ c κs. search needs) (λ c. search needs)
+    (λ c κs. search needs) (λ c. search needs) (λ c. search needs) returns-3)
