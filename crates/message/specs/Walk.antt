@@ -1,4 +1,5 @@
--- What the code's walk over a message has found so far, in the message's own terms. Only contracts of private functions cite this.
+-- What the code's walk over a message has found so far, in the message's own terms. Only contracts
+-- of private functions cite this.
 -- Assumes nothing: these are definitions.
 use mathlib.Core.Bool.{Bool, true, false}
 use mathlib.Core.List.{List, []}
@@ -24,22 +25,21 @@ pub record ParsedFields : Type 0 where
 
 -- the first fields of a list of words
 abbrev pub parsedIn : List (List ℕ) → ParsedFields
-parsedIn ws = record { e = first fieldE ws; r = first fieldR ws; v = first fieldV ws; c = first fieldC ws }
+parsedIn ws =
+    record { e = first fieldE ws; r = first fieldR ws; v = first fieldV ws; c = first fieldC ws }
 
--- the fields of one word
-abbrev pub parsedOf : List ℕ → ParsedFields
-parsedOf w = record { e = fieldE w; r = fieldR w; v = fieldV w; c = fieldC w }
-
-abbrev pub nothing : ParsedFields
-nothing = record { e = none; r = none; v = none; c = none }
-
--- what is parsed, and for each kind that it lacks what else is
+-- for each kind what the one tells of it or, where that is nothing, what the other tells
 abbrev pub joined : ParsedFields → ParsedFields → ParsedFields
-joined p q = record { e = orElse (p .e) (q .e); r = orElse (p .r) (q .r); v = orElse (p .v) (q .v); c = orElse (p .c) (q .c) }
+joined p q = record {
+  e = orElse (p .e) (q .e);
+  r = orElse (p .r) (q .r);
+  v = orElse (p .v) (q .v);
+  c = orElse (p .c) (q .c);
+}
 
 -- ---- places
 
--- the first word of a text; a text without an octet has the empty word
+-- the first word of a text
 abbrev pub firstWord : List ℕ → List ℕ
 firstWord m = getD (words m) 0 []
 
@@ -53,13 +53,18 @@ digitsAt m (At from) = some (digitsOf (wordAt m from))
 digitsAt m Nowhere = none
 
 abbrev pub parsedAt : List ℕ → Fields → ParsedFields
-parsedAt m f = record { e = digitsAt m (f .e); r = digitsAt m (f .r); v = digitsAt m (f .v); c = digitsAt m (f .c) }
+parsedAt m f = record {
+  e = digitsAt m (f .e);
+  r = digitsAt m (f .r);
+  v = digitsAt m (f .v);
+  c = digitsAt m (f .c);
+}
 
--- r is f with the words from a place on
-abbrev pub Completed : List ℕ → ℕ → Fields → Fields → Type 0
-Completed m from f r = parsedAt m r ≡ joined (parsedAt m f) (parsedIn (words (drop from m)))
+-- what f tells, and then the words from a place on
+abbrev pub completed : List ℕ → ℕ → Fields → ParsedFields
+completed m from f = joined (parsedAt m f) (parsedIn (words (drop from m)))
 
--- ---- the first field of a kind
+-- ---- the kind of a word
 
 -- a kind where there are digits of it, and else another
 abbrev pub kindIf : Option (List ℕ) → WordKind → WordKind → WordKind
@@ -68,13 +73,14 @@ kindIf none k other = other
 
 unfoldable pub kindOf : List ℕ → WordKind
 kindOf w =
-    kindIf (fieldE w) Error (kindIf (fieldR w) Retry (kindIf (fieldV w) Version (kindIf (fieldC w) Challenge Text)))
+    kindIf (fieldE w) Error
+    (kindIf (fieldR w) Retry (kindIf (fieldV w) Version (kindIf (fieldC w) Challenge Text)))
 
 abbrev pub isNowhere : Place → Bool
 isNowhere (At from) = false
 isNowhere Nowhere = true
 
--- whether the place of a kind is missing
+-- whether f has no place for a kind; there is none to have for text
 abbrev pub lacks : Fields → WordKind → Bool
 lacks f Error = isNowhere (f .e)
 lacks f Retry = isNowhere (f .r)
@@ -82,10 +88,11 @@ lacks f Version = isNowhere (f .v)
 lacks f Challenge = isNowhere (f .c)
 lacks f Text = false
 
+-- whether a word is a field and, after f, the first of its kind
 abbrev pub isNew : Fields → List ℕ → Bool
 isNew f w = lacks f (kindOf w)
 
--- f with the place of a kind
+-- f with a place for a kind
 abbrev pub withPlace : Fields → WordKind → Place → Fields
 withPlace f Error p = record { e = p; r = f .r; v = f .v; c = f .c }
 withPlace f Retry p = record { e = f .e; r = p; v = f .v; c = f .c }
@@ -93,18 +100,19 @@ withPlace f Version p = record { e = f .e; r = f .r; v = p; c = f .c }
 withPlace f Challenge p = record { e = f .e; r = f .r; v = f .v; c = p }
 withPlace f Text p = f
 
-abbrev pub one : Bool → ℕ
-one true = 1
-one false = 0
+abbrev pub oneIf : Bool → ℕ
+oneIf true = 1
+oneIf false = 0
 
--- how many of the four places are missing
+-- for how many of the four kinds f has no place
 abbrev pub missing : Fields → ℕ
-missing f = one (lacks f Error) + one (lacks f Retry) + one (lacks f Version) + one (lacks f Challenge)
+missing f =
+    oneIf (lacks f Error) + oneIf (lacks f Retry) + oneIf (lacks f Version) + oneIf (lacks f Challenge)
 
--- r is f with the word w, which begins at a place, and one place fewer is missing
-pub record Noted (w : List ℕ) (from : ℕ) (f r : Fields) : Type 0 where
-  pub placed : r ≡ withPlace f (kindOf w) (At from)
-  pub fewer : missing r < missing f
+-- g is f with the place of the word w, and has a place for one kind more
+pub record Noted (w : List ℕ) (from : ℕ) (f g : Fields) : Type 0 where
+  pub placed : g ≡ withPlace f (kindOf w) (At from)
+  pub fewer : missing g < missing f
 
 -- ---- digits
 

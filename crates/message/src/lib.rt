@@ -6,7 +6,7 @@ ghost use Prim.Native.Nat.{_%_, _≤_, _<_};
 ghost use lib.ListN.{length, drop};
 ghost use Rattle.octets.specs.Digits.{digitOf, hexOf};
 ghost use Rattle.message.specs.Message.{words, allBelow, isField, first, fieldE, numberFrom, numberOr, pairs, calledFor, numberOf, valuesOf, noC, givenAs, refusedWith, readFields, readMessage, messageRefusal, messageValues, textOf};
-ghost use Rattle.message.specs.Walk.{kindOf, isNowhere, lacks, withPlace, isNew, digitsAt, parsedAt, parsedIn, wordAt, Noted, Completed, IfSome, Small, Eight};
+ghost use Rattle.message.specs.Walk.{kindOf, isNowhere, lacks, withPlace, isNew, digitsAt, parsedAt, parsedIn, completed, wordAt, Noted, IfSome, Small, Eight};
 
 // What a failure calls for.
 pub enum Call {
@@ -141,7 +141,7 @@ fn is_field(word: &[u8], letter: u8, base: u8, low: usize, high: usize) -> bool
     if word[1] != b'=' {
         return false;
     }
-    let digits = digits_of(word);
+    let digits = &word[2..];
     if digits.len() < low {
         return false;
     }
@@ -223,7 +223,7 @@ fn is_new(word: &[u8], f: Fields) -> bool
 // The fields with a word that begins at `from` and is the first field of its kind: one place fewer is missing.
 fn note(word: &[u8], from: usize, f: Fields) -> Fields
     requires { ⌜ (from < 256) × (isNew f (now word) ≡ true) ⌝ }
-    ensures { λ r. ⌜ Noted (now (word .entry)) from f r ⌝ }
+    ensures { λ g. ⌜ Noted (now (word .entry)) from f g ⌝ }
 {
     with_place(f, kind_of(word), Place::At(from as u8))
 }
@@ -254,7 +254,7 @@ fn word_at(message: &[u8], from: usize) -> &[u8]
 // Inside a field: the word that begins at `from` is the first field of its kind. Behind it there is text.
 fn in_field(message: &[u8], from: usize, f: Fields) -> Fields
     requires { ⌜ (length (now message) ≤ 256) × (isNew f (wordAt (now message) from) ≡ true) ⌝ }
-    ensures { λ r. ⌜ Completed (now (message .entry)) from f r ⌝ }
+    ensures { λ g. ⌜ parsedAt (now (message .entry)) g ≡ completed (now (message .entry)) from f ⌝ }
 {
     let word = word_at(message, from);
     let noted = note(word, from, f);
@@ -264,7 +264,7 @@ fn in_field(message: &[u8], from: usize, f: Fields) -> Fields
 // Inside text to be skipped: it goes on to a word that is the first field of its kind.
 fn in_text(message: &[u8], at: usize, f: Fields) -> Fields
     requires { ⌜ length (now message) ≤ 256 ⌝ }
-    ensures { λ r. ⌜ Completed (now (message .entry)) at f r ⌝ }
+    ensures { λ g. ⌜ parsedAt (now (message .entry)) g ≡ completed (now (message .entry)) at f ⌝ }
 {
     let mut from = at;
     while from < message.len() {
