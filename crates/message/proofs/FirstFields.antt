@@ -13,10 +13,14 @@ use lib.ListN.{length, drop, drop-of-length-le}
 use Rattle.message.specs.declared.Place.{Place}
 use Rattle.message.specs.declared.Place.the-variants.{At, Nowhere}
 use Rattle.message.specs.declared.WordKind.{WordKind}
-use Rattle.message.specs.declared.WordKind.the-variants.{Error, Retry, Version, Challenge, Text}
+use Rattle.message.specs.declared.WordKind.the-variants.{Error, Retry, Version, Challenge}
+use Rattle.message.specs.declared.WordKind.the-variants.{Text}
 use Rattle.message.specs.declared.Fields.{Fields}
-use Rattle.message.specs.Message.{words, digitsOf, isField, fieldOf, fieldE, fieldR, fieldV, fieldC, orElse}
-use Rattle.message.specs.Walk.{ParsedFields, parsedIn, joined, wordAt, digitsAt, parsedAt, completed, kindIf, kindOf, isNowhere, lacks, isNew, withPlace, oneIf, missing, Noted}
+use Rattle.message.specs.Message.{words, digitsOf, isField, fieldOf, orElse}
+use Rattle.message.specs.Message.{fieldE, fieldR, fieldV, fieldC}
+use Rattle.message.specs.Walk.{ParsedFields, parsedIn, joined, wordAt, digitsAt, parsedAt}
+use Rattle.message.specs.Walk.{completed, kindIf, kindOf, isNowhere, lacks, isNew, withPlace}
+use Rattle.message.specs.Walk.{oneIf, missing, Noted}
 use Rattle.message.proofs.Words.{behind, length-word, word-and-others, words-behind}
 
 -- ---- a word is of one kind
@@ -35,7 +39,8 @@ only Text ds = record { e = none; r = none; v = none; c = none }
 
 -- a field of one letter is none of another
 module _ (l base low high l′ base′ low′ high′ : ℕ) (d : eqb l l′ ≡ false) where
-  other-letter : (w : List ℕ) → isField l base low high w ≡ true → isField l′ base′ low′ high′ w ≡ false
+  other-letter : (w : List ℕ) → isField l base low high w ≡ true
+      → isField l′ base′ low′ high′ w ≡ false
   unfolding isField
   other-letter [] e = refl
   other-letter (x ∷ []) e = refl
@@ -59,10 +64,11 @@ one-kind w =
 
     kind : Bool → Bool → Bool → Bool → WordKind
     kind e r v c =
-        kindIf (digitsIf e) Error
-        (kindIf (digitsIf r) Retry (kindIf (digitsIf v) Version (kindIf (digitsIf c) Challenge Text)))
+        kindIf (digitsIf e) Error (kindIf (digitsIf r) Retry
+        (kindIf (digitsIf v) Version (kindIf (digitsIf c) Challenge Text)))
 
-    which : (e r v c : Bool) → (e ≡ true → r ≡ false) → (e ≡ true → v ≡ false) → (e ≡ true → c ≡ false)
+    which : (e r v c : Bool)
+        → (e ≡ true → r ≡ false) → (e ≡ true → v ≡ false) → (e ≡ true → c ≡ false)
         → (r ≡ true → v ≡ false) → (r ≡ true → c ≡ false) → (v ≡ true → c ≡ false)
         → record { e = digitsIf e; r = digitsIf r; v = digitsIf v; c = digitsIf c }
         ≡ only (kind e r v c) (digitsOf w)
@@ -86,31 +92,33 @@ joined-assoc : (p q r : ParsedFields) → joined (joined p q) r ≡ joined p (jo
 joined-assoc p q r = simp orElse-assoc
 
 module _ (m : List ℕ) where
-  no-place : (p : Place) (ds : List ℕ) → isNowhere p ≡ true → orElse (digitsAt m p) (some ds) ≡ some ds
-  no-place (At from) ds h = absurd (false≢true h)
-  no-place Nowhere ds h = refl
+  no-place : (p : Place) → isNowhere p ≡ true → (ds : List ℕ)
+      → orElse (digitsAt m p) (some ds) ≡ some ds
+  no-place (At from) h ds = absurd (false≢true h)
+  no-place Nowhere h ds = refl
 
-  a-place : (p : Place) (ds : List ℕ) → isNowhere p ≡ false
+  a-place : (p : Place) → isNowhere p ≡ false → (ds : List ℕ)
       → orElse (digitsAt m p) (some ds) ≡ digitsAt m p
-  a-place (At from) ds h = refl
-  a-place Nowhere ds h = absurd (false≢true (sym h))
+  a-place (At from) h ds = refl
+  a-place Nowhere h ds = absurd (false≢true (sym h))
 
   -- where f has no place for the kind, the word's place tells its digits
   first-of-kind : (f : Fields) (k : WordKind) (from : ℕ) → lacks f k ≡ true
-      → parsedAt m (withPlace f k (At from)) ≡ joined (parsedAt m f) (only k (digitsOf (wordAt m from)))
-  first-of-kind f Error from h = simp (no-place (f .e) (digitsOf (wordAt m from)) h, orElse-none)
-  first-of-kind f Retry from h = simp (no-place (f .r) (digitsOf (wordAt m from)) h, orElse-none)
-  first-of-kind f Version from h = simp (no-place (f .v) (digitsOf (wordAt m from)) h, orElse-none)
-  first-of-kind f Challenge from h = simp (no-place (f .c) (digitsOf (wordAt m from)) h, orElse-none)
+      → parsedAt m (withPlace f k (At from))
+      ≡ joined (parsedAt m f) (only k (digitsOf (wordAt m from)))
+  first-of-kind f Error from h = simp (no-place (f .e) h, orElse-none)
+  first-of-kind f Retry from h = simp (no-place (f .r) h, orElse-none)
+  first-of-kind f Version from h = simp (no-place (f .v) h, orElse-none)
+  first-of-kind f Challenge from h = simp (no-place (f .c) h, orElse-none)
   first-of-kind f Text from h = absurd (false≢true h)
 
   -- where it has one, and for text, nothing is added
   later-of-kind : (f : Fields) (k : WordKind) (ds : List ℕ) → lacks f k ≡ false
       → parsedAt m f ≡ joined (parsedAt m f) (only k ds)
-  later-of-kind f Error ds h = simp (a-place (f .e) ds h, orElse-none)
-  later-of-kind f Retry ds h = simp (a-place (f .r) ds h, orElse-none)
-  later-of-kind f Version ds h = simp (a-place (f .v) ds h, orElse-none)
-  later-of-kind f Challenge ds h = simp (a-place (f .c) ds h, orElse-none)
+  later-of-kind f Error ds h = simp (a-place (f .e) h, orElse-none)
+  later-of-kind f Retry ds h = simp (a-place (f .r) h, orElse-none)
+  later-of-kind f Version ds h = simp (a-place (f .v) h, orElse-none)
+  later-of-kind f Challenge ds h = simp (a-place (f .c) h, orElse-none)
   later-of-kind f Text ds h = simp orElse-none
 
 -- ---- a word that is new, and one that is not
@@ -144,8 +152,8 @@ module _ (m : List ℕ) (from : ℕ) (f : Fields) where
       let n : 0 < length (wordAt m from) = new-long f (wordAt m from) h in
       (n, omega (arith, length-word m from))
 
-  -- What f and the word there tell, and then the words behind it, is what f tells, and then the words
-  -- from there on.
+  -- What f and the word there tell, and then the words behind it, is what f tells, and then the
+  -- words from there on.
   passed : {p : ParsedFields} → let w = wordAt m from in
       p ≡ joined (parsedAt m f) (only (kindOf w) (digitsOf w))
       → joined p (parsedIn (words (drop (behind m from) m))) ≡ completed m from f
@@ -153,13 +161,14 @@ module _ (m : List ℕ) (from : ℕ) (f : Fields) where
       let w = wordAt m from in
       let known = parsedAt m f in
       let later = parsedIn (words (drop (behind m from) m)) in
-      let split : parsedIn (words (drop from m)) ≡ joined (parsedOf w) later = ap parsedIn (word-and-others m from) ∙ ap (joined (parsedOf w)) (words-behind m from) in
+      let split : parsedIn (words (drop from m)) ≡ joined (parsedOf w) later =
+      ap parsedIn (word-and-others m from) ∙ ap (joined (parsedOf w)) (words-behind m from) in
       ap (λ (p : ParsedFields). joined p later) (e ∙ ap (joined known) (sym (one-kind w)))
       ∙ joined-assoc known (parsedOf w) later
       ∙ ap (joined known) (sym split)
 
-  pub new-field : isNew f (wordAt m from) ≡ true
-      → completed m (behind m from) (withPlace f (kindOf (wordAt m from)) (At from)) ≡ completed m from f
+  pub new-field : let w = wordAt m from in isNew f w ≡ true
+      → completed m (behind m from) (withPlace f (kindOf w) (At from)) ≡ completed m from f
   new-field h = passed (first-of-kind m f (kindOf (wordAt m from)) from h)
 
   pub skipped : isNew f (wordAt m from) ≡ false → completed m (behind m from) f ≡ completed m from f

@@ -1,19 +1,18 @@
 -- When a word is a field, and what holds of a field's digits.
 -- Assumes nothing.
 use mathlib.Core.Path.{_≡_, refl, sym, ap, _∙_}
-use mathlib.Core.Bool.{Bool, true, false, cond, _&&_, and-false, and-eq-true-iff, false≢true}
+use mathlib.Core.Bool.{Bool, true, false, cond, _&&_, and-eq-true-iff}
 use mathlib.Core.List.{List, [], _∷_, map}
 use mathlib.Core.Option.{Option, none, some}
 use Prim.Native.Nat.{ℕ, _^_, _≤_, _<_}
 use native.Mathlib.Nat.{pow-le-pow-right, le-trans, le-antisymm}
 use native.Mathlib.Omega.{arith}
-use borrow.Author.Tests.{ne-eqb, le-ltb, ltb-false, leb-true}
-use lib.Dec.{eqb, leb, ltb, lit≤}
+use borrow.Author.Tests.{leb-true}
+use lib.Dec.{eqb, leb}
 use lib.ListN.{length, length-map, drop, getD}
 use Rattle.octets.specs.Digits.{digitOf}
-use Rattle.octets.specs.Parts.{part}
 use Rattle.message.specs.declared.Place.{Place}
-use Rattle.message.specs.declared.Place.the-variants.{At, Nowhere}
+use Rattle.message.specs.declared.Place.the-variants.{At}
 use Rattle.message.specs.Message.{allBelow, digitsOf, isField, fieldOf, fieldC, orElse, first}
 use Rattle.message.specs.Walk.{wordAt, digitsAt, IfSome, Small, Eight}
 
@@ -56,7 +55,8 @@ module _ (letter base low high : ℕ) where
   unfolding fieldOf
   field-formed w = which (isField letter base low high w) (formed w)
     where
-      which : (b : Bool) → (b ≡ true → Formed (digitsOf w)) → IfSome Formed (cond b (some (digitsOf w)) none)
+      which : (b : Bool) → (b ≡ true → Formed (digitsOf w))
+          → IfSome Formed (cond b (some (digitsOf w)) none)
       which true h = h refl
       which false h = tt
 
@@ -64,11 +64,13 @@ module _ (letter base low high : ℕ) where
   first-formed [] = tt
   first-formed (w ∷ ws) = which (fieldOf letter base low high w) (first (fieldOf letter base low high) ws) (field-formed w) (first-formed ws)
     where
-      which : (o p : Option (List ℕ)) → IfSome Formed o → IfSome Formed p → IfSome Formed (orElse o p)
+      which : (o p : Option (List ℕ)) → IfSome Formed o → IfSome Formed p
+          → IfSome Formed (orElse o p)
       which none p h k = k
       which (some ds) p h k = h
 
-if-some-map : {P Q : List ℕ → Type 0} (o : Option (List ℕ)) → ((ds : List ℕ) → P ds → Q ds) → IfSome P o → IfSome Q o
+if-some-map : {P Q : List ℕ → Type 0} (o : Option (List ℕ)) → ((ds : List ℕ) → P ds → Q ds)
+    → IfSome P o → IfSome Q o
 if-some-map none f h = tt
 if-some-map (some ds) f h = f ds h
 
@@ -81,9 +83,13 @@ first-small letter base low high ws p q =
 
 pub first-eight : (ws : List (List ℕ)) → IfSome Eight (first fieldC ws)
 first-eight ws =
-    if-some-map (first fieldC ws) (λ ds h. record { below = h .below; long = le-antisymm (h .most) (h .least) }) (first-formed 67 16 16 16 ws)
+    if-some-map (first fieldC ws)
+    (λ ds h. record { below = h .below; long = le-antisymm (h .most) (h .least) })
+    (first-formed 67 16 16 16 ws)
 
 -- ---- the digits at a place
 
-pub found : (m : List ℕ) {p : Place} {from : ℕ} {w ds : List ℕ} → p ≡ At from → w ≡ wordAt m from → ds ≡ drop 2 w → digitsAt m p ≡ some (map digitOf ds)
-found m e f g = ap (digitsAt m) e ∙ sym (ap (λ (l : List ℕ). some (map digitOf l)) (g ∙ ap (drop 2) f))
+pub found : (m : List ℕ) {p : Place} {from : ℕ} {w ds : List ℕ}
+    → p ≡ At from → w ≡ wordAt m from → ds ≡ drop 2 w → digitsAt m p ≡ some (map digitOf ds)
+found m e f g =
+    ap (digitsAt m) e ∙ sym (ap (λ (l : List ℕ). some (map digitOf l)) (g ∙ ap (drop 2) f))

@@ -1,5 +1,5 @@
--- The words of a message against its octets: the first word of a text, what the others tell, and the
--- search for the end of a word.
+-- The words of a message against its octets: the first word of a text, what the others tell, and
+-- the search for the end of a word.
 -- Assumes nothing.
 use mathlib.Core.Path.{_≡_, refl, sym, ap, _∙_}
 use mathlib.Core.Bool.{Bool, true, false, cond}
@@ -15,7 +15,7 @@ use lib.Seq.{drop-cons, drop-drop, append-snoc}
 use Rattle.octets.specs.Parts.{part}
 use Rattle.octets.proofs.Parts.{part-join}
 use Rattle.message.specs.Message.{withFirst, words, isField, fieldOf}
-use Rattle.message.specs.Walk.{parsedIn, firstWord, wordAt}
+use Rattle.message.specs.Walk.{ParsedFields, parsedIn, firstWord, wordAt}
 
 -- ---- the first word, and the others
 
@@ -69,6 +69,9 @@ others (x ∷ m) = which (eqb x 32) refl (others m)
     drop-first [] = refl
     drop-first (w ∷ ws) = refl
 
+    later : List ℕ → ParsedFields
+    later w = parsedIn (words (drop (suc (length w)) (x ∷ m)))
+
     Others : List ℕ → Type 0
     Others l = parsedIn (drop 1 (words l)) ≡ parsedIn (words (drop (suc (length (firstWord l))) l))
 
@@ -78,7 +81,7 @@ others (x ∷ m) = which (eqb x 32) refl (others m)
         let n = eqb-false x 32 e in
         ap parsedIn (ap (drop 1) (words-other x m n) ∙ drop-first (words m))
         ∙ h
-        ∙ sym (ap (λ (w : List ℕ). parsedIn (words (drop (suc (length w)) (x ∷ m)))) (first-other x m n))
+        ∙ sym (ap later (first-other x m n))
 
 -- ---- the word at a place
 
@@ -90,11 +93,12 @@ module _ (m : List ℕ) (from : ℕ) where
   pub length-word : length (wordAt m from) ≤ length m - from
   length-word = rw length-drop at (length-first (drop from m))
 
-  -- the words from a place on are the word there, and what tells the same as those behind it
+  -- the words from a place on are the word there, and others that tell what those behind it tell
   pub word-and-others : words (drop from m) ≡ wordAt m from ∷ drop 1 (words (drop from m))
   word-and-others = first-and-others (drop from m)
 
-  pub words-behind : parsedIn (drop 1 (words (drop from m))) ≡ parsedIn (words (drop (behind m from) m))
+  pub words-behind : parsedIn (drop 1 (words (drop from m)))
+      ≡ parsedIn (words (drop (behind m from) m))
   words-behind =
       let n = length (wordAt m from) in
       let k : from + suc n ≡ from + n + 1 = omega arith in
@@ -125,7 +129,8 @@ module _ (m : List ℕ) (from to : ℕ) (b : Begun m from to) where
   goes-on h n =
       let passed = part from (to - from) m in
       let x = getD m to 0 in
-      let one : wordAt m to ≡ x ∷ wordAt m (to + 1) = ap firstWord (here m to h) ∙ first-other x _ n in
+      let one : wordAt m to ≡ x ∷ wordAt m (to + 1) =
+      ap firstWord (here m to h) ∙ first-other x (drop (to + 1) m) n in
       record {
         ahead = omega arith;
         begins =

@@ -10,9 +10,11 @@ use lib.ListN.{length, drop, getD}
 use Rattle.message.specs.declared.Place.{Place}
 use Rattle.message.specs.declared.Place.the-variants.{At, Nowhere}
 use Rattle.message.specs.declared.WordKind.{WordKind}
-use Rattle.message.specs.declared.WordKind.the-variants.{Error, Retry, Version, Challenge, Text}
+use Rattle.message.specs.declared.WordKind.the-variants.{Error, Retry, Version, Challenge}
+use Rattle.message.specs.declared.WordKind.the-variants.{Text}
 use Rattle.message.specs.declared.Fields.{Fields}
-use Rattle.message.specs.Message.{words, allBelow, digitsOf, fieldE, fieldR, fieldV, fieldC, orElse, first}
+use Rattle.message.specs.Message.{words, allBelow, digitsOf, orElse, first}
+use Rattle.message.specs.Message.{fieldE, fieldR, fieldV, fieldC}
 
 -- ---- fields
 
@@ -107,7 +109,8 @@ oneIf false = 0
 -- for how many of the four kinds f has no place
 abbrev pub missing : Fields → ℕ
 missing f =
-    oneIf (lacks f Error) + oneIf (lacks f Retry) + oneIf (lacks f Version) + oneIf (lacks f Challenge)
+    oneIf (lacks f Error) + oneIf (lacks f Retry) + oneIf (lacks f Version)
+    + oneIf (lacks f Challenge)
 
 -- g is f with the place of the word w, and has a place for one kind more
 pub record Noted (w : List ℕ) (from : ℕ) (f g : Fields) : Type 0 where

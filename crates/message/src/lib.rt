@@ -6,7 +6,9 @@ ghost use Prim.Native.Nat.{_%_, _≤_, _<_};
 ghost use lib.ListN.{length, drop};
 ghost use Rattle.octets.specs.Digits.{digitOf, hexOf};
 ghost use Rattle.message.specs.Message.{words, allBelow, isField, first, fieldE, numberFrom, numberOr, pairs, calledFor, numberOf, valuesOf, noC, givenAs, refusedWith, readFields, readMessage, messageRefusal, messageValues, textOf};
-ghost use Rattle.message.specs.Walk.{kindOf, isNowhere, lacks, withPlace, isNew, digitsAt, parsedAt, parsedIn, completed, wordAt, Noted, IfSome, Small, Eight};
+ghost use Rattle.message.specs.Walk.{kindOf, isNowhere, lacks, isNew, withPlace, Noted};
+ghost use Rattle.message.specs.Walk.{digitsAt, parsedAt, parsedIn, completed, wordAt};
+ghost use Rattle.message.specs.Walk.{IfSome, Small, Eight};
 
 // What a failure calls for.
 pub enum Call {
@@ -45,8 +47,8 @@ pub struct Reading {
     pub c: Given,
 }
 
-// Where a field begins in the message. One octet will do, as a message that is read has at most 256:
-// the reading states hold four places in each call that is open.
+// Where a field begins in the message. One octet will do, as no message over 256 octets is read, and
+// each call of the reading states holds four places.
 enum Place {
     At(u8),
     Nowhere,
@@ -220,7 +222,8 @@ fn is_new(word: &[u8], f: Fields) -> bool
     is_missing(f, kind_of(word))
 }
 
-// The fields with a word that begins at `from` and is the first field of its kind: one place fewer is missing.
+// The fields with a word that begins at `from` and is the first field of its kind: one place fewer
+// is missing.
 fn note(word: &[u8], from: usize, f: Fields) -> Fields
     requires { ⌜ (from < 256) × (isNew f (now word) ≡ true) ⌝ }
     ensures { λ g. ⌜ Noted (now (word .entry)) from f g ⌝ }
@@ -246,12 +249,13 @@ fn word_at(message: &[u8], from: usize) -> &[u8]
 
 // ---- the walk: the two reading states
 //
-// They call each other where the state changes, and only there: `in_text` passes over all text that is
-// to be skipped in a loop, and `in_field` is entered for the first field of a kind alone. There are four
-// kinds, so at most nine calls are open at the same time, however long the message is: `in_text` five
-// times and `in_field` four times. That bounds the stack, whatever a compiler makes of calls in last place.
+// They call each other where the state changes, and only there: all text that is to be skipped is
+// passed in a loop, and `in_field` is called for the first field of a kind alone (its `requires`).
+// With each such field one place fewer of the four is missing (`note`). So at most nine calls are
+// open at the same time, five of `in_text` and four of `in_field`, however long the message is, and
+// whatever a compiler makes of a call in last place: that bounds the stack.
 
-// Inside a field: the word that begins at `from` is the first field of its kind. Behind it there is text.
+// Inside a field: the word at `from` is the first field of its kind. Behind it there is text again.
 fn in_field(message: &[u8], from: usize, f: Fields) -> Fields
     requires { ⌜ (length (now message) ≤ 256) × (isNew f (wordAt (now message) from) ≡ true) ⌝ }
     ensures { λ g. ⌜ parsedAt (now (message .entry)) g ≡ completed (now (message .entry)) from f ⌝ }

@@ -1,6 +1,6 @@
--- `message::in_field` and `message::in_text`, which call each other, meet their contracts. The measure
--- of both is what is left of the message, with its end counted: behind the field, and from the text on.
--- The loop's invariant: the words that were passed over tell nothing more.
+-- `message::in_field` and `message::in_text`, which call each other, meet their contracts. The
+-- measure of both is what is left of the message, with its end counted: behind the field, and from
+-- the text on. The loop's invariant: the words that were passed over tell nothing more.
 -- Assumes nothing.
 use mathlib.Core.Path.{_≡_, refl, sym, ap, _∙_}
 use mathlib.Core.Bool.{true, false}
@@ -75,7 +75,8 @@ field-note-requires t c κs = (omega (arith, field-new t c), field-new t c .0)
 field-add : (t : ℕ) → in-field-lts.Need-add-in-text (field-calls t) (in-field-at t) in-field.Post
 field-add t c = omega (arith, field-new t (c .before))
 
-field-add-2 : (t : ℕ) → in-field-lts.Need-add-in-text-2 (field-calls t) (in-field-at t) in-field.Post
+field-add-2 : (t : ℕ)
+    → in-field-lts.Need-add-in-text-2 (field-calls t) (in-field-at t) in-field.Post
 field-add-2 t c = omega (arith, field-new t (c .before))
 
 field-in-text-requires : (t : ℕ)
@@ -122,24 +123,29 @@ text-in-field-requires t c κs =
     let a = loop .before .before .args in
     let m = a .message .now in
     let from = loop .loop .from in
-    let new : isNew (a .f) (wordAt m from) ≡ true = rw (← word .word-at .ensures) (sym (c .before .is-new .ensures) ∙ c .if1 .taken) in
+    let new : isNew (a .f) (wordAt m from) ≡ true =
+    rw (← word .word-at .ensures) (sym (c .before .is-new .ensures) ∙ c .if1 .taken) in
     (omega (arith, new-within m from (a .f) new), (omega arith, new))
 
-text-returns : (t : ℕ) → in-text-lts.Need-returns (text-calls t) (in-text-at t) in-text.Post Inv-loop μ-loop
+text-returns : (t : ℕ)
+    → in-text-lts.Need-returns (text-calls t) (in-text-at t) in-text.Post Inv-loop μ-loop
 text-returns t c = c .in-field .ensures ∙ c .before .before .before .before .before .loop .inv .1
 
 -- the word that is passed over ends within the message
-text-within : (t : ℕ) (c : in-text-lts.Else1 (text-calls t) (in-text-at t) in-text.Post Inv-loop μ-loop)
+text-within : (t : ℕ)
+    (c : in-text-lts.Else1 (text-calls t) (in-text-at t) in-text.Post Inv-loop μ-loop)
     → let word = c .before .before in
     let loop = word .before .before in
-    loop .loop .from + length (word .word-at .result .now) ≤ length (loop .before .before .args .message .now)
+    let a = loop .before .before .args in
+    loop .loop .from + length (word .word-at .result .now) ≤ length (a .message .now)
 text-within t c =
     let word = c .before .before in
     let loop = word .before .before in
     rw (word .word-at .ensures)
     (omega (arith, length-word (loop .before .before .args .message .now) (loop .loop .from)))
 
-text-add : (t : ℕ) → in-text-lts.Need-add-from (text-calls t) (in-text-at t) in-text.Post Inv-loop μ-loop
+text-add : (t : ℕ)
+    → in-text-lts.Need-add-from (text-calls t) (in-text-at t) in-text.Post Inv-loop μ-loop
 text-add t c = omega (arith, text-within t c)
 
 text-add-2 : (t : ℕ)
@@ -154,7 +160,8 @@ text-loop-again t c =
     let a = loop .before .before .args in
     let m = a .message .now in
     let from = loop .loop .from in
-    let old : isNew (a .f) (wordAt m from) ≡ false = rw (← word .word-at .ensures) (sym (c .before .is-new .ensures) ∙ c .if1 .left) in
+    let old : isNew (a .f) (wordAt m from) ≡ false =
+    rw (← word .word-at .ensures) (sym (c .before .is-new .ensures) ∙ c .if1 .left) in
     (omega arith, rw (word .word-at .ensures) (skipped m from (a .f) old) ∙ loop .loop .inv .1)
 
 text-returns-2 : (t : ℕ)

@@ -37,7 +37,8 @@ returns-4 c =
     let u = c .before .before in
     let t = u .before .before in
     let a = t .before .before .before .before .args in
-    let k : length (drop 2 (a .word .now)) < a .low = omega (arith, ap length (behind (a .word .now))) in
+    let w = a .word .now in
+    let k : length (drop 2 w) < a .low = omega (arith, ap length (behind w)) in
     sym (long (a .letter) (a .base) (a .low) (a .high) (a .word .now) (t .before .before .if1 .left) ∙ simp (eq-eqb _ _ (t .if2 .left), eq-eqb _ _ (u .if3 .left), lt-leb _ _ k))
 
 returns-5 : tie.Need-returns-5
@@ -46,8 +47,9 @@ returns-5 c =
     let u = d .before in
     let t = u .before .before in
     let a = t .before .before .before .before .args in
-    let k : a .low ≤ length (drop 2 (a .word .now)) = omega (arith, ap length (behind (a .word .now))) in
-    let n : a .high < length (drop 2 (a .word .now)) = omega (arith, ap length (behind (a .word .now))) in
+    let w = a .word .now in
+    let k : a .low ≤ length (drop 2 w) = omega (arith, ap length (behind w)) in
+    let n : a .high < length (drop 2 w) = omega (arith, ap length (behind w)) in
     sym (
     long (a .letter) (a .base) (a .low) (a .high) (a .word .now) (t .before .before .if1 .left)
     ∙ simp (eq-eqb _ _ (t .if2 .left), eq-eqb _ _ (u .if3 .left), le-leb _ _ k, lt-leb _ _ n)
@@ -59,10 +61,11 @@ returns-6 c =
     let u = d .before in
     let t = u .before .before in
     let a = t .before .before .before .before .args in
-    let k : a .low ≤ length (drop 2 (a .word .now)) = omega (arith, ap length (behind (a .word .now))) in
-    let n : length (drop 2 (a .word .now)) ≤ a .high = omega (arith, ap length (behind (a .word .now))) in
+    let w = a .word .now in
+    let k : a .low ≤ length (drop 2 w) = omega (arith, ap length (behind w)) in
+    let n : length (drop 2 w) ≤ a .high = omega (arith, ap length (behind w)) in
     c .are-digits .ensures
-    ∙ ap (λ (l : List ℕ). allBelow (a .base) (map digitOf l)) (behind (a .word .now))
+    ∙ ap (λ (l : List ℕ). allBelow (a .base) (map digitOf l)) (behind w)
     ∙ sym (
     long (a .letter) (a .base) (a .low) (a .high) (a .word .now) (t .before .before .if1 .left)
     ∙ simp (eq-eqb _ _ (t .if2 .left), eq-eqb _ _ (u .if3 .left), le-leb _ _ k, le-leb _ _ n)
@@ -72,4 +75,5 @@ pub is-field-spec : {M : Type 1} → statement M
 is-field-spec =
     tie.close
     (tie.spec
-    returns (λ c. search needs) returns-2 (λ c. search needs) returns-3 (λ c. search needs) (λ c. search needs) (λ c. search needs) returns-4 returns-5 (λ c κs. search needs) returns-6)
+    returns (λ c. search needs) returns-2 (λ c. search needs) returns-3 (λ c. search needs)
+    (λ c. search needs) (λ c. search needs) returns-4 returns-5 (λ c κs. search needs) returns-6)

@@ -15,7 +15,10 @@ returns-2 : tie.Need-returns-2
 unfolding kindOf fieldOf
 returns-2 c =
     let e = c .before .before in
-    rw (sym (e .before .is-field .ensures) ∙ e .if1 .left, sym (c .before .is-field2 .ensures) ∙ c .if2 .taken)
+    rw (
+      sym (e .before .is-field .ensures) ∙ e .if1 .left,
+      sym (c .before .is-field2 .ensures) ∙ c .if2 .taken,
+    )
 
 returns-3 : tie.Need-returns-3
 unfolding kindOf fieldOf
@@ -58,4 +61,5 @@ pub kind-of-spec : {M : Type 1} → statement M
 kind-of-spec =
     tie.close
     (tie.spec
-    (λ c κs. search needs) returns (λ c κs. search needs) returns-2 (λ c κs. search needs) returns-3 (λ c κs. search needs) returns-4 returns-5)
+    (λ c κs. search needs) returns (λ c κs. search needs) returns-2 (λ c κs. search needs) returns-3
+    (λ c κs. search needs) returns-4 returns-5)

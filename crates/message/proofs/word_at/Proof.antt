@@ -1,4 +1,5 @@
--- `message::word_at` meets its contract. The loop's invariant: the octets passed are the beginning of the word.
+-- `message::word_at` meets its contract. The loop's invariant: the octets that were passed are the
+-- beginning of the word.
 -- Assumes nothing.
 use mathlib.Core.Path.{_∙_}
 use mathlib.Core.Logic.{⊎-elim}
@@ -8,9 +9,6 @@ use lib.ListN.{length}
 use Rattle.message.proofs.Words.{Begun, begun, goes-on, at-space, at-end}
 use Rattle.message.proofs.word_at.Statement.{statement}
 use Rattle.message.proofs.word_at.Tie as tie
-use Rattle.message.proofs.word_at.Reads as reads
-use Rattle.message.proofs.word_at.Lts as lts
-use Rattle.octets.proofs.part_of.Reads as part-of-reads
 
 abbrev Inv-loop : tie.InvT-loop
 Inv-loop message from to₀ to = Begun message from to
@@ -28,12 +26,17 @@ loop-again c =
 
 returns : tie.Need-returns Inv-loop μ-loop
 returns c =
-    let l = c .before in
+    let left = c .before in
+    let inv = left .before .loop .inv in
     c .part-of .ensures
-    ∙ ⊎-elim (λ end. at-end _ _ _ (l .before .loop .inv) (end .left)) (λ space. at-space _ _ _ (l .before .loop .inv) (space .0 .taken) (space .2 .taken)) (l .loop-test .came)
+    ∙ ⊎-elim
+    (λ end. at-end _ _ _ inv (end .left))
+    (λ space. at-space _ _ _ inv (space .0 .taken) (space .2 .taken))
+    (left .loop-test .came)
 
 pub word-at-spec : {M : Type 1} → statement M
 word-at-spec =
     tie.close
     (tie.spec
-    Inv-loop μ-loop loop-holds (λ c. search needs) (λ c. search needs) (λ c. search needs) loop-again (λ c. search needs) (λ c κs. search needs) returns)
+    Inv-loop μ-loop loop-holds (λ c. search needs) (λ c. search needs) (λ c. search needs)
+    loop-again (λ c. search needs) (λ c κs. search needs) returns)
