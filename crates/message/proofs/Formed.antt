@@ -1,21 +1,20 @@
 -- When a word is a field, and what holds of a field's digits.
 -- Assumes nothing.
 use mathlib.Core.Path.{_≡_, refl, sym, ap, _∙_}
-use mathlib.Core.Bool.{Bool, true, false, cond, _&&_, and-false, and-eq-true-iff, false≢true}
+use mathlib.Core.Bool.{Bool, true, false, cond, _&&_, and-eq-true-iff}
 use mathlib.Core.List.{List, [], _∷_, map}
 use mathlib.Core.Option.{Option, none, some}
-use Prim.Native.Nat.{ℕ, zero, suc, _^_, _≤_, _<_}
+use Prim.Native.Nat.{ℕ, _^_, _≤_, _<_}
 use native.Mathlib.Nat.{pow-le-pow-right, le-trans, le-antisymm}
 use native.Mathlib.Omega.{arith}
-use borrow.Author.Tests.{ne-eqb, le-ltb, ltb-false, leb-true}
-use lib.Dec.{eqb, leb, ltb, lit≤}
+use borrow.Author.Tests.{leb-true}
+use lib.Dec.{eqb, leb}
 use lib.ListN.{length, length-map, drop, getD}
 use Rattle.octets.specs.Digits.{digitOf}
-use Rattle.octets.specs.Parts.{part}
 use Rattle.message.specs.declared.Place.{Place}
-use Rattle.message.specs.declared.Place.the-variants.{At, Nowhere}
+use Rattle.message.specs.declared.Place.the-variants.{At}
 use Rattle.message.specs.Message.{allBelow, digitsOf, isField, fieldOf, fieldC, orElse, first}
-use Rattle.message.specs.Walk.{digitsAt, orPlace, toldOf, nothing, Where, Small, Eight, isLetter, fitting}
+use Rattle.message.specs.Walk.{wordAt, digitsAt, IfSome, Small, Eight}
 
 module _ (letter base low high : ℕ) where
   -- ---- by the octets of the word
@@ -52,87 +51,45 @@ module _ (letter base low high : ℕ) where
       let e₄ = and-eq-true-iff (leb n high) (allBelow base (map digitOf ds)) .0 (e₃ .1) in
       record { below = e₄ .1; least = rw length-map (leb-true low n (e₃ .0)); most = rw length-map (leb-true n high (e₄ .0)) }
 
-  field-formed : (w : List ℕ) → Where Formed (fieldOf letter base low high w)
+  field-formed : (w : List ℕ) → IfSome Formed (fieldOf letter base low high w)
   unfolding fieldOf
   field-formed w = which (isField letter base low high w) (formed w)
     where
-      which : (b : Bool) → (b ≡ true → Formed (digitsOf w)) → Where Formed (cond b (some (digitsOf w)) none)
+      which : (b : Bool) → (b ≡ true → Formed (digitsOf w))
+          → IfSome Formed (cond b (some (digitsOf w)) none)
       which true h = h refl
       which false h = tt
 
-  first-formed : (ws : List (List ℕ)) → Where Formed (first (fieldOf letter base low high) ws)
+  first-formed : (ws : List (List ℕ)) → IfSome Formed (first (fieldOf letter base low high) ws)
   first-formed [] = tt
   first-formed (w ∷ ws) = which (fieldOf letter base low high w) (first (fieldOf letter base low high) ws) (field-formed w) (first-formed ws)
     where
-      which : (o p : Option (List ℕ)) → Where Formed o → Where Formed p → Where Formed (orElse o p)
+      which : (o p : Option (List ℕ)) → IfSome Formed o → IfSome Formed p
+          → IfSome Formed (orElse o p)
       which none p h k = k
       which (some ds) p h k = h
 
-  -- ---- the place of a field
-
-  -- if the word here is a field, the place that is known or else this one
-  pub placed : (m : List ℕ) (known : Place) (from n : ℕ) {found : Bool} → found ≡ isField letter base low high (part from n m)
-      → digitsAt m (cond found (orPlace known (At from n)) known) ≡ orElse (digitsAt m known) (fieldOf letter base low high (part from n m))
-  unfolding fieldOf
-  placed m known from n {found} e =
-      which known found ∙ ap (λ (b : Bool). orElse (digitsAt m known) (cond b (some (digitsOf (part from n m))) none)) e
-    where
-      which : (p : Place) (b : Bool) → digitsAt m (cond b (orPlace p (At from n)) p) ≡ orElse (digitsAt m p) (cond b (some (digitsOf (part from n m))) none)
-      which (At a k) true = refl
-      which (At a k) false = refl
-      which Nowhere true = refl
-      which Nowhere false = refl
-
-where-map : {P Q : List ℕ → Type 0} (o : Option (List ℕ)) → ((ds : List ℕ) → P ds → Q ds) → Where P o → Where Q o
-where-map none f h = tt
-where-map (some ds) f h = f ds h
+if-some-map : {P Q : List ℕ → Type 0} (o : Option (List ℕ)) → ((ds : List ℕ) → P ds → Q ds)
+    → IfSome P o → IfSome Q o
+if-some-map none f h = tt
+if-some-map (some ds) f h = f ds h
 
 pub first-small : (letter base low high : ℕ) (ws : List (List ℕ)) → 0 < base → base ^ high ≤ 2 ^ 64
-    → Where (Small base) (first (fieldOf letter base low high) ws)
+    → IfSome (Small base) (first (fieldOf letter base low high) ws)
 first-small letter base low high ws p q =
-    where-map (first (fieldOf letter base low high) ws)
+    if-some-map (first (fieldOf letter base low high) ws)
     (λ ds h. record { below = h .below; fits = le-trans (pow-le-pow-right p (h .most)) q })
     (first-formed letter base low high ws)
 
-pub first-eight : (ws : List (List ℕ)) → Where Eight (first fieldC ws)
+pub first-eight : (ws : List (List ℕ)) → IfSome Eight (first fieldC ws)
 first-eight ws =
-    where-map (first fieldC ws) (λ ds h. record { below = h .below; long = le-antisymm (h .most) (h .least) }) (first-formed 67 16 16 16 ws)
-
--- ---- a word with an octet that fits no field is none
-
-not-below : (base : ℕ) (ds : List ℕ) (k : ℕ) → k < length ds → base ≤ digitOf (getD ds k 0) → allBelow base (map digitOf ds) ≡ false
-not-below base [] k h l = absurd (omega arith)
-not-below base (d ∷ ds) zero h l = simp (le-ltb (digitOf d) base l)
-not-below base (d ∷ ds) (suc k) h l = simp (not-below base ds k (omega arith) l, and-false)
-
-module _ (letter base low high : ℕ) (t : isLetter letter ≡ true) (B : base ≤ 16) where
-  unfit : (w : List ℕ) (k : ℕ) → k < length w → fitting k (getD w k 0) ≡ false → isField letter base low high w ≡ false
-  unfolding isField fitting
-  unfit [] k h e = refl
-  unfit (x ∷ []) k h e = refl
-  unfit (x ∷ y ∷ w) zero h e = simp (ne-eqb x letter (λ q. false≢true (sym e ∙ ap isLetter q ∙ t)))
-  unfit (x ∷ y ∷ w) (suc zero) h e = simp (e, and-false)
-  unfit (x ∷ y ∷ w) (suc (suc k)) h e =
-      let f : ltb (digitOf (getD w k 0)) 16 ≡ false = simp (ne-eqb (suc (suc k)) 0 (λ q. omega arith), ne-eqb (suc (suc k)) 1 (λ q. omega arith)) at e in
-      let g : 16 ≤ digitOf (getD w k 0) = ltb-false _ _ f in
-      simp (not-below base w k (omega arith) (omega arith), and-false)
-
-  no-field : (w : List ℕ) (k : ℕ) → k < length w → fitting k (getD w k 0) ≡ false → fieldOf letter base low high w ≡ none
-  unfolding fieldOf
-  no-field w k h e = simp (unfit w k h e)
-
--- a word with an octet that fits no field tells none
-pub no-fields : (w : List ℕ) (k : ℕ) → k < length w → fitting k (getD w k 0) ≡ false → toldOf w ≡ nothing
-unfolding isLetter
-no-fields w k h e =
-    simp (
-      no-field 69 10 1 10 refl (lit≤ tt) w k h e,
-      no-field 82 2 1 1 refl (lit≤ tt) w k h e,
-      no-field 86 10 1 10 refl (lit≤ tt) w k h e,
-      no-field 67 16 16 16 refl (lit≤ tt) w k h e,
-    )
+    if-some-map (first fieldC ws)
+    (λ ds h. record { below = h .below; long = le-antisymm (h .most) (h .least) })
+    (first-formed 67 16 16 16 ws)
 
 -- ---- the digits at a place
 
-pub found : (m : List ℕ) {p : Place} {from n : ℕ} {w ds : List ℕ} → p ≡ At from n → w ≡ part from n m → ds ≡ drop 2 w → digitsAt m p ≡ some (map digitOf ds)
-found m e f g = ap (digitsAt m) e ∙ sym (ap (λ (l : List ℕ). some (map digitOf l)) (g ∙ ap (drop 2) f))
+pub found : (m : List ℕ) {p : Place} {from : ℕ} {w ds : List ℕ}
+    → p ≡ At from → w ≡ wordAt m from → ds ≡ drop 2 w → digitsAt m p ≡ some (map digitOf ds)
+found m e f g =
+    ap (digitsAt m) e ∙ sym (ap (λ (l : List ℕ). some (map digitOf l)) (g ∙ ap (drop 2) f))

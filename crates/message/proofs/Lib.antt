@@ -1,4 +1,5 @@
 pub mod Loops
 pub mod Formed
 pub mod Words
+pub mod FirstFields
 pub mod Laws

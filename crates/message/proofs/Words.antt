@@ -1,22 +1,23 @@
--- The walk over the octets against the words of the message: one lemma for each way out of the two reading states.
+-- The words of a message against its octets: the first word of a text, what the others tell, and
+-- the search for the end of a word.
 -- Assumes nothing.
 use mathlib.Core.Path.{_≡_, refl, sym, ap, _∙_}
-use mathlib.Core.Bool.{false}
+use mathlib.Core.Bool.{Bool, true, false, cond}
 use mathlib.Core.List.{List, [], _∷_, _++_, append-nil}
-use mathlib.Core.Option.{Option, none, some}
 use Prim.Native.Nat.{ℕ, suc, _+_, _-_, _≤_, _<_}
-use native.Mathlib.Nat.{sub-self, le-of-eq}
+use native.Mathlib.Nat.{sub-self}
 use native.Mathlib.Numerals.{add-one}
 use native.Mathlib.Omega.{arith}
-use borrow.Author.Tests.{eq-eqb, ne-eqb}
-use lib.ListN.{length, drop, getD, drop-of-length-le, length-drop, length-append}
-use lib.Seq.{drop-cons, take-suc, getD-drop, getD-append-seam, length-take-le}
+use borrow.Author.Tests.{eq-eqb, ne-eqb, eqb-true, eqb-false}
+use lib.Dec.{eqb}
+use lib.ListN.{length, drop, getD, drop-of-length-le, length-drop}
+use lib.Seq.{drop-cons, drop-drop, append-snoc}
 use Rattle.octets.specs.Parts.{part}
-use Rattle.message.specs.Message.{withFirst, words, orElse}
-use Rattle.message.specs.Walk.{Told, toldIn, toldOf, nothing, joined, glue, rest, Inside, fitting}
-use Rattle.message.proofs.Formed.{no-fields}
+use Rattle.octets.proofs.Parts.{part-join}
+use Rattle.message.specs.Message.{withFirst, words, isField, fieldOf}
+use Rattle.message.specs.Walk.{ParsedFields, parsedIn, firstWord, wordAt}
 
--- ---- words
+-- ---- the first word, and the others
 
 words-space : (x : ℕ) (m : List ℕ) → x ≡ 32 → words (x ∷ m) ≡ [] ∷ words m
 unfolding words
@@ -24,106 +25,129 @@ words-space x m e = simp (eq-eqb x 32 e)
 
 words-other : (x : ℕ) (m : List ℕ) → (x ≡ 32 → ⊥) → words (x ∷ m) ≡ withFirst x (words m)
 unfolding words
-words-other x m e = simp (ne-eqb x 32 e)
+words-other x m n = simp (ne-eqb x 32 n)
 
-glue-cons : (w u : List ℕ) (us : List (List ℕ)) → glue w (u ∷ us) ≡ (w ++ u) ∷ us
-unfolding glue
-glue-cons [] u us = refl
-glue-cons (x ∷ w) u us = ap (withFirst x) (glue-cons w u us)
+first-space : (x : ℕ) (m : List ℕ) → x ≡ 32 → firstWord (x ∷ m) ≡ []
+first-space x m e = rw (words-space x m e)
 
-glue-snoc : (w : List ℕ) (x : ℕ) (ws : List (List ℕ)) → glue w (withFirst x ws) ≡ glue (w ++ x ∷ []) ws
-unfolding glue
-glue-snoc [] x ws = refl
-glue-snoc (y ∷ w) x ws = ap (withFirst y) (glue-snoc w x ws)
-
-rest-withFirst : (x : ℕ) (ws : List (List ℕ)) → rest (withFirst x ws) ≡ rest ws
-unfolding rest
-rest-withFirst x [] = refl
-rest-withFirst x (w ∷ ws) = refl
-
--- ---- what words tell
-
-orElse-none : (a : Option (List ℕ)) → orElse a none ≡ a
-orElse-none none = refl
-orElse-none (some ds) = refl
-
-orElse-assoc : (a b c : Option (List ℕ)) → orElse (orElse a b) c ≡ orElse a (orElse b c)
-orElse-assoc none b c = refl
-orElse-assoc (some ds) b c = refl
-
-pub joined-nothing : (t : Told) → joined t nothing ≡ t
-joined-nothing t = simp orElse-none
-
-pub joined-assoc : (t u v : Told) → joined (joined t u) v ≡ joined t (joined u v)
-joined-assoc t u v = simp orElse-assoc
-
--- the words of which the first has an octet that fits no field
-skipped : (w : List ℕ) (x : ℕ) (ws : List (List ℕ)) → fitting (length w) x ≡ false → toldIn (glue w (withFirst x ws)) ≡ toldIn (rest ws)
-unfolding rest
-skipped w x ws e = which ws
+first-other : (x : ℕ) (m : List ℕ) → (x ≡ 32 → ⊥) → firstWord (x ∷ m) ≡ x ∷ firstWord m
+first-other x m n = rw (words-other x m n) (which (words m))
   where
-    one : (u : List ℕ) (us : List (List ℕ)) → toldIn (glue w ((x ∷ u) ∷ us)) ≡ toldIn us
-    one u us =
-        ap toldIn (glue-cons w (x ∷ u) us)
-        ∙ ap (λ (t : Told). joined t (toldIn us)) (no-fields (w ++ x ∷ u) (length w) (omega (arith, length-append w (x ∷ u))) (rw (getD-append-seam w x u 0) e))
+    which : (ws : List (List ℕ)) → getD (withFirst x ws) 0 [] ≡ x ∷ getD ws 0 []
+    which [] = refl
+    which (w ∷ ws) = refl
 
-    which : (ws : List (List ℕ)) → toldIn (glue w (withFirst x ws)) ≡ toldIn (rest ws)
-    which [] = one [] []
-    which (u ∷ us) = one u us
+first-and-others : (m : List ℕ) → words m ≡ firstWord m ∷ drop 1 (words m)
+unfolding words
+first-and-others [] = refl
+first-and-others (x ∷ m) = which (eqb x 32) (words m)
+  where
+    which : (space : Bool) (ws : List (List ℕ))
+        → let us = cond space ([] ∷ words m) (withFirst x ws) in us ≡ getD us 0 [] ∷ drop 1 us
+    which true ws = refl
+    which false [] = refl
+    which false (w ∷ ws) = refl
 
--- ---- inside a field
+length-first : (m : List ℕ) → length (firstWord m) ≤ length m
+unfolding words
+length-first [] = omega arith
+length-first (x ∷ m) = which (eqb x 32) refl (length-first m)
+  where
+    which : (space : Bool) → eqb x 32 ≡ space → length (firstWord m) ≤ length m
+        → length (firstWord (x ∷ m)) ≤ length (x ∷ m)
+    which true e h = rw (first-space x m (eqb-true x 32 e)) (omega arith)
+    which false e h = rw (first-other x m (eqb-false x 32 e)) (omega arith)
 
-pub begin : (m : List ℕ) (from : ℕ) → Inside m from from
-unfolding Inside glue
-begin m from = rw (sub-self from)
+-- the words after the first tell what the text behind the first tells
+others : (m : List ℕ)
+    → parsedIn (drop 1 (words m)) ≡ parsedIn (words (drop (suc (length (firstWord m))) m))
+unfolding words fieldOf isField
+others [] = refl
+others (x ∷ m) = which (eqb x 32) refl (others m)
+  where
+    drop-first : (ws : List (List ℕ)) → drop 1 (withFirst x ws) ≡ drop 1 ws
+    drop-first [] = refl
+    drop-first (w ∷ ws) = refl
+
+    later : List ℕ → ParsedFields
+    later w = parsedIn (words (drop (suc (length w)) (x ∷ m)))
+
+    Others : List ℕ → Type 0
+    Others l = parsedIn (drop 1 (words l)) ≡ parsedIn (words (drop (suc (length (firstWord l))) l))
+
+    which : (space : Bool) → eqb x 32 ≡ space → Others m → Others (x ∷ m)
+    which true e h = rw (words-space x m (eqb-true x 32 e))
+    which false e h =
+        let n = eqb-false x 32 e in
+        ap parsedIn (ap (drop 1) (words-other x m n) ∙ drop-first (words m))
+        ∙ h
+        ∙ sym (ap later (first-other x m n))
+
+-- ---- the word at a place
+
+-- where the text behind the word at a place begins
+abbrev pub behind : List ℕ → ℕ → ℕ
+behind m from = from + length (wordAt m from) + 1
+
+module _ (m : List ℕ) (from : ℕ) where
+  pub length-word : length (wordAt m from) ≤ length m - from
+  length-word = rw length-drop at (length-first (drop from m))
+
+  -- the words from a place on are the word there, and others that tell what those behind it tell
+  pub word-and-others : words (drop from m) ≡ wordAt m from ∷ drop 1 (words (drop from m))
+  word-and-others = first-and-others (drop from m)
+
+  pub words-behind : parsedIn (drop 1 (words (drop from m)))
+      ≡ parsedIn (words (drop (behind m from) m))
+  words-behind =
+      let n = length (wordAt m from) in
+      let k : from + suc n ≡ from + n + 1 = omega arith in
+      others (drop from m) ∙ rw (drop-drop (suc n) from m, k)
+
+-- ---- the search for the end of a word
+
+-- the octets of m from one place up to another are the beginning of the word at the first
+pub record Begun (m : List ℕ) (from to : ℕ) : Type 0 where
+  pub ahead : from ≤ to
+  pub begins : part from (to - from) m ++ wordAt m to ≡ wordAt m from
+
+pub begun : (m : List ℕ) (from : ℕ) → Begun m from from
+begun m from = record { ahead = omega arith; begins = rw (sub-self from) }
 
 -- the octet at a place of the message
 here : (m : List ℕ) (at : ℕ) → at < length m → drop at m ≡ getD m at 0 ∷ drop (at + 1) m
 here m at h = rw add-one (drop-cons m at 0 h)
 
-module _ (m : List ℕ) (from at : ℕ) (l : from ≤ at) (i : Inside m from at) where
-  pub field-end : at ≡ length m → toldIn (words (drop from m)) ≡ toldOf (part from (at - from) m)
-  unfolding Inside words
-  field-end e =
-      let d : drop at m ≡ [] = drop-of-length-le m (le-of-eq (sym e)) in
-      let w : words (drop from m) ≡ part from (at - from) m ∷ [] = i ∙ rw (d, glue-cons, append-nil) in
-      ap toldIn w ∙ joined-nothing (toldOf (part from (at - from) m))
-
-  pub field-space : at < length m → getD m at 0 ≡ 32 → toldIn (words (drop from m)) ≡ joined (toldOf (part from (at - from) m)) (toldIn (words (drop (at + 1) m)))
-  unfolding Inside
-  field-space h e =
-      let w : words (drop from m) ≡ part from (at - from) m ∷ words (drop (at + 1) m) = i ∙ rw (here m at h, words-space _ _ e, glue-cons, append-nil) in
-      ap toldIn w
-
-  next : at < length m → part from (at + 1 - from) m ≡ part from (at - from) m ++ getD m at 0 ∷ []
+module _ (m : List ℕ) (from to : ℕ) (b : Begun m from to) where
+  next : to < length m → part from (to + 1 - from) m ≡ part from (to - from) m ++ getD m to 0 ∷ []
   next h =
-      let k : at + 1 - from ≡ suc (at - from) = omega arith in
-      let n : from + (at - from) ≡ at = omega arith in
-      let p : at - from < length (drop from m) = rw length-drop (omega arith) in
-      rw (k, take-suc (drop from m) (at - from) 0, getD-drop, n)
+      let k : to + 1 - from ≡ to - from + 1 = omega arith in
+      let n : from + (to - from) ≡ to = omega arith in
+      rw k (sym (part-join from (to - from) 1 m) ∙ rw (n, here m to h))
 
-  pub field-more : at < length m → (getD m at 0 ≡ 32 → ⊥) → Inside m from (at + 1)
-  unfolding Inside
-  field-more h e = rw (next h, ← glue-snoc) (i ∙ rw (here m at h) (ap (glue (part from (at - from) m)) (words-other _ _ e)))
+  pub goes-on : to < length m → (getD m to 0 ≡ 32 → ⊥) → Begun m from (to + 1)
+  goes-on h n =
+      let passed = part from (to - from) m in
+      let x = getD m to 0 in
+      let one : wordAt m to ≡ x ∷ wordAt m (to + 1) =
+      ap firstWord (here m to h) ∙ first-other x (drop (to + 1) m) n in
+      record {
+        ahead = omega arith;
+        begins =
+            ap (λ (w : List ℕ). w ++ wordAt m (to + 1)) (next h)
+            ∙ append-snoc passed x (wordAt m (to + 1))
+            ∙ ap (λ (w : List ℕ). passed ++ w) (sym one)
+            ∙ b .begins;
+      }
 
-  pub field-skip : at < length m → (getD m at 0 ≡ 32 → ⊥) → fitting (at - from) (getD m at 0) ≡ false → toldIn (words (drop from m)) ≡ toldIn (rest (words (drop (at + 1) m)))
-  unfolding Inside
-  field-skip h e g =
-      let p : at - from ≤ length (drop from m) = rw length-drop (omega arith) in
-      let q : length (part from (at - from) m) ≡ at - from = length-take-le (at - from) (drop from m) p in
-      let w : words (drop from m) ≡ glue (part from (at - from) m) (withFirst (getD m at 0) (words (drop (at + 1) m))) = i ∙ rw (here m at h, words-other _ _ e) in
-      ap toldIn w ∙ skipped (part from (at - from) m) (getD m at 0) (words (drop (at + 1) m)) (rw q g)
+  ended : wordAt m to ≡ [] → part from (to - from) m ≡ wordAt m from
+  ended e =
+      let passed = part from (to - from) m in
+      sym (append-nil passed) ∙ ap (λ (w : List ℕ). passed ++ w) (sym e) ∙ b .begins
 
--- ---- inside text
+  pub at-space : to < length m → getD m to 0 ≡ 32 → part from (to - from) m ≡ wordAt m from
+  at-space h e = ended (ap firstWord (here m to h) ∙ first-space (getD m to 0) (drop (to + 1) m) e)
 
-module _ (m : List ℕ) (at : ℕ) where
-  pub text-end : at ≡ length m → toldIn (rest (words (drop at m))) ≡ nothing
-  unfolding words rest
-  text-end e = ap (λ (l : List ℕ). toldIn (rest (words l))) (drop-of-length-le m (le-of-eq (sym e)))
-
-  pub text-space : at < length m → getD m at 0 ≡ 32 → rest (words (drop at m)) ≡ words (drop (at + 1) m)
-  unfolding rest
-  text-space h e = rw (here m at h, words-space _ _ e)
-
-  pub text-other : at < length m → (getD m at 0 ≡ 32 → ⊥) → rest (words (drop at m)) ≡ rest (words (drop (at + 1) m))
-  text-other h e = rw (here m at h, words-other _ _ e, rest-withFirst)
+  pub at-end : length m ≤ to → part from (to - from) m ≡ wordAt m from
+  unfolding words
+  at-end h = ended (ap firstWord (drop-of-length-le m h))

@@ -1,13 +1,14 @@
 // The message of a Failure packet (RFC 2433, section 8): what the peer reads in it, and the text that the authenticator writes.
 ghost use mathlib.Core.Path.{_≡_};
-ghost use mathlib.Core.Bool.{cond};
+ghost use mathlib.Core.Bool.{true};
 ghost use mathlib.Core.List.{map};
-ghost use Prim.Native.Nat.{_-_, _%_, _≤_, _<_};
+ghost use Prim.Native.Nat.{_%_, _≤_, _<_};
 ghost use lib.ListN.{length, drop};
 ghost use Rattle.octets.specs.Digits.{digitOf, hexOf};
-ghost use Rattle.octets.specs.Parts.{part};
 ghost use Rattle.message.specs.Message.{words, allBelow, isField, first, fieldE, numberFrom, numberOr, pairs, calledFor, numberOf, valuesOf, noC, givenAs, refusedWith, readFields, readMessage, messageRefusal, messageValues, textOf};
-ghost use Rattle.message.specs.Walk.{digitsAt, toldAt, toldIn, toldOf, joined, orPlace, Where, Small, Eight, rest, Inside, isLetter, fitting};
+ghost use Rattle.message.specs.Walk.{kindOf, isNowhere, lacks, isNew, withPlace, Noted};
+ghost use Rattle.message.specs.Walk.{digitsAt, parsedAt, parsedIn, completed, wordAt};
+ghost use Rattle.message.specs.Walk.{IfSome, Small, Eight};
 
 // What a failure calls for.
 pub enum Call {
@@ -46,10 +47,24 @@ pub struct Reading {
     pub c: Given,
 }
 
-// Where a word stands in the message: its first octet, and how many it has.
+// Where a field begins in the message. One octet will do, as no message over 256 octets is read, and
+// each call of the reading states holds four places.
 enum Place {
-    At(usize, usize),
+    At(u8),
     Nowhere,
+}
+
+// What a word is: a field of one of four kinds, or text to be skipped.
+enum WordKind {
+    // E
+    Error,
+    // R
+    Retry,
+    // V
+    Version,
+    // C
+    Challenge,
+    Text,
 }
 
 // The first well-formed field of each kind so far.
@@ -128,7 +143,7 @@ fn is_field(word: &[u8], letter: u8, base: u8, low: usize, high: usize) -> bool
     if word[1] != b'=' {
         return false;
     }
-    let digits = digits_of(word);
+    let digits = &word[2..];
     if digits.len() < low {
         return false;
     }
@@ -138,105 +153,143 @@ fn is_field(word: &[u8], letter: u8, base: u8, low: usize, high: usize) -> bool
     are_digits(digits, base)
 }
 
-// The first field of a kind: the one that is known, or else the word here if it is one.
-fn first_of(known: Place, here: Place, found: bool) -> Place
-    ensures { λ r. ⌜ r ≡ cond found (orPlace known here) known ⌝ }
+// What a word is.
+fn kind_of(word: &[u8]) -> WordKind
+    ensures { λ r. ⌜ r ≡ kindOf (now (word .entry)) ⌝ }
 {
-    if found {
-        match known {
-            Place::At(_, _) => known,
-            Place::Nowhere => here,
+    if is_field(word, b'E', 10, 1, 10) {
+        return WordKind::Error;
+    }
+    if is_field(word, b'R', 2, 1, 1) {
+        return WordKind::Retry;
+    }
+    if is_field(word, b'V', 10, 1, 10) {
+        return WordKind::Version;
+    }
+    if is_field(word, b'C', 16, 16, 16) {
+        return WordKind::Challenge;
+    }
+    WordKind::Text
+}
+
+fn is_nowhere(place: Place) -> bool
+    ensures { λ r. ⌜ r ≡ isNowhere place ⌝ }
+{
+    match place {
+        Place::At(_) => false,
+        Place::Nowhere => true,
+    }
+}
+
+// Whether the place of a kind is missing.
+fn is_missing(f: Fields, kind: WordKind) -> bool
+    ensures { λ is. ⌜ is ≡ lacks f kind ⌝ }
+{
+    let e = f.e;
+    let r = f.r;
+    let v = f.v;
+    let c = f.c;
+    match kind {
+        WordKind::Error => is_nowhere(e),
+        WordKind::Retry => is_nowhere(r),
+        WordKind::Version => is_nowhere(v),
+        WordKind::Challenge => is_nowhere(c),
+        WordKind::Text => false,
+    }
+}
+
+// The fields with the place of a kind.
+fn with_place(f: Fields, kind: WordKind, here: Place) -> Fields
+    ensures { λ g. ⌜ g ≡ withPlace f kind here ⌝ }
+{
+    let e = f.e;
+    let r = f.r;
+    let v = f.v;
+    let c = f.c;
+    match kind {
+        WordKind::Error => Fields { e: here, r, v, c },
+        WordKind::Retry => Fields { e, r: here, v, c },
+        WordKind::Version => Fields { e, r, v: here, c },
+        WordKind::Challenge => Fields { e, r, v, c: here },
+        WordKind::Text => f,
+    }
+}
+
+// Whether a word is the first field of its kind.
+fn is_new(word: &[u8], f: Fields) -> bool
+    ensures { λ is. ⌜ is ≡ isNew f (now (word .entry)) ⌝ }
+{
+    is_missing(f, kind_of(word))
+}
+
+// The fields with a word that begins at `from` and is the first field of its kind: one place fewer
+// is missing.
+fn note(word: &[u8], from: usize, f: Fields) -> Fields
+    requires { ⌜ (from < 256) × (isNew f (now word) ≡ true) ⌝ }
+    ensures { λ g. ⌜ Noted (now (word .entry)) from f g ⌝ }
+{
+    with_place(f, kind_of(word), Place::At(from as u8))
+}
+
+// ---- the walk: the words of the message
+
+// The word that begins at `from`: it goes up to a space, or to the end of the message.
+fn word_at(message: &[u8], from: usize) -> &[u8]
+    ensures { λ r. ⌜ now r ≡ wordAt (now (message .entry)) from ⌝ }
+{
+    let mut to = from;
+    while to < message.len() {
+        if message[to] == b' ' {
+            break;
         }
-    } else {
-        known
+        to += 1;
     }
-}
-
-// The fields with the word that stands in the message from one place up to another.
-fn note(message: &[u8], from: usize, to: usize, f: Fields) -> Fields
-    requires { ⌜ (from ≤ to) × (to ≤ length (now message)) ⌝ }
-    ensures { λ r. ⌜ toldAt (now (message .entry)) r ≡ joined (toldAt (now (message .entry)) f) (toldOf (part from (to - from) (now (message .entry)))) ⌝ }
-{
-    let word = &message[from..to];
-    let here = Place::At(from, to - from);
-    let known_e = f.e;
-    let known_r = f.r;
-    let known_v = f.v;
-    let known_c = f.c;
-    let e = first_of(known_e, here, is_field(word, b'E', 10, 1, 10));
-    let r = first_of(known_r, here, is_field(word, b'R', 2, 1, 1));
-    let v = first_of(known_v, here, is_field(word, b'V', 10, 1, 10));
-    let c = first_of(known_c, here, is_field(word, b'C', 16, 16, 16));
-    Fields { e, r, v, c }
-}
-
-fn is_letter(octet: u8) -> bool
-    ensures { λ r. ⌜ r ≡ isLetter octet ⌝ }
-{
-    match octet {
-        b'E' | b'R' | b'V' | b'C' => true,
-        _ => false,
-    }
-}
-
-// Whether an octet can stand at the place k of some field.
-fn fits(k: usize, octet: u8) -> bool
-    ensures { λ r. ⌜ r ≡ fitting k octet ⌝ }
-{
-    if k == 0 {
-        is_letter(octet)
-    } else if k == 1 {
-        octet == b'='
-    } else {
-        octets::digit_value(octet) < 16
-    }
+    octets::part_of(message, from, to - from)
 }
 
 // ---- the walk: the two reading states
+//
+// They call each other where the state changes, and only there: all text that is to be skipped is
+// passed in a loop, and `in_field` is called for the first field of a kind alone (its `requires`).
+// With each such field one place fewer of the four is missing (`note`). So at most nine calls are
+// open at the same time, five of `in_text` and four of `in_field`, however long the message is, and
+// whatever a compiler makes of a call in last place: that bounds the stack.
 
-// Inside a field: a word begins at `from`, and its octets up to `at` can be a field's.
-fn in_field(message: &[u8], from: usize, at: usize, f: Fields) -> Fields
-    requires { ⌜ (from ≤ at) × (at ≤ length (now message)) × Inside (now message) from at ⌝ }
-    ensures { λ r. ⌜ toldAt (now (message .entry)) r ≡ joined (toldAt (now (message .entry)) f) (toldIn (words (drop from (now (message .entry))))) ⌝ }
+// Inside a field: the word at `from` is the first field of its kind. Behind it there is text again.
+fn in_field(message: &[u8], from: usize, f: Fields) -> Fields
+    requires { ⌜ (length (now message) ≤ 256) × (isNew f (wordAt (now message) from) ≡ true) ⌝ }
+    ensures { λ g. ⌜ parsedAt (now (message .entry)) g ≡ completed (now (message .entry)) from f ⌝ }
 {
-    if at == message.len() {
-        note(message, from, at, f)
-    } else {
-        let octet = message[at];
-        if octet == b' ' {
-            let g = note(message, from, at, f);
-            in_field(message, at + 1, at + 1, g)
-        } else if fits(at - from, octet) {
-            in_field(message, from, at + 1, f)
-        } else {
-            in_text(message, at + 1, f)
-        }
-    }
+    let word = word_at(message, from);
+    let noted = note(word, from, f);
+    in_text(message, from + word.len() + 1, noted)
 }
 
-// Inside text to be skipped: it goes on to the next space.
+// Inside text to be skipped: it goes on to a word that is the first field of its kind.
 fn in_text(message: &[u8], at: usize, f: Fields) -> Fields
-    requires { ⌜ at ≤ length (now message) ⌝ }
-    ensures { λ r. ⌜ toldAt (now (message .entry)) r ≡ joined (toldAt (now (message .entry)) f) (toldIn (rest (words (drop at (now (message .entry)))))) ⌝ }
+    requires { ⌜ length (now message) ≤ 256 ⌝ }
+    ensures { λ g. ⌜ parsedAt (now (message .entry)) g ≡ completed (now (message .entry)) at f ⌝ }
 {
-    if at == message.len() {
-        f
-    } else if message[at] == b' ' {
-        in_field(message, at + 1, at + 1, f)
-    } else {
-        in_text(message, at + 1, f)
+    let mut from = at;
+    while from < message.len() {
+        let word = word_at(message, from);
+        if is_new(word, f) {
+            return in_field(message, from, f);
+        }
+        from = from + word.len() + 1;
     }
+    f
 }
 
 // ---- the verdict
 
 // The number of the field at a place, or the one that stands for a missing field.
 fn number_or(message: &[u8], place: Place, base: u64, missing: u64) -> u64
-    requires { ⌜ (0 < base) × Where (Small base) (digitsAt (now message) place) ⌝ }
+    requires { ⌜ (0 < base) × IfSome (Small base) (digitsAt (now message) place) ⌝ }
     ensures { λ r. ⌜ r ≡ numberOr base missing (digitsAt (now (message .entry)) place) ⌝ }
 {
     match place {
-        Place::At(from, n) => number(digits_of(octets::part_of(message, from, n)), base),
+        Place::At(from) => number(digits_of(word_at(message, from as usize)), base),
         Place::Nowhere => missing,
     }
 }
@@ -253,12 +306,12 @@ pub fn no_c() -> Given
 
 // The octets of the field C at a place.
 fn given_at(message: &[u8], place: Place) -> Given
-    requires { ⌜ Where Eight (digitsAt (now message) place) ⌝ }
+    requires { ⌜ IfSome Eight (digitsAt (now message) place) ⌝ }
     ensures { λ r. ⌜ r ≡ givenAs (digitsAt (now (message .entry)) place) ⌝ }
 {
     match place {
-        Place::At(from, n) => {
-            let octets = octets_of(digits_of(octets::part_of(message, from, n)));
+        Place::At(from) => {
+            let octets = octets_of(digits_of(word_at(message, from as usize)));
             Given {
                 given: true,
                 octets,
@@ -300,7 +353,7 @@ pub fn refused_with(number: u8) -> Reading
 
 // The verdict on the fields of a message.
 fn judge(message: &[u8], f: Fields) -> Reading
-    requires { ⌜ toldAt (now message) f ≡ toldIn (words (now message)) ⌝ }
+    requires { ⌜ parsedAt (now message) f ≡ parsedIn (words (now message)) ⌝ }
     ensures { λ r. ⌜ r ≡ readFields (words (now (message .entry))) (first fieldE (words (now (message .entry)))) ⌝ }
 {
     let at_e = f.e;
@@ -308,7 +361,7 @@ fn judge(message: &[u8], f: Fields) -> Reading
     let at_v = f.v;
     let at_c = f.c;
     match at_e {
-        Place::At(_, _) => {
+        Place::At(_) => {
             let e = number_or(message, at_e, 10, 0);
             let r = number_or(message, at_r, 2, 0);
             let v = number_or(message, at_v, 10, 1);
@@ -336,7 +389,7 @@ pub fn read(message: &[u8]) -> Reading
         v: Place::Nowhere,
         c: Place::Nowhere,
     };
-    let f = in_field(message, 0, 0, none);
+    let f = in_text(message, 0, none);
     judge(message, f)
 }
 

@@ -2,7 +2,7 @@
 -- Assumes nothing.
 use mathlib.Core.Path.{subst}
 use borrow.Author.Needs.{needs}
-use Rattle.message.specs.Walk.{Where, Eight}
+use Rattle.message.specs.Walk.{IfSome, Eight}
 use Rattle.message.proofs.Formed.{found}
 use Rattle.message.proofs.given_at.Statement.{statement}
 use Rattle.message.proofs.given_at.Tie as tie
@@ -11,13 +11,17 @@ octets-of-requires : tie.Need-octets-of-requires
 octets-of-requires c κs =
     let p = c .before .before .before in
     let s = p .before .before .before in
-    subst (Where Eight) (found (s .args .message .now) (p .place .given .1) (c .before .part-of .ensures) (c .digits-of .ensures)) (s .pre)
+    let m = s .args .message .now in
+    let here = found m (p .place .given .1) (c .before .word-at .ensures) (c .digits-of .ensures) in
+    subst (IfSome Eight) here (s .pre)
 
 returns : tie.Need-returns
 returns c =
     let p = c .before .before .before .before in
     let s = p .before .before .before in
-    let here = found (s .args .message .now) (p .place .given .1) (c .before .before .part-of .ensures) (c .before .digits-of .ensures) in
+    let d = c .before in
+    let m = s .args .message .now in
+    let here = found m (p .place .given .1) (d .before .word-at .ensures) (d .digits-of .ensures) in
     rw here (cc)
 
 returns-2 : tie.Need-returns-2
@@ -27,4 +31,5 @@ pub given-at-spec : {M : Type 1} → statement M
 given-at-spec =
     tie.close
     (tie.spec
-    (λ c. search needs) (λ c κs. search needs) (λ c κs. search needs) octets-of-requires (λ c. search needs) (λ c κs. search needs) returns returns-2)
+    (λ c. search needs) (λ c. search needs) (λ c κs. search needs) (λ c κs. search needs)
+    octets-of-requires (λ c. search needs) (λ c κs. search needs) returns returns-2)

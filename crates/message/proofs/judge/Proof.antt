@@ -6,36 +6,42 @@ use mathlib.Core.Option.{Option, none, some}
 use Prim.Native.Nat.{ℕ}
 use lib.Dec.{lit<, lit≤}
 use borrow.Author.Needs.{needs}
-use Rattle.octets.specs.Parts.{part}
 use Rattle.message.specs.declared.Place.{Place}
 use Rattle.message.specs.Message.{words, digitsOf, first, fieldE, fieldR, fieldV, fieldC, numberFrom, numberOr, givenAs}
-use Rattle.message.specs.Walk.{Told, digitsAt, Where, Small, Eight}
+use Rattle.message.specs.Walk.{ParsedFields, wordAt, digitsAt, IfSome, Small, Eight}
 use Rattle.message.proofs.Formed.{first-small, first-eight}
 use Rattle.message.proofs.judge.Statement.{statement}
 use Rattle.message.proofs.judge.Tie as tie
 
 abbrev SmallAt : ℕ → Option (List ℕ) → Type 0
-SmallAt base o = Where (Small base) o
+SmallAt base o = IfSome (Small base) o
 
 number-or-requires : tie.Need-number-or-requires
 number-or-requires c κs =
     let s = c .before .before .before in
-    (lit< tt, subst (SmallAt 10) (sym (ap (λ (t : Told). t .e) (s .pre))) (first-small 69 10 1 10 (words (s .args .message .now)) (lit< tt) (lit≤ tt)))
+    let ws = words (s .args .message .now) in
+    let here = sym (ap (λ (p : ParsedFields). p .e) (s .pre)) in
+    (lit< tt, subst (SmallAt 10) here (first-small 69 10 1 10 ws (lit< tt) (lit≤ tt)))
 
 number-or-requires-2 : tie.Need-number-or-requires-2
 number-or-requires-2 c κs =
     let s = c .before .before .before .before in
-    (lit< tt, subst (SmallAt 2) (sym (ap (λ (t : Told). t .r) (s .pre))) (first-small 82 2 1 1 (words (s .args .message .now)) (lit< tt) (lit≤ tt)))
+    let ws = words (s .args .message .now) in
+    let here = sym (ap (λ (p : ParsedFields). p .r) (s .pre)) in
+    (lit< tt, subst (SmallAt 2) here (first-small 82 2 1 1 ws (lit< tt) (lit≤ tt)))
 
 number-or-requires-3 : tie.Need-number-or-requires-3
 number-or-requires-3 c κs =
     let s = c .before .before .before .before .before in
-    (lit< tt, subst (SmallAt 10) (sym (ap (λ (t : Told). t .v) (s .pre))) (first-small 86 10 1 10 (words (s .args .message .now)) (lit< tt) (lit≤ tt)))
+    let ws = words (s .args .message .now) in
+    let here = sym (ap (λ (p : ParsedFields). p .v) (s .pre)) in
+    (lit< tt, subst (SmallAt 10) here (first-small 86 10 1 10 ws (lit< tt) (lit≤ tt)))
 
 given-at-requires : tie.Need-given-at-requires
 given-at-requires c κs =
     let s = c .before .before .before .before .before .before in
-    subst (Where Eight) (sym (ap (λ (t : Told). t .c) (s .pre))) (first-eight (words (s .args .message .now)))
+    let here = sym (ap (λ (p : ParsedFields). p .c) (s .pre)) in
+    subst (IfSome Eight) here (first-eight (words (s .args .message .now)))
 
 returns : tie.Need-returns
 returns c =
@@ -47,12 +53,17 @@ returns c =
     let m = s .args .message .now in
     let ws = words m in
     let place = told .enum-told .given in
-    let ds : List ℕ = digitsOf (part (place .0 .0) (place .0 .1 .0) m) in
-    let fe : first fieldE ws ≡ some ds = sym (ap (λ (t : Told). t .e) (s .pre)) ∙ ap (digitsAt m) (place .1) in
-    let e : at-e .number-or .result ≡ numberFrom 10 0 ds = at-e .number-or .ensures ∙ ap (λ (p : Place). numberOr 10 0 (digitsAt m p)) (place .1) in
-    let r : at-r .number-or2 .result ≡ numberOr 2 0 (first fieldR ws) = at-r .number-or2 .ensures ∙ ap (λ (t : Told). numberOr 2 0 (t .r)) (s .pre) in
-    let v : at-v .number-or3 .result ≡ numberOr 10 1 (first fieldV ws) = at-v .number-or3 .ensures ∙ ap (λ (t : Told). numberOr 10 1 (t .v)) (s .pre) in
-    let g : c .before .given-at .result ≡ givenAs (first fieldC ws) = c .before .given-at .ensures ∙ ap (λ (t : Told). givenAs (t .c)) (s .pre) in
+    let ds : List ℕ = digitsOf (wordAt m (place .0 .0)) in
+    let fe : first fieldE ws ≡ some ds =
+    sym (ap (λ (p : ParsedFields). p .e) (s .pre)) ∙ ap (digitsAt m) (place .1) in
+    let e : at-e .number-or .result ≡ numberFrom 10 0 ds =
+    at-e .number-or .ensures ∙ ap (λ (p : Place). numberOr 10 0 (digitsAt m p)) (place .1) in
+    let r : at-r .number-or2 .result ≡ numberOr 2 0 (first fieldR ws) =
+    at-r .number-or2 .ensures ∙ ap (λ (p : ParsedFields). numberOr 2 0 (p .r)) (s .pre) in
+    let v : at-v .number-or3 .result ≡ numberOr 10 1 (first fieldV ws) =
+    at-v .number-or3 .ensures ∙ ap (λ (p : ParsedFields). numberOr 10 1 (p .v)) (s .pre) in
+    let g : c .before .given-at .result ≡ givenAs (first fieldC ws) =
+    c .before .given-at .ensures ∙ ap (λ (p : ParsedFields). givenAs (p .c)) (s .pre) in
     rw fe (cc)
 
 returns-2 : tie.Need-returns-2
@@ -60,7 +71,8 @@ returns-2 c =
     let told = c .before in
     let s = told .before .before .before in
     let m = s .args .message .now in
-    let e : first fieldE (words m) ≡ none = sym (ap (λ (t : Told). t .e) (s .pre)) ∙ ap (digitsAt m) (told .enum-told2 .given .1) in
+    let e : first fieldE (words m) ≡ none =
+    sym (ap (λ (p : ParsedFields). p .e) (s .pre)) ∙ ap (digitsAt m) (told .enum-told2 .given .1) in
     rw e (c .refused-with .ensures)
 
 pub judge-spec : {M : Type 1} → statement M

@@ -1,11 +1,9 @@
 -- `message::read` meets its contract.
 -- Assumes nothing.
 use mathlib.Core.Path.{_≡_, sym, _∙_}
-use native.Mathlib.Omega.{arith}
 use borrow.Author.Needs.{needs}
 use borrow.Author.Tests.{lt-ltb, le-ltb}
 use Rattle.message.specs.Message.{readMessage}
-use Rattle.message.proofs.Words as walk
 use Rattle.message.proofs.Laws.{message-told}
 use Rattle.message.proofs.read.Statement.{statement}
 use Rattle.message.proofs.read.Tie as tie
@@ -17,9 +15,6 @@ returns c =
     let e : c .refused-with .result ≡ readMessage m = c .refused-with .ensures ∙ sym (simp (lt-ltb _ _ (c .before .if1 .taken))) in
     message-told m e
 
-in-field-requires : tie.Need-in-field-requires
-in-field-requires c κs = (omega arith, omega arith, walk.begin _ 0)
-
 returns-2 : tie.Need-returns-2
 unfolding readMessage
 returns-2 c =
@@ -28,4 +23,7 @@ returns-2 c =
     message-told m e
 
 pub read-spec : {M : Type 1} → statement M
-read-spec = tie.close (tie.spec (λ c κs. search needs) returns in-field-requires (λ c κs. search needs) returns-2)
+read-spec =
+    tie.close
+    (tie.spec
+    (λ c κs. search needs) returns (λ c κs. search needs) (λ c κs. search needs) returns-2)
