@@ -10,12 +10,13 @@ use authenticator::Hash;
 use authenticator::LmChoice;
 use authenticator::Lookup;
 use authenticator::Retries;
-use peer::Turn;
+use peer::PacketWritten;
+use peer::Peer;
 
-// Both ends: the conversation, the peer's next turn, and the record that an accepted change handed out.
+// Both ends: the conversation, the peer, and the record that an accepted change handed out.
 pub struct Talk {
     pub conversation: Conversation,
-    pub turn: Turn,
+    pub peer: Peer,
     pub handed: Lookup,
 }
 
@@ -87,14 +88,14 @@ pub(crate) fn opening_on(
     } else {
         refused_opening(opened.refusal, challenge);
     }
-    let turn = peer::first_turn(packets::read_challenge(sent));
+    let peer = Peer::read_challenge(sent).peer;
     let conversation = opened.conversation;
     let handed = account(false);
     Started {
         used: opened.used,
         talk: Talk {
             conversation,
-            turn,
+            peer,
             handed,
         },
     }
@@ -108,54 +109,58 @@ pub(crate) fn opening(id: u8, challenge: [u8; 8], retries: Retries) -> Talk {
     started.talk
 }
 
-// The box takes a packet of the peer and answers, and the peer reads the answer.
-pub(crate) fn answered(talk: Talk, written: &[u8], lookup: Lookup) -> Talk {
-    packet(b"   -> ", written);
+// The box takes the packet that the peer wrote, the first octets of out, and answers, and the peer
+// reads the answer.
+pub(crate) fn answered(talk: Talk, wrote: PacketWritten, out: &[u8], lookup: Lookup) -> Talk {
+    let written = wrote.written;
+    let from_peer = octets::part_of(out, 0, written.length);
+    packet(b"   -> ", from_peer);
     let conversation = talk.conversation;
-    let turn = talk.turn;
     let mut reply = [0u8; 17];
-    let answer = conversation.step(written, lookup, &mut reply);
-    let sent = octets::part_of(&reply, 0, answer.written);
-    packet(b"   <- ", sent);
-    let reading = packets::read_reply(turn.id, sent);
+    let answer = conversation.step(from_peer, lookup, &mut reply);
+    let from_box = octets::part_of(&reply, 0, answer.written);
+    packet(b"   <- ", from_box);
+    let peer = wrote.peer;
+    let read = peer.read_reply(from_box);
+    let reading = read.reading;
     let v = reading.verdict;
     verdict(v);
     let next = answer.next;
     let handed = answer.handed;
-    let after = peer::next_turn(peer::sent_for(turn), reading);
+    let after = read.peer;
     Talk {
         conversation: next,
-        turn: after,
+        peer: after,
         handed,
     }
 }
 
-// Writes a Response from a password, and answers its size.
-pub(crate) fn write_response(turn: Turn, password: &[u8], out: &mut [u8]) -> usize {
-    peer::write_response(turn, password, b"BENCH\\user", out).length
+// Writes a Response from a password.
+pub(crate) fn write_response(talk: Talk, password: &[u8], out: &mut [u8]) -> PacketWritten {
+    let peer = talk.peer;
+    peer.write_response(password, b"BENCH\\user", out)
 }
 
 pub(crate) fn response(talk: Talk, password: &[u8], lookup: Lookup) -> Talk {
     let mut out = [0u8; 310];
-    let turn = talk.turn;
-    let n = write_response(turn, password, &mut out);
-    answered(talk, octets::part_of(&out, 0, n), lookup)
+    let wrote = write_response(talk, password, &mut out);
+    answered(talk, wrote, &out, lookup)
 }
 
-// Writes the change of the right password to the new one, and answers its size.
-pub(crate) fn write_change(turn: Turn, out: &mut [u8]) -> usize {
+// Writes the change of the right password to the new one.
+pub(crate) fn write_change(talk: Talk, out: &mut [u8]) -> PacketWritten {
     let old = right();
     let new = new_one();
     let filler = [0x5au8; 512];
-    peer::write_change(turn, &old, &new, &filler, out).length
+    let peer = talk.peer;
+    peer.write_change(&old, &new, &filler, out)
 }
 
 // The box decides by the record that it kept, so that none is lent.
 pub(crate) fn change(talk: Talk) -> Talk {
     let mut out = [0u8; 1118];
-    let turn = talk.turn;
-    let n = write_change(turn, &mut out);
-    answered(talk, octets::part_of(&out, 0, n), no_record())
+    let wrote = write_change(talk, &mut out);
+    answered(talk, wrote, &out, no_record())
 }
 
 // No record.

@@ -1,4 +1,5 @@
 // What students get wrong, and what the box does: the slips of docs/SLIPS.md.
+use crate::exchanges::Talk;
 use crate::exchanges::account;
 use crate::exchanges::another_challenge;
 use crate::exchanges::answered;
@@ -33,6 +34,14 @@ fn refused_twice(list: &mut [u8], used: usize, counts: &mut [u16]) {
     opening_on(7, next, Retries::Count(0), list, again.used, counts);
 }
 
+// Whoever recorded a Response answers too, and sends the recorded one in place of his own.
+fn replay(talk: Talk, recorded: &[u8]) {
+    let guess = wrong();
+    let mut out = [0u8; 310];
+    let wrote = write_response(talk, &guess, &mut out);
+    answered(talk, wrote, recorded, account(false));
+}
+
 // With a challenge of its own it opens.
 fn with_its_own(list: &mut [u8], used: usize, counts: &mut [u16], recorded: &[u8]) {
     say(
@@ -42,7 +51,7 @@ fn with_its_own(list: &mut [u8], used: usize, counts: &mut [u16], recorded: &[u8
     let opened = opening_on(7, own, Retries::Default, list, used, counts);
     issued(list, opened.used);
     let talk = opened.talk;
-    answered(talk, recorded, account(false));
+    replay(talk, recorded);
 }
 
 // Boxes on one list, as a controller lends it.
@@ -52,12 +61,10 @@ fn on_one_list(list: &mut [u8], counts: &mut [u16]) {
     let password = right();
     let mut out = [0u8; 310];
     let talk = first.talk;
-    let turn = talk.turn;
-    let n = write_response(turn, &password, &mut out);
-    let recorded = octets::part_of(&out, 0, n);
-    answered(talk, recorded, account(false));
+    let wrote = write_response(talk, &password, &mut out);
+    answered(talk, wrote, &out, account(false));
     refused_twice(list, first.used, counts);
-    with_its_own(list, first.used, counts, recorded);
+    with_its_own(list, first.used, counts, &out);
 }
 
 fn shared() {
@@ -126,12 +133,11 @@ fn fallback() {
     let guess = wrong();
     let mut out = [0u8; 310];
     let talk = opening(7, challenge(), Retries::Count(0));
-    let turn = talk.turn;
-    let n = write_response(turn, &guess, &mut out);
+    let wrote = write_response(talk, &guess, &mut out);
     let lm = credentials::challenge_response(hash, challenge());
     octets::copy_at(&mut out, 5, &lm);
     place(b"the right LM response", 5, &lm);
-    answered(talk, octets::part_of(&out, 0, n), lookup);
+    answered(talk, wrote, &out, lookup);
 }
 
 // ---- the change
@@ -139,13 +145,12 @@ fn fallback() {
 // The right change but for the octets from a place on, which a slip made otherwise.
 fn slipped(at: usize, slip: &[u8]) {
     let talk = rightly(opening(7, challenge(), Retries::Default), true);
-    let turn = talk.turn;
     let mut out = [0u8; 1118];
-    let n = write_change(turn, &mut out);
+    let wrote = write_change(talk, &mut out);
     place(b"right,", at, octets::part_of(&out, at, slip.len()));
     place(b"slip, ", at, slip);
     octets::copy_at(&mut out, at, slip);
-    answered(talk, octets::part_of(&out, 0, n), no_record());
+    answered(talk, wrote, &out, no_record());
 }
 
 fn old_hash() -> [u8; 16] {

@@ -3,32 +3,44 @@ use super::failures;
 use super::text;
 use message::Reading;
 use message::Verdict;
-use packets::Asked;
 use packets::Written;
+use peer::ChallengeRead;
+use peer::Peer;
+use peer::Sent;
 use peer::Turn;
+
+// A peer that sent the packet with this identifier and challenge, and has read nothing since.
+fn peer_of(id: u8, challenge: [u8; 8]) -> Peer {
+    Peer {
+        sent: Sent { id, challenge },
+        turn: Turn { id, challenge },
+    }
+}
 
 // ---- what the peer reads
 
-// ID CHALLENGE
-fn put_turn(turn: Turn, out: &mut [u8], at: usize) -> usize {
+// ID CHALLENGE of the peer's turn
+fn put_turn(peer: Peer, out: &mut [u8], at: usize) -> usize {
+    let turn = peer.turn;
     let challenge = turn.challenge;
     let start = text::put(out, at, b" = ");
     text::put_named(out, start, turn.id, challenge)
 }
 
 // The first turn, or the refusal.
-fn put_asked(asked: Asked, out: &mut [u8], at: usize) -> usize {
-    if asked.refusal == 0 {
-        return put_turn(peer::first_turn(asked), out, at);
+fn put_first(read: ChallengeRead, out: &mut [u8], at: usize) -> usize {
+    if read.refusal == 0 {
+        let peer = read.peer;
+        return put_turn(peer, out, at);
     }
-    text::put_result(out, at, asked.refusal, b"")
+    text::put_result(out, at, read.refusal, b"")
 }
 
 // challenge PACKET
 fn challenge(line: &[u8], out: &mut [u8], at: usize) -> usize {
     let mut packet = [0u8; 2048];
     let n = text::decode(text::word(line, 1), &mut packet);
-    put_asked(packets::read_challenge(&packet[..n]), out, at)
+    put_first(Peer::read_challenge(&packet[..n]), out, at)
 }
 
 fn put_reading(reading: Reading, out: &mut [u8], at: usize) -> usize {
@@ -48,27 +60,24 @@ fn put_reading(reading: Reading, out: &mut [u8], at: usize) -> usize {
 fn reply(line: &[u8], out: &mut [u8], at: usize) -> usize {
     let mut packet = [0u8; 2048];
     let n = text::decode(text::word(line, 2), &mut packet);
-    put_reading(
-        packets::read_reply(text::octet(line, 1), &packet[..n]),
-        out,
-        at,
-    )
+    let peer = peer_of(text::octet(line, 1), [0; 8]);
+    let read = peer.read_reply(&packet[..n]);
+    let reading = read.reading;
+    put_reading(reading, out, at)
 }
 
-// The turn of the words ID CHALLENGE, after the command.
-fn turn_of(line: &[u8]) -> Turn {
-    let id = text::octet(line, 1);
-    let challenge = text::eight(line, 2);
-    Turn { id, challenge }
+// The peer of the words ID CHALLENGE, after the command.
+fn peer_in(line: &[u8]) -> Peer {
+    peer_of(text::octet(line, 1), text::eight(line, 2))
 }
 
-// turn ID CHALLENGE PACKET: the turn after one that was sent and its reply.
+// turn ID CHALLENGE PACKET: the turn after a packet that was sent and its reply.
 fn turn(line: &[u8], out: &mut [u8], at: usize) -> usize {
     let mut packet = [0u8; 2048];
     let n = text::decode(text::word(line, 3), &mut packet);
-    let sent = peer::sent_for(turn_of(line));
-    let next = peer::next_turn(sent, packets::read_reply(sent.id, &packet[..n]));
-    put_turn(next, out, at)
+    let read = peer_in(line).read_reply(&packet[..n]);
+    let peer = read.peer;
+    put_turn(peer, out, at)
 }
 
 // ---- what the peer writes
@@ -78,13 +87,14 @@ fn put_packet(written: Written, packet: &[u8], out: &mut [u8], at: usize) -> usi
     text::put_written(out, start, written.refusal, written.length, packet)
 }
 
-// The Response of a turn, into the packet.
+// The Response of the peer's turn, into the packet.
 fn respond(line: &[u8], packet: &mut [u8]) -> Written {
     let mut password = [0u8; 1024];
     let n = text::decode(text::word(line, 3), &mut password);
     let mut name = [0u8; 1024];
     let k = text::decode(text::word(line, 4), &mut name);
-    peer::write_response(turn_of(line), &password[..n], &name[..k], packet)
+    let wrote = peer_in(line).write_response(&password[..n], &name[..k], packet);
+    wrote.written
 }
 
 fn put_response(line: &[u8], packet: &mut [u8], out: &mut [u8], at: usize) -> usize {
@@ -99,7 +109,7 @@ fn response(line: &[u8], out: &mut [u8], at: usize) -> usize {
     put_response(line, &mut packet[..n], out, at)
 }
 
-// The change of a turn, into the packet.
+// The change of the peer's turn, into the packet.
 fn renew(line: &[u8], packet: &mut [u8]) -> Written {
     let mut old = [0u8; 1024];
     let n = text::decode(text::word(line, 3), &mut old);
@@ -107,7 +117,8 @@ fn renew(line: &[u8], packet: &mut [u8]) -> Written {
     let k = text::decode(text::word(line, 4), &mut new);
     let mut filler = [0u8; 1024];
     let m = text::decode(text::word(line, 5), &mut filler);
-    peer::write_change(turn_of(line), &old[..n], &new[..k], &filler[..m], packet)
+    let wrote = peer_in(line).write_change(&old[..n], &new[..k], &filler[..m], packet);
+    wrote.written
 }
 
 fn put_change(line: &[u8], packet: &mut [u8], out: &mut [u8], at: usize) -> usize {
