@@ -13,7 +13,7 @@ use Rattle.octets.specs.Parts.{part, fixed}
 use Rattle.octets.proofs.Parts.{length-fixed}
 use Rattle.message.specs.Message.{words, first, fieldE, fieldC, pairs, givenAs, readFields}
 use Rattle.message.specs.Message.{readMessage}
-use Rattle.message.specs.Walk.{Where, Eight}
+use Rattle.message.specs.Walk.{IfSome, Eight}
 use Rattle.message.specs.declared.Call.{Call}
 use Rattle.message.specs.declared.Call.the-variants.{Retry, ChangeTwo, ChangeOne, End}
 use Rattle.message.specs.declared.Given.{Given}
@@ -45,7 +45,7 @@ half (suc n) (x ∷ []) h = absurd (omega arith)
 half (suc n) (x ∷ y ∷ ds) h = ap suc (half n ds (omega arith))
 
 -- a challenge C, given or not, has eight octets
-given-eight : (o : Option (List ℕ)) → Where Eight o → length (givenAs o .octets) ≡ 8
+given-eight : (o : Option (List ℕ)) → IfSome Eight o → length (givenAs o .octets) ≡ 8
 given-eight none h = refl
 given-eight (some ds) h = half 8 ds (h .long)
 

@@ -12,7 +12,11 @@ use peer::Turn;
 // A peer that sent the packet with this identifier and challenge, and has read nothing since.
 fn peer_of(id: u8, challenge: [u8; 8]) -> Peer {
     Peer {
-        sent: Sent { id, challenge },
+        sent: Sent {
+            present: true,
+            id,
+            challenge,
+        },
         turn: Turn { id, challenge },
     }
 }
