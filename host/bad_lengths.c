@@ -41,8 +41,7 @@ static size_t account_length(struct lent *r) { return mschap_account_length(RUN(
 static size_t domain_offset(struct lent *r) { return mschap_domain_offset(RUN(0)); }
 static size_t domain_length(struct lent *r) { return mschap_domain_length(RUN(0)); }
 static size_t read_challenge(struct lent *r) { return mschap_read_challenge(RUN(0), RUN(1)); }
-static size_t read_reply(struct lent *r) { return mschap_read_reply(7, RUN(0), RUN(1)); }
-static size_t next_turn(struct lent *r) { return mschap_next_turn(RUN(0), RUN(1), RUN(2)); }
+static size_t read_reply(struct lent *r) { return mschap_read_reply(RUN(0), RUN(1), RUN(2)); }
 static size_t write_response(struct lent *r) { return mschap_write_response(RUN(0), RUN(1), RUN(2), RUN(3)); }
 static size_t write_change(struct lent *r) { return mschap_write_change(RUN(0), RUN(1), RUN(2), RUN(3), RUN(4)); }
 
@@ -53,7 +52,7 @@ static const uint8_t opened[51] = {2, 1, 7, 2}; /* a conversation that awaits a 
 static const uint8_t response[63] = {2, 7, 0, 62, 49, [53] = 1, 'D', 'O', 'M', '\\', 'U', 's', 'e', 'r'};
 static const uint8_t challenge[14] = {1, 7, 0, 13, 8};
 static const uint8_t success[5] = {3, 7, 0, 4};
-static const uint8_t sent[10] = {7};
+static const uint8_t peer[19] = {7, [9] = 8}; /* it sent a packet with identifier 7 */
 #define FILL 0xa5 /* what is in a run that is only written */
 
 /* the answers for a run of a fixed size */
@@ -93,12 +92,11 @@ static const struct function {
     {"account_length", account_length, 4, 0, {{response, 62, 0, 0, 4}}},
     {"domain_offset", domain_offset, 54, 0, {{response, 62, 0, 0, 54}}},
     {"domain_length", domain_length, 3, 0, {{response, 62, 0, 0, 3}}},
-    {"read_challenge", read_challenge, 0, 100, {{challenge, 13, 3, 3, 0}, {NULL, 9, FIXED}}},
-    {"read_reply", read_reply, 0, 100, {{success, 4, 3, 3, 0}, {NULL, 35, FIXED}}},
-    {"next_turn", next_turn, 0, 100, {{sent, 9, FIXED}, {success, 4, 3, 3, 0}, {NULL, 9, FIXED}}},
+    {"read_challenge", read_challenge, 0, 100, {{challenge, 13, 3, 3, 0}, {NULL, 18, FIXED}}},
+    {"read_reply", read_reply, 0, 100, {{peer, 18, FIXED}, {success, 4, 3, 3, 0}, {NULL, 35, FIXED}}},
     /* a name of one octet more has too little room */
-    {"write_response", write_response, 0, 100, {{sent, 9, FIXED}, {zeros, 2, 0, 8, 8}, {zeros, 8, 10, 0, 9}, {NULL, 62, 9, 9, 0}}},
-    {"write_change", write_change, 0, 100, {{sent, 9, FIXED}, {zeros, 2, 0, 8, 8}, {zeros, 2, 0, 8, 8}, {zeros, 512, 12, 12, 12}, {NULL, 1118, 9, 9, 0}}},
+    {"write_response", write_response, 0, 100, {{peer, 18, FIXED}, {zeros, 2, 0, 8, 8}, {zeros, 8, 10, 0, 9}, {NULL, 62, 9, 9, 0}}},
+    {"write_change", write_change, 0, 100, {{peer, 18, FIXED}, {zeros, 2, 0, 8, 8}, {zeros, 2, 0, 8, 8}, {zeros, 512, 12, 12, 12}, {NULL, 1118, 9, 9, 0}}},
 };
 
 /* the digest or hash of no octets */

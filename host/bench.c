@@ -360,15 +360,16 @@ static uint32_t prepare(const struct work *w)
     uint8_t list[SPENT * MSCHAP_CHALLENGE_SIZE];
     uint16_t counts[MSCHAP_COUNTS_SIZE] = {0};
     size_t used = 0;
-    uint8_t sent[MSCHAP_TURN_SIZE], turn[MSCHAP_TURN_SIZE];
+    uint8_t peer[MSCHAP_PEER_SIZE], fields[MSCHAP_FIELDS_SIZE];
     uint32_t wrong = 0;
 
     response.record[0] = response.record[1] = 1; /* found, with an NT hash */
     wrong |= mschap_nt_hash(password, sizeof password, response.record + 2, MSCHAP_HASH_SIZE);
     wrong |= mschap_open(7, w->challenge, 8, RETRIES, 0, list, sizeof list, &used, counts, MSCHAP_COUNTS_SIZE,
                          response.conversation, sizeof response.conversation, response.reply, sizeof response.reply);
-    wrong |= mschap_read_challenge(response.reply, sizeof response.reply, sent, sizeof sent);
-    wrong |= mschap_write_response(sent, sizeof sent, password, sizeof password, name, sizeof name, response.packet, sizeof response.packet);
+    wrong |= mschap_read_challenge(response.reply, sizeof response.reply, peer, sizeof peer);
+    wrong |= mschap_write_response(peer, sizeof peer, password, sizeof password, name, sizeof name,
+                                   response.packet, sizeof response.packet);
     response.size = 54 + sizeof name;
 
     /* the same Response where the password has expired: then a change is awaited */
@@ -377,9 +378,9 @@ static uint32_t prepare(const struct work *w)
     wrong |= mschap_step(change.conversation, sizeof change.conversation, response.packet, response.size, change.record, sizeof change.record,
                          change.reply, sizeof change.reply, change.handed, sizeof change.handed);
     wrong |= change.conversation[0] != 6;
-    wrong |= mschap_next_turn(sent, sizeof sent, change.reply, sizeof change.reply, turn, sizeof turn);
-    wrong |= mschap_write_change(turn, sizeof turn, password, sizeof password, renewed, sizeof renewed, w->octets, MSCHAP_FILLER_SIZE,
-                                 change.packet, sizeof change.packet);
+    wrong |= mschap_read_reply(peer, sizeof peer, change.reply, sizeof change.reply, fields, sizeof fields);
+    wrong |= mschap_write_change(peer, sizeof peer, password, sizeof password, renewed, sizeof renewed,
+                                 w->octets, MSCHAP_FILLER_SIZE, change.packet, sizeof change.packet);
     change.size = sizeof change.packet;
     return wrong;
 }

@@ -1,6 +1,6 @@
 /*
- * A conversation over libmschap.a, end to end: an authenticator opens it, a peer answers with a wrong password and then with the right one, which
- * has expired, and changes it. The first Response is made by hand with mschap_challenge_response, the others by the peer's functions. At the end a
+ * A conversation over libmschap.a, end to end: an authenticator opens it, a peer answers with a
+ * mistyped password and then with the right one, which has expired, and changes it. At the end a
  * second box tries to open with the same challenge, and is refused.
  *
  *     rt staticlib mschap
@@ -43,7 +43,7 @@ int main(void)
     /* the account: an NT hash of the password "clientPass", and an expired password */
     static const uint8_t password[] = {'c', 0, 'l', 0, 'i', 0, 'e', 0, 'n', 0, 't', 0, 'P', 0, 'a', 0, 's', 0, 's', 0};
     static const uint8_t renewed[] = {'n', 0, 'e', 0, 'w', 0, 'e', 0, 'r', 0};
-    static const uint8_t wrong[MSCHAP_HASH_SIZE] = {0};
+    static const uint8_t mistyped[] = {'c', 0, 'l', 0, 'i', 0, 'e', 0, 'n', 0, 't', 0};
     static const uint8_t challenge[MSCHAP_CHALLENGE_SIZE] = {0x10, 0x2d, 0xb5, 0xdf, 0x08, 0x5d, 0x30, 0x41};
     static const uint8_t name[] = {'D', 'O', 'M', '\\', 'U', 's', 'e', 'r'};
     static const uint8_t filler[MSCHAP_FILLER_SIZE] = {0}; /* an example only: a real one is random */
@@ -56,9 +56,9 @@ int main(void)
     uint8_t second[MSCHAP_CONVERSATION_SIZE];
     uint8_t reply[MSCHAP_REPLY_SIZE];
     uint8_t packet[MSCHAP_CHANGE_PACKET];
-    uint8_t sent[MSCHAP_TURN_SIZE];
-    uint8_t turn[MSCHAP_TURN_SIZE];
+    uint8_t peer[MSCHAP_PEER_SIZE];
     uint8_t fields[MSCHAP_FIELDS_SIZE];
+    uint8_t first[MSCHAP_REPLY_SIZE]; /* the first Failure */
     size_t at, size;
 
     record[0] = 1; /* found */
@@ -73,21 +73,15 @@ int main(void)
     show("Challenge", reply, length(reply));
     show("issued", list, used * MSCHAP_CHALLENGE_SIZE);
     tell(conversation);
-    if (failed("read_challenge", mschap_read_challenge(reply, length(reply), turn, sizeof turn)))
-        return 1;
 
-    /* a Response with a wrong hash, by hand: code 2, identifier, Length, size 49, LM response 24, NT response 24, flag 1, name */
-    memset(packet, 0, 54);
-    packet[0] = 2;
-    packet[1] = turn[0];
-    packet[3] = (uint8_t)(54 + sizeof name);
-    packet[4] = 49;
-    if (failed("challenge_response", mschap_challenge_response(wrong, sizeof wrong, turn + 1, MSCHAP_CHALLENGE_SIZE, packet + 29, MSCHAP_RESPONSE_SIZE)))
+    /* the peer, with a mistyped password */
+    if (failed("read_challenge", mschap_read_challenge(reply, length(reply), peer, sizeof peer)))
         return 1;
-    packet[53] = 1;
-    memcpy(packet + 54, name, sizeof name);
-    memcpy(sent, turn, sizeof sent);
-    show("Response, by hand", packet, length(packet));
+    if (failed("write_response",
+               mschap_write_response(peer, sizeof peer, mistyped, sizeof mistyped, name, sizeof name,
+                                     packet, sizeof packet)))
+        return 1;
+    show("Response", packet, length(packet));
     at = mschap_account_offset(packet, length(packet));
     size = mschap_account_length(packet, length(packet));
     printf("%-28s%.*s\n", "account", (int)size, (const char *)packet + at);
@@ -97,14 +91,15 @@ int main(void)
     tell(conversation);
 
     /* a retry, with the right password: it has expired */
-    if (failed("read_reply", mschap_read_reply(sent[0], reply, length(reply), fields, sizeof fields)))
+    memcpy(first, reply, sizeof first);
+    if (failed("read_reply",
+               mschap_read_reply(peer, sizeof peer, reply, length(reply), fields, sizeof fields)))
         return 1;
     printf("%-28s%u\n", "the Failure calls for", (unsigned)fields[1]);
-    if (failed("next_turn", mschap_next_turn(sent, sizeof sent, reply, length(reply), turn, sizeof turn)))
+    if (failed("write_response",
+               mschap_write_response(peer, sizeof peer, password, sizeof password, name, sizeof name,
+                                     packet, sizeof packet)))
         return 1;
-    if (failed("write_response", mschap_write_response(turn, sizeof turn, password, sizeof password, name, sizeof name, packet, sizeof packet)))
-        return 1;
-    memcpy(sent, turn, sizeof sent);
     show("Response", packet, length(packet));
     if (failed("step", mschap_step(conversation, sizeof conversation, packet, length(packet), record, sizeof record, reply, sizeof reply, handed, sizeof handed)))
         return 1;
@@ -114,13 +109,17 @@ int main(void)
     /* a packet that is refused changes nothing */
     printf("%-28s%u\n", "the same Response again", (unsigned)mschap_step(conversation, sizeof conversation, packet, length(packet), record, sizeof record, reply, sizeof reply, handed, sizeof handed));
 
-    /* the change */
-    if (failed("read_reply", mschap_read_reply(sent[0], reply, length(reply), fields, sizeof fields)))
+    /* the change; an old reply, read again, changes nothing */
+    if (failed("read_reply",
+               mschap_read_reply(peer, sizeof peer, reply, length(reply), fields, sizeof fields)))
         return 1;
     printf("%-28s%u\n", "the Failure calls for", (unsigned)fields[1]);
-    if (failed("next_turn", mschap_next_turn(sent, sizeof sent, reply, length(reply), turn, sizeof turn)))
-        return 1;
-    if (failed("write_change", mschap_write_change(turn, sizeof turn, password, sizeof password, renewed, sizeof renewed, filler, sizeof filler, packet, sizeof packet)))
+    printf("%-28s%u\n", "the first Failure again",
+           (unsigned)mschap_read_reply(peer, sizeof peer, first, length(first), fields, sizeof fields));
+    if (failed("write_change",
+               mschap_write_change(peer, sizeof peer, password, sizeof password,
+                                   renewed, sizeof renewed, filler, sizeof filler,
+                                   packet, sizeof packet)))
         return 1;
     printf("%-28s%u octets\n", "change", (unsigned)length(packet));
     if (failed("step", mschap_step(conversation, sizeof conversation, packet, length(packet), record, sizeof record, reply, sizeof reply, handed, sizeof handed)))

@@ -20,10 +20,12 @@
  *   100 comes before any refusal. On every return but 0, all that was lent is as it was.
  *
  * STATE
- *   Nothing is allocated and there is no state in the library: all that a conversation knows is in the run that the caller keeps, and which
- *   challenges were issued is in the list that the caller lends. So calls on different runs may be made at the same time, and a conversation
- *   may be stored and continued later. Do not continue it from two copies: each would take an answer to the same challenge. Secrets that pass
- *   through are left on the stack; the library does not wipe them.
+ *   Nothing is allocated and there is no state in the library: all that a conversation or a peer
+ *   knows is in the run that the caller keeps, and which challenges were issued is in the list that
+ *   the caller passes. So calls on different runs may be made at the same time, and a conversation
+ *   or a peer may be stored and continued later. Do not continue a conversation from two copies:
+ *   each would take an answer to the same challenge. Secrets that pass through are left on the
+ *   stack; the library does not wipe them.
  */
 #ifndef MSCHAP_H
 #define MSCHAP_H
@@ -70,7 +72,7 @@ extern "C" {
 #define MSCHAP_CONVERSATION_SIZE 50
 #define MSCHAP_LIST_PLACES 4096       /* the most places of a list, of MSCHAP_CHALLENGE_SIZE octets each */
 #define MSCHAP_COUNTS_SIZE 256        /* counts, not octets */
-#define MSCHAP_TURN_SIZE 9
+#define MSCHAP_PEER_SIZE 18
 #define MSCHAP_FIELDS_SIZE 35
 #define MSCHAP_REPLY_SIZE 17          /* the longest packet of the authenticator */
 #define MSCHAP_RESPONSE_PACKET 310    /* the longest Response */
@@ -109,9 +111,12 @@ extern "C" {
  *   counts    256 counts: counts[x] is how many of the used places end in the octet x
  * An empty list has 0 places used and all counts 0. mschap_open alone adds to a list, and only the caller empties it: used and counts together.
  *
- * A turn, and what was sent, 9 octets each: once the packet of a turn is written and sent, the turn's run is the run of what was sent.
- *    0       the identifier
- *    1 ..  8 the challenge
+ * A peer, 18 octets: written by mschap_read_challenge and changed by the three functions below it;
+ * a caller may read it.
+ *    0       the identifier of the packet that was written last; 0 before the first one
+ *    1 ..  8 the challenge that the last Response answers; octets 0 before the first packet
+ *    9       the identifier of the next packet
+ *   10 .. 17 the challenge of the next packet
  *
  * What a reply says ("fields"), 35 octets; a number has its most significant octet first:
  *    0       0 is Success, 1 is a Failure
@@ -234,41 +239,47 @@ size_t mschap_domain_offset(const uint8_t *packet, size_t packet_size);
    Returns 0 to 255; 0 where the domain is not in the packet. Offset and length together are at most packet_size. */
 size_t mschap_domain_length(const uint8_t *packet, size_t packet_size);
 
-/* ---- the peer */
+/* ---- the peer
 
-/* Reads a Challenge, and writes the turn (9) that it asks for: a Response with its identifier to its challenge.
-   Returns 0; 3 for a bad frame; 11 for another kind of packet, one that is cut short, or a challenge that has not 8 octets; 100 where turn has
-   not 9 octets. */
+   Keep one run of 18 octets, the peer, and pass it to each call: mschap_read_challenge writes it, and
+   the others change it. A packet that was written counts as sent: send exactly what was written, and
+   to send it again send the same octets again. */
+
+/* Reads a Challenge, and writes the peer (18) that is to answer it by a Response with the
+   Challenge's identifier. Call it for every new Challenge. No reply is read before the first packet
+   was written.
+   Returns 0; 3 for a bad frame; 11 for another kind of packet, one that is cut short, or a challenge
+   of another size than 8; 100 unless peer has 18 octets. */
 uint32_t mschap_read_challenge(const uint8_t *packet, size_t packet_size,
-                               uint8_t *turn, size_t turn_size);
+                               uint8_t *peer, size_t peer_size);
 
-/* Reads the reply to the packet that was sent last, which had the identifier last: a Success or a Failure. Writes what it says into fields (35).
-   Returns 0; 3 for a bad frame; 5 for another identifier; 11 for another kind of packet, or a message that cannot be read; 100 where fields has
-   not 35 octets. */
-uint32_t mschap_read_reply(uint8_t last,
+/* Reads the reply to the packet that the peer (18) wrote last: a Success or a Failure. Writes what
+   it says into fields (35), and the identifier and the challenge of the next packet into the peer.
+   Write that packet only where fields[1] is 1 (mschap_write_response) or 2 (mschap_write_change).
+   A reply that comes twice may be read twice: it says the same, and gives the same peer. A packet
+   that is refused changes nothing; so an old reply, which is refused by 5, does no harm.
+   Returns 0; 3 for a bad frame; 5 for another identifier than that of the packet that was written
+   last; 11 for another kind of packet, or a message that cannot be read; 100 unless peer has 18
+   octets and fields has 35. */
+uint32_t mschap_read_reply(uint8_t *peer, size_t peer_size,
                            const uint8_t *packet, size_t packet_size,
                            uint8_t *fields, size_t fields_size);
 
-/* Reads the same reply, and writes the turn (9) after what was sent (9): the identifier and the challenge of the next packet. A packet is to be
-   sent only where mschap_read_reply tells a call of 1 (mschap_write_response) or 2 (mschap_write_change); else the turn is that of the last
-   packet. What was sent is left alone, so that a reply that comes twice may be read twice.
-   Returns 0, 3, 5 or 11 as mschap_read_reply; 100 where sent or turn has not 9 octets. */
-uint32_t mschap_next_turn(const uint8_t *sent, size_t sent_size,
-                          const uint8_t *packet, size_t packet_size,
-                          uint8_t *turn, size_t turn_size);
-
-/* Writes the Response of a turn (9) by an NT password, with a name of 1 to 256 octets, at the front of out. The packet has 54 octets more than
-   its name; what lay behind it stays.
-   Returns 0; 8 for the password (as mschap_nt_hash); 10 for the name; 9 for too little room; 100 where turn has not 9 octets. */
-uint32_t mschap_write_response(const uint8_t *turn, size_t turn_size,
+/* Writes the peer's (18) Response by an NT password, with a name of 1 to 256 octets, at the front of
+   out. The packet has 54 octets more than its name; what lay behind it stays.
+   Returns 0; 8 for the password (as mschap_nt_hash); 10 for the name; 9 for too little room; 100
+   unless peer has 18 octets. */
+uint32_t mschap_write_response(uint8_t *peer, size_t peer_size,
                                const uint8_t *password, size_t password_size,
                                const uint8_t *name, size_t name_size,
                                uint8_t *out, size_t out_size);
 
-/* Writes the version 2 change of a turn (9) from an old to a new NT password, at the front of out: 1,118 octets. filler (512) fills the block
-   that hides the new password's length, and is to be octets that nobody can foretell.
-   Returns 0; 8 for either password; 12 for a filler of another size; 9 for too little room; 100 where turn has not 9 octets. */
-uint32_t mschap_write_change(const uint8_t *turn, size_t turn_size,
+/* Writes the peer's (18) version 2 change from an old to a new NT password, at the front of out:
+   1,118 octets. filler (512) fills the block that hides the new password's length: pass octets that
+   are unpredictable, from a cryptographic random number generator.
+   Returns 0; 8 for either password; 12 for a filler of another size than 512; 9 for too little room;
+   100 unless peer has 18 octets. */
+uint32_t mschap_write_change(uint8_t *peer, size_t peer_size,
                              const uint8_t *old_password, size_t old_password_size,
                              const uint8_t *new_password, size_t new_password_size,
                              const uint8_t *filler, size_t filler_size,

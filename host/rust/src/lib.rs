@@ -4,7 +4,7 @@
 //! a [`Refusal`]; nothing here panics.
 //!
 //! ```
-//! use mschap::{nt_hash, Account, Conversation, Issued, Reading, Refusal, Turn};
+//! use mschap::{nt_hash, Account, Conversation, Issued, Peer, Reading, Refusal};
 //! use mschap::{REPLY_SIZE, RESPONSE_PACKET};
 //!
 //! let password = b"P\0w\0";
@@ -18,10 +18,10 @@
 //! let challenge = [0; 8];
 //! let opening = Conversation::open(1, &challenge, None, None, &mut issued, &mut reply);
 //! let (mut conversation, size) = opening?;
-//! let turn = Turn::read_challenge(&reply[..size])?;
-//! let size = turn.write_response(password, b"DOM\\User", &mut packet)?;
+//! let mut peer = Peer::read_challenge(&reply[..size])?;
+//! let size = peer.write_response(password, b"DOM\\User", &mut packet)?;
 //! let judged = conversation.step(&packet[..size], Some(&account), &mut reply)?;
-//! assert_eq!(turn.sent().read_reply(&reply[..judged.size])?, Reading::Success);
+//! assert_eq!(peer.read_reply(&reply[..judged.size])?, Reading::Success);
 //!
 //! // Another box cannot issue the same challenge.
 //! let opening = Conversation::open(1, &challenge, None, None, &mut issued, &mut reply);
@@ -47,7 +47,7 @@ pub use authenticator::{account_of, domain_of, Awaited, Conversation, Judged};
 pub use cipher::{des_decrypt, des_encrypt, md4, rc4};
 pub use hash::{challenge_response, lm_hash, nt_hash};
 pub use issued::Issued;
-pub use peer::{Call, Reading, Sent, Turn};
+pub use peer::{Call, Peer, Reading};
 pub use refusal::Refusal;
 
 /// The octets of a challenge.

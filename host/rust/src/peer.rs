@@ -3,13 +3,11 @@
 use crate::account::mark;
 use crate::{length, part, sys, Challenge, Refusal};
 
-/// The identifier and the challenge of the packet to be written next.
+/// All that the peer keeps from one packet to the next: what it sent last, and the identifier and
+/// the challenge of the next packet. A packet that was written counts as sent. It may be stored and
+/// continued later.
 #[derive(Clone, Copy, Debug, PartialEq, Eq)]
-pub struct Turn([u8; sys::TURN_SIZE]);
-
-/// The identifier and the challenge of the packet that was sent last.
-#[derive(Clone, Copy, Debug, PartialEq, Eq)]
-pub struct Sent([u8; sys::TURN_SIZE]);
+pub struct Peer([u8; sys::PEER_SIZE]);
 
 /// What a Failure calls for.
 #[derive(Clone, Copy, Debug, PartialEq, Eq)]
@@ -44,95 +42,95 @@ pub enum Reading {
     },
 }
 
-impl Turn {
-    /// The turn of this identifier and challenge.
-    pub fn new(identifier: u8, challenge: &Challenge) -> Turn {
-        let mut octets = [identifier; sys::TURN_SIZE];
-        octets[1..].copy_from_slice(challenge);
-        Turn(octets)
+impl Peer {
+    /// Reads a Challenge: the peer that is to answer it. No reply is read before its first packet
+    /// was written.
+    pub fn read_challenge(packet: &[u8]) -> Result<Peer, Refusal> {
+        let mut peer = [0; sys::PEER_SIZE];
+        Refusal::check(sys::read_challenge(packet, &mut peer))?;
+        Ok(Peer(peer))
     }
 
-    /// Reads a Challenge: the turn it asks for.
-    pub fn read_challenge(packet: &[u8]) -> Result<Turn, Refusal> {
-        let mut turn = [0; sys::TURN_SIZE];
-        Refusal::check(sys::read_challenge(packet, &mut turn))?;
-        Ok(Turn(turn))
-    }
-
-    /// The identifier.
+    /// The identifier of the next packet.
     pub fn identifier(&self) -> u8 {
-        self.0[0]
+        self.0[9]
     }
 
-    /// The challenge.
+    /// The challenge of the next packet.
     pub fn challenge(&self) -> Challenge {
-        part(&self.0, 1)
+        part(&self.0, 10)
     }
 
     /// Writes the Response by an NT password, with a name of 1 to 256 octets, at the front of
-    /// `out`. Gives its size.
+    /// `out`. Gives its size. A refusal changes nothing.
     pub fn write_response(
-        &self,
+        &mut self,
         password: &[u8],
         name: &[u8],
         out: &mut [u8],
     ) -> Result<usize, Refusal> {
-        Refusal::check(sys::write_response(&self.0, password, name, out))?;
+        Refusal::check(sys::write_response(&mut self.0, password, name, out))?;
         Ok(length(out))
     }
 
     /// Writes the change from an old to a new NT password at the front of `out`. The filler hides
-    /// the new password's length, and is to be octets that nobody can foretell. Gives the size.
+    /// the new password's length: pass octets that are unpredictable, from a cryptographic random
+    /// number generator. Gives the size. A refusal changes nothing.
     pub fn write_change(
-        &self,
+        &mut self,
         old: &[u8],
         new: &[u8],
         filler: &[u8; sys::FILLER_SIZE],
         out: &mut [u8],
     ) -> Result<usize, Refusal> {
-        Refusal::check(sys::write_change(&self.0, old, new, filler, out))?;
+        Refusal::check(sys::write_change(&mut self.0, old, new, filler, out))?;
         Ok(length(out))
     }
 
-    /// What was sent, once this turn's packet is.
-    pub fn sent(self) -> Sent {
-        Sent(self.0)
+    /// Reads the reply to the packet that was written last. The next packet is to be written only
+    /// where it calls for another Response or a change. A reply may be read twice: it says the same
+    /// and gives the same peer. A refusal changes nothing.
+    pub fn read_reply(&mut self, packet: &[u8]) -> Result<Reading, Refusal> {
+        let mut next = self.0;
+        let mut fields = [0; sys::FIELDS_SIZE];
+        Refusal::check(sys::read_reply(&mut next, packet, &mut fields))?;
+        let reading = Reading::of(&fields).ok_or(Refusal::Unexpected(sys::MISFIT))?;
+        self.0 = next;
+        Ok(reading)
+    }
+
+    /// The octets to be stored.
+    pub fn octets(&self) -> &[u8; sys::PEER_SIZE] {
+        &self.0
+    }
+
+    /// The peer of stored octets: any are one.
+    pub fn from_octets(octets: [u8; sys::PEER_SIZE]) -> Peer {
+        Peer(octets)
     }
 }
 
-impl Sent {
-    /// Reads the reply to the packet that was sent.
-    pub fn read_reply(&self, packet: &[u8]) -> Result<Reading, Refusal> {
-        let mut fields = [0; sys::FIELDS_SIZE];
-        Refusal::check(sys::read_reply(self.0[0], packet, &mut fields))?;
-        let number = |at: usize| u64::from_be_bytes(part(&fields, at));
-        // No other number is ever written; it is told rather than taken for one of these.
-        let unexpected = Refusal::Unexpected(sys::MISFIT);
-        if !mark(fields[0]).ok_or(unexpected)? {
-            return Ok(Reading::Success);
+impl Reading {
+    /// What the fields say. No other number is ever written there: it is none of these then.
+    fn of(fields: &[u8; sys::FIELDS_SIZE]) -> Option<Reading> {
+        let number = |at: usize| u64::from_be_bytes(part(fields, at));
+        if !mark(fields[0])? {
+            return Some(Reading::Success);
         }
         let call = match fields[1] {
             1 => Call::Response,
             2 => Call::Change,
             3 => Call::ChangeVersion1,
             4 => Call::End,
-            _ => return Err(unexpected),
+            _ => return None,
         };
-        let given = mark(fields[26]).ok_or(unexpected)?;
-        Ok(Reading::Failure {
+        let given = mark(fields[26])?;
+        Some(Reading::Failure {
             call,
             reason: number(2),
             retry: number(10),
             version: number(18),
-            challenge: given.then(|| part(&fields, 27)),
+            challenge: given.then(|| part(fields, 27)),
         })
-    }
-
-    /// Reads the same reply: the turn after what was sent. A packet is to be sent only where the
-    /// reply calls for another Response or a change; else the turn is that of the last packet.
-    pub fn next_turn(&self, packet: &[u8]) -> Result<Turn, Refusal> {
-        let mut turn = [0; sys::TURN_SIZE];
-        Refusal::check(sys::next_turn(&self.0, packet, &mut turn))?;
-        Ok(Turn(turn))
     }
 }

@@ -35,8 +35,8 @@ pub const CONVERSATION_SIZE: usize = 50;
 pub const LIST_PLACES: usize = 4096;
 /// The counts beside a list: their number, not their octets.
 pub const COUNTS_SIZE: usize = 256;
-/// Octets of a turn, and of what was sent.
-pub const TURN_SIZE: usize = 9;
+/// Octets of a peer.
+pub const PEER_SIZE: usize = 18;
 /// Octets of what a reply says.
 pub const FIELDS_SIZE: usize = 35;
 /// Octets of the authenticator's longest packet.
@@ -142,34 +142,26 @@ pub mod raw {
         pub fn mschap_domain_offset(packet: *const u8, packet_size: usize) -> usize;
         /// How many octets the domain has there.
         pub fn mschap_domain_length(packet: *const u8, packet_size: usize) -> usize;
-        /// Reads a Challenge, and writes the turn it asks for.
+        /// Reads a Challenge, and writes the peer that is to answer it.
         pub fn mschap_read_challenge(
             packet: *const u8,
             packet_size: usize,
-            turn: *mut u8,
-            turn_size: usize,
+            peer: *mut u8,
+            peer_size: usize,
         ) -> u32;
-        /// Reads a reply, and writes what it says into fields.
+        /// Reads a reply, and writes what it says into fields, and the next turn into the peer.
         pub fn mschap_read_reply(
-            last: u8,
+            peer: *mut u8,
+            peer_size: usize,
             packet: *const u8,
             packet_size: usize,
             fields: *mut u8,
             fields_size: usize,
         ) -> u32;
-        /// Reads a reply, and writes the turn after what was sent.
-        pub fn mschap_next_turn(
-            sent: *const u8,
-            sent_size: usize,
-            packet: *const u8,
-            packet_size: usize,
-            turn: *mut u8,
-            turn_size: usize,
-        ) -> u32;
-        /// Writes the Response of a turn into out.
+        /// Writes the peer's Response into out.
         pub fn mschap_write_response(
-            turn: *const u8,
-            turn_size: usize,
+            peer: *mut u8,
+            peer_size: usize,
             password: *const u8,
             password_size: usize,
             name: *const u8,
@@ -177,10 +169,10 @@ pub mod raw {
             out: *mut u8,
             out_size: usize,
         ) -> u32;
-        /// Writes the change of a turn into out.
+        /// Writes the peer's change into out.
         pub fn mschap_write_change(
-            turn: *const u8,
-            turn_size: usize,
+            peer: *mut u8,
+            peer_size: usize,
             old_password: *const u8,
             old_password_size: usize,
             new_password: *const u8,
@@ -366,20 +358,21 @@ pub fn domain_length(packet: &[u8]) -> usize {
     unsafe { raw::mschap_domain_length(packet.as_ptr(), packet.len()) }
 }
 
-/// Reads a Challenge, and writes the turn it asks for.
-pub fn read_challenge(packet: &[u8], turn: &mut [u8]) -> u32 {
+/// Reads a Challenge, and writes the peer that is to answer it.
+pub fn read_challenge(packet: &[u8], peer: &mut [u8]) -> u32 {
     // SAFETY: slices, as said above.
     unsafe {
-        raw::mschap_read_challenge(packet.as_ptr(), packet.len(), turn.as_mut_ptr(), turn.len())
+        raw::mschap_read_challenge(packet.as_ptr(), packet.len(), peer.as_mut_ptr(), peer.len())
     }
 }
 
-/// Reads a reply, and writes what it says into fields.
-pub fn read_reply(last: u8, packet: &[u8], fields: &mut [u8]) -> u32 {
+/// Reads a reply, and writes what it says into fields, and the next turn into the peer.
+pub fn read_reply(peer: &mut [u8], packet: &[u8], fields: &mut [u8]) -> u32 {
     // SAFETY: slices, as said above.
     unsafe {
         raw::mschap_read_reply(
-            last,
+            peer.as_mut_ptr(),
+            peer.len(),
             packet.as_ptr(),
             packet.len(),
             fields.as_mut_ptr(),
@@ -388,28 +381,13 @@ pub fn read_reply(last: u8, packet: &[u8], fields: &mut [u8]) -> u32 {
     }
 }
 
-/// Reads a reply, and writes the turn after what was sent.
-pub fn next_turn(sent: &[u8], packet: &[u8], turn: &mut [u8]) -> u32 {
-    // SAFETY: slices, as said above.
-    unsafe {
-        raw::mschap_next_turn(
-            sent.as_ptr(),
-            sent.len(),
-            packet.as_ptr(),
-            packet.len(),
-            turn.as_mut_ptr(),
-            turn.len(),
-        )
-    }
-}
-
-/// Writes the Response of a turn into out.
-pub fn write_response(turn: &[u8], password: &[u8], name: &[u8], out: &mut [u8]) -> u32 {
+/// Writes the peer's Response into out.
+pub fn write_response(peer: &mut [u8], password: &[u8], name: &[u8], out: &mut [u8]) -> u32 {
     // SAFETY: slices, as said above.
     unsafe {
         raw::mschap_write_response(
-            turn.as_ptr(),
-            turn.len(),
+            peer.as_mut_ptr(),
+            peer.len(),
             password.as_ptr(),
             password.len(),
             name.as_ptr(),
@@ -420,9 +398,9 @@ pub fn write_response(turn: &[u8], password: &[u8], name: &[u8], out: &mut [u8])
     }
 }
 
-/// Writes the change of a turn into out.
+/// Writes the peer's change into out.
 pub fn write_change(
-    turn: &[u8],
+    peer: &mut [u8],
     old_password: &[u8],
     new_password: &[u8],
     filler: &[u8],
@@ -431,8 +409,8 @@ pub fn write_change(
     // SAFETY: slices, as said above.
     unsafe {
         raw::mschap_write_change(
-            turn.as_ptr(),
-            turn.len(),
+            peer.as_mut_ptr(),
+            peer.len(),
             old_password.as_ptr(),
             old_password.len(),
             new_password.as_ptr(),

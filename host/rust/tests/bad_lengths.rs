@@ -13,7 +13,7 @@ fn others(right: usize) -> impl Iterator<Item = usize> {
 }
 
 /// Lends a run of each wrong size: the answer is 100, and the run is as it was.
-fn misfits(right: usize, call: impl Fn(&mut [u8]) -> u32) {
+fn misfits(right: usize, mut call: impl FnMut(&mut [u8]) -> u32) {
     for size in others(right) {
         let mut run = vec![FILL; size];
         assert_eq!(call(&mut run), sys::MISFIT, "size {size} for {right}");
@@ -183,14 +183,13 @@ fn lists() {
 
 /// A conversation that awaits a Response, and a Response for it.
 fn opened() -> ([u8; 50], Vec<u8>) {
-    let mut conversation = [0; 50];
-    let number = Lent::new(3, 0).open(&[0; 8], 2, 1, &mut conversation, &mut [0; 17]);
+    let (mut conversation, mut reply, mut peer) = ([0; 50], [0; 17], [0; 18]);
+    let number = Lent::new(3, 0).open(&[0; 8], 2, 1, &mut conversation, &mut reply);
     assert_eq!(number, sys::OK);
+    assert_eq!(sys::read_challenge(&reply, &mut peer), sys::OK);
     let mut packet = vec![0; 55];
-    assert_eq!(
-        sys::write_response(&[7, 0, 0, 0, 0, 0, 0, 0, 0], b"", b"u", &mut packet),
-        sys::OK
-    );
+    let number = sys::write_response(&mut peer, b"", b"u", &mut packet);
+    assert_eq!(number, sys::OK);
     (conversation, packet)
 }
 
@@ -256,27 +255,34 @@ fn steps() {
 fn peers() {
     let challenge = [1, 7, 0, 13, 8, 1, 2, 3, 4, 5, 6, 7, 8];
     let success = [3, 7, 0, 4];
-    misfits(9, |turn| sys::read_challenge(&challenge, turn));
-    misfits(9, |turn| sys::read_challenge(&[], turn));
-    misfits(35, |fields| sys::read_reply(7, &success, fields));
-    misfits(35, |fields| sys::read_reply(8, &[], fields));
-    misfits(9, |sent| sys::next_turn(sent, &success, &mut [0; 9]));
-    misfits(9, |turn| sys::next_turn(&[7; 9], &success, turn));
-    misfits(9, |turn| sys::write_response(turn, b"", b"u", &mut [0; 55]));
-    misfits(9, |turn| sys::write_response(turn, b"a", b"", &mut []));
-    misfits(9, |turn| {
-        sys::write_change(turn, b"", b"", &[0; 512], &mut [0; 1118])
+    misfits(18, |peer| sys::read_challenge(&challenge, peer));
+    misfits(18, |peer| sys::read_challenge(&[], peer));
+    for packet in [&success[..], &[]] {
+        let (mut peer, mut fields) = ([7; 18], [FILL; 35]);
+        misfits(18, |other| sys::read_reply(other, packet, &mut fields));
+        misfits(35, |other| sys::read_reply(&mut peer, packet, other));
+        assert_eq!((peer, fields), ([7; 18], [FILL; 35]));
+    }
+    let mut out = [FILL; 1118];
+    misfits(18, |peer| sys::write_response(peer, b"", b"u", &mut out));
+    misfits(18, |peer| sys::write_response(peer, b"a", b"", &mut []));
+    misfits(18, |peer| {
+        sys::write_change(peer, b"", b"", &[0; 512], &mut out)
     });
     // a filler of another size is refused by 12, behind the passwords and before the room
     for size in [0, 1, 511, 513, 1024] {
         let filler = vec![0; size];
-        let mut out = [FILL; 1118];
-        let number = sys::write_change(&[7; 9], b"", b"", &filler, &mut out);
-        assert_eq!((number, out), (12, [FILL; 1118]));
-        assert_eq!(sys::write_change(&[7; 9], b"", b"", &filler, &mut []), 12);
-        assert_eq!(sys::write_change(&[7; 9], b"a", b"", &filler, &mut out), 8);
-        assert_eq!(sys::write_change(&[7; 9], b"", b"a", &filler, &mut out), 8);
+        let mut peer = [7; 18];
+        let number = sys::write_change(&mut peer, b"", b"", &filler, &mut out);
+        assert_eq!(number, 12);
+        assert_eq!(sys::write_change(&mut peer, b"", b"", &filler, &mut []), 12);
+        let number = sys::write_change(&mut peer, b"a", b"", &filler, &mut out);
+        assert_eq!(number, 8);
+        let number = sys::write_change(&mut peer, b"", b"a", &filler, &mut out);
+        assert_eq!(number, 8);
+        assert_eq!(peer, [7; 18]);
     }
+    assert_eq!(out, [FILL; 1118]);
 }
 
 #[test]
@@ -345,29 +351,29 @@ fn null_with_no_octets() {
         assert_eq!(mschap_domain_length(n, 0), 0);
 
         assert_eq!(mschap_read_challenge(n, 0, m, 0), sys::MISFIT);
-        assert_eq!(mschap_read_reply(7, n, 0, m, 0), sys::MISFIT);
-        assert_eq!(mschap_next_turn(n, 0, n, 0, m, 0), sys::MISFIT);
-        assert_eq!(mschap_read_challenge(n, 0, run.as_mut_ptr(), 9), 3);
-        assert_eq!(mschap_read_reply(7, n, 0, run.as_mut_ptr(), 35), 3);
-        let turn = [7; 9];
-        let t = turn.as_ptr();
-        assert_eq!(mschap_next_turn(t, 9, n, 0, run.as_mut_ptr(), 9), 3);
+        assert_eq!(mschap_read_reply(m, 0, n, 0, m, 0), sys::MISFIT);
+        assert_eq!(mschap_read_challenge(n, 0, run.as_mut_ptr(), 18), 3);
+        let mut peer = [7; 18];
+        let p = peer.as_mut_ptr();
+        assert_eq!(mschap_read_reply(p, 18, n, 0, m, 0), sys::MISFIT);
+        assert_eq!(mschap_read_reply(p, 18, n, 0, run.as_mut_ptr(), 35), 3);
         assert_eq!(run, [FILL; 50]);
-        assert_eq!(mschap_write_response(n, 0, n, 0, n, 0, m, 0), sys::MISFIT);
-        assert_eq!(mschap_write_response(t, 9, n, 0, n, 0, m, 0), 10);
+        assert_eq!(mschap_write_response(m, 0, n, 0, n, 0, m, 0), sys::MISFIT);
+        assert_eq!(mschap_write_response(p, 18, n, 0, n, 0, m, 0), 10);
         assert_eq!(
-            mschap_write_response(t, 9, n, 0, [b'u'].as_ptr(), 1, m, 0),
+            mschap_write_response(p, 18, n, 0, [b'u'].as_ptr(), 1, m, 0),
             9
         );
         assert_eq!(
-            mschap_write_change(n, 0, n, 0, n, 0, n, 0, m, 0),
+            mschap_write_change(m, 0, n, 0, n, 0, n, 0, m, 0),
             sys::MISFIT
         );
-        assert_eq!(mschap_write_change(t, 9, n, 0, n, 0, n, 0, m, 0), 12);
+        assert_eq!(mschap_write_change(p, 18, n, 0, n, 0, n, 0, m, 0), 12);
         let filler = [0; 512];
         assert_eq!(
-            mschap_write_change(t, 9, n, 0, n, 0, filler.as_ptr(), 512, m, 0),
+            mschap_write_change(p, 18, n, 0, n, 0, filler.as_ptr(), 512, m, 0),
             9
         );
+        assert_eq!(peer, [7; 18]);
     }
 }

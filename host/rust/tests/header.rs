@@ -29,7 +29,7 @@ fn sizes() {
         ("CONVERSATION_SIZE", sys::CONVERSATION_SIZE),
         ("LIST_PLACES", sys::LIST_PLACES),
         ("COUNTS_SIZE", sys::COUNTS_SIZE),
-        ("TURN_SIZE", sys::TURN_SIZE),
+        ("PEER_SIZE", sys::PEER_SIZE),
         ("FIELDS_SIZE", sys::FIELDS_SIZE),
         ("REPLY_SIZE", sys::REPLY_SIZE),
         ("RESPONSE_PACKET", sys::RESPONSE_PACKET),

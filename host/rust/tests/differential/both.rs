@@ -2,7 +2,7 @@
 //! to both.
 
 use crate::random::Random;
-use mschap::{sys, Awaited, Call, Challenge, Conversation, Issued, Reading, Refusal, Turn};
+use mschap::{sys, Awaited, Call, Challenge, Conversation, Issued, Peer, Reading, Refusal};
 use reference::authenticator::{self as their, Phase};
 use reference::issued;
 use reference::message;
@@ -223,8 +223,157 @@ impl Boxes {
     }
 }
 
-pub fn our_turn(turn: &peer::Turn) -> Turn {
-    Turn::new(turn.id, &turn.challenge)
+/// A peer in both implementations. Theirs has no state: what document 01 says of it is put together
+/// here, by the last packet and the next one.
+#[derive(Clone)]
+pub struct Peers {
+    ours: Peer,
+    sent: peer::Turn,
+    turn: peer::Turn,
+}
+
+/// An identifier and a challenge of theirs, in our octets.
+fn turn_octets(turn: &peer::Turn) -> [u8; 9] {
+    let mut octets = [turn.id; 9];
+    octets[1..].copy_from_slice(&turn.challenge);
+    octets
+}
+
+fn drawn_turn(random: &mut Random) -> peer::Turn {
+    peer::Turn {
+        id: random.octet(),
+        challenge: random.array(),
+    }
+}
+
+impl Peers {
+    /// The peers after a Challenge; each reads its own copy. Nothing is sent yet.
+    pub fn read_challenge(ours: &[u8], theirs: &[u8]) -> Result<Peers, u8> {
+        let read = peer::read_challenge(theirs);
+        let ours = plain(Peer::read_challenge(ours));
+        assert_eq!(ours.err(), read.err(), "the Challenge's answer");
+        let nothing = peer::Turn {
+            id: 0,
+            challenge: [0; 8],
+        };
+        let peers = Peers {
+            ours: ours?,
+            sent: nothing,
+            turn: read?,
+        };
+        peers.agree();
+        Ok(peers)
+    }
+
+    /// Peers that sent something and may have read something since.
+    pub fn drawn(random: &mut Random) -> Peers {
+        let (sent, turn) = (drawn_turn(random), drawn_turn(random));
+        let octets = [turn_octets(&sent), turn_octets(&turn)].concat();
+        let octets = octets.try_into().expect("the octets of a peer");
+        Peers {
+            ours: Peer::from_octets(octets),
+            sent,
+            turn,
+        }
+    }
+
+    /// The identifier of the last packet.
+    pub fn last(&self) -> u8 {
+        self.sent.id
+    }
+
+    /// Identifier and challenge of the next packet.
+    pub fn turn(&self) -> peer::Turn {
+        self.turn
+    }
+
+    fn agree(&self) {
+        let theirs = [turn_octets(&self.sent), turn_octets(&self.turn)].concat();
+        assert_eq!(self.ours.octets()[..], theirs, "the peers");
+        let turn = (self.ours.identifier(), self.ours.challenge());
+        assert_eq!(turn, (self.turn.id, self.turn.challenge), "the turns");
+    }
+
+    /// A packet was written into two buffers that held the same octets, `lent`; a refusal left buffer
+    /// and peer as they were. `before` is our peer before it.
+    fn wrote(
+        &mut self,
+        before: Peer,
+        answer: Result<usize, u8>,
+        written: peer::Written,
+        out: [&[u8]; 3],
+    ) -> Result<usize, u8> {
+        let [ours, theirs, lent] = out;
+        assert_eq!(ours, theirs, "the packet and what lies behind it");
+        let expected = match written.refusal {
+            0 => Ok(written.written),
+            refusal => Err(refusal),
+        };
+        assert_eq!(answer, expected, "the writer's answer");
+        match answer {
+            Ok(_) => self.sent = self.turn,
+            Err(_) => assert_eq!(
+                (self.ours, ours),
+                (before, lent),
+                "a refusal changes nothing"
+            ),
+        }
+        self.agree();
+        answer
+    }
+
+    /// The Response of both, into a buffer that holds the packet afterwards.
+    pub fn write_response(
+        &mut self,
+        password: &[u8],
+        name: &[u8],
+        out: &mut [u8],
+    ) -> Result<usize, u8> {
+        let (before, lent, mut theirs) = (self.ours, out.to_vec(), out.to_vec());
+        let answer = plain(self.ours.write_response(password, name, out));
+        let written = peer::write_response(&self.turn, password, name, &mut theirs);
+        self.wrote(before, answer, written, [out, &theirs, &lent])
+    }
+
+    /// The change of both, into a buffer that holds the packet afterwards.
+    pub fn write_change(
+        &mut self,
+        old: &[u8],
+        new: &[u8],
+        filler: &[u8; sys::FILLER_SIZE],
+        out: &mut [u8],
+    ) -> Result<usize, u8> {
+        let (before, lent, mut theirs) = (self.ours, out.to_vec(), out.to_vec());
+        let answer = plain(self.ours.write_change(old, new, filler, out));
+        let written = peer::write_change(&self.turn, old, new, filler, &mut theirs);
+        self.wrote(before, answer, written, [out, &theirs, &lent])
+    }
+
+    /// Both read a reply, each its own copy, and ours reads it twice, which must give the same. A
+    /// refused packet leaves the peer, and the fields that it was lent, as they were.
+    pub fn read_reply(&mut self, ours: &[u8], theirs: &[u8]) -> Result<Verdict, u8> {
+        let before = self.ours;
+        let reading = peer::read_reply(self.sent.id, theirs);
+        if reading.is_ok() {
+            self.turn = peer::next_turn(&self.sent, &reading);
+        }
+        let expected = reading.as_ref().map(our_reading).map_err(|number| *number);
+        for _ in 0..2 {
+            let answer = plain(self.ours.read_reply(ours));
+            assert_eq!(answer, expected, "the reading of {ours:?}");
+            self.agree();
+        }
+        let mut octets = *before.octets();
+        let mut fields = [0xa5; sys::FIELDS_SIZE];
+        let number = sys::read_reply(&mut octets, ours, &mut fields);
+        assert_eq!(number, u32::from(reading.err().unwrap_or(0)));
+        assert_eq!(&octets, self.ours.octets(), "the peer by its octets");
+        if reading.is_err() {
+            let same = (before, [0xa5; sys::FIELDS_SIZE]);
+            assert_eq!((self.ours, fields), same, "a refusal changes nothing");
+        }
+        reading
+    }
 }
 
 /// A verdict of theirs as a reading of ours.

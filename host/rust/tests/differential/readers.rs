@@ -1,72 +1,47 @@
-//! The readers: Challenge, reply, Failure message, next turn, and the parts of a name.
+//! The readers: Challenge, reply, Failure message, and the parts of a name.
 
-use crate::both::{our_reading, our_turn, plain};
+use crate::both::{our_reading, Peers};
 use crate::packets;
 use crate::random::Random;
 use crate::run::{run, Seen};
-use mschap::{sys, Turn};
-use reference::{packet, peer};
+use mschap::sys;
+use reference::packet;
 
 fn challenge(random: &mut Random, seen: &mut Seen) {
     let mut packet = packets::challenge(random);
     packets::damage(random, &mut packet);
-    let theirs = peer::read_challenge(&packet);
-    let ours = plain(Turn::read_challenge(&packet));
-    assert_eq!(ours, theirs.map(|turn| our_turn(&turn)), "{packet:?}");
-    seen.note(match theirs {
+    seen.note(match Peers::read_challenge(&packet, &packet) {
         Ok(_) => "challenge read".to_string(),
         Err(number) => format!("challenge refused {number}"),
     });
 }
 
-/// A reply and the turn after it, from a whole packet.
-fn reply_of(last: &peer::Turn, packet: &[u8], seen: &mut Seen) {
-    let theirs = peer::read_reply(last.id, packet);
-    let sent = our_turn(last).sent();
-    let ours = plain(sent.read_reply(packet));
-    assert_eq!(
-        ours,
-        theirs.as_ref().map(our_reading).map_err(|number| *number),
-        "{packet:?}"
-    );
-    let turn = plain(sent.next_turn(packet));
-    let next = peer::next_turn(last, &theirs);
-    assert_eq!(
-        turn,
-        theirs.map(|_| our_turn(&next)),
-        "the next turn after {packet:?}"
-    );
-    seen.note(match &ours {
+fn reply_to(mut peers: Peers, packet: &[u8], seen: &mut Seen) {
+    let verdict = peers.read_reply(packet, packet);
+    seen.note(match verdict.as_ref().map(our_reading) {
         Ok(mschap::Reading::Success) => "reply: Success".to_string(),
         Ok(mschap::Reading::Failure { call, .. }) => format!("reply: Failure, {call:?}"),
         Err(number) => format!("reply refused {number}"),
     });
 }
 
-fn last(random: &mut Random) -> peer::Turn {
-    peer::Turn {
-        id: random.octet(),
-        challenge: random.array(),
-    }
-}
-
 fn reply(random: &mut Random, seen: &mut Seen) {
-    let last = last(random);
+    let peers = Peers::drawn(random);
     let mut packet = match random.below(4) {
-        0 => packet::success(last.id),
-        1 => packet::failure(last.id, random.pick(&[691, 648, 709]), 1, 2),
-        2 => packets::failure(random, last.id),
+        0 => packet::success(peers.last()),
+        1 => packet::failure(peers.last(), random.pick(&[691, 648, 709]), 1, 2),
+        2 => packets::failure(random, peers.last()),
         _ => packets::noise(random),
     };
     packets::damage(random, &mut packet);
-    reply_of(&last, &packet, seen);
+    reply_to(peers, &packet, seen);
 }
 
 /// The message alone: its packet is never damaged.
 fn message(random: &mut Random, seen: &mut Seen) {
-    let last = last(random);
-    let packet = packets::failure(random, last.id);
-    reply_of(&last, &packet, seen);
+    let peers = Peers::drawn(random);
+    let packet = packets::failure(random, peers.last());
+    reply_to(peers, &packet, seen);
 }
 
 fn name(random: &mut Random, seen: &mut Seen) {

@@ -1,67 +1,93 @@
 //! Whole series from opening to end: our peer against their box, their peer against our box.
 
-use crate::both::{our_reading, our_turn, plain, their_conversation, Boxes, Lent};
+use crate::both::{plain, their_conversation, Boxes, Lent, Peers};
 use crate::packets;
 use crate::random::Random;
 use crate::run::{run, Seen};
-use mschap::{sys, Conversation, Issued, Turn};
+use mschap::{sys, Conversation, Issued};
 use reference::authenticator::{self as their, Account};
 use reference::message::Call;
-use reference::peer::{self, Verdict};
+use reference::peer::Verdict;
 use reference::{hashes, packet};
 
-/// Both peers: each reads what the other implementation's box wrote.
-struct Peers {
-    ours: Turn,
-    theirs: peer::Turn,
+/// The Response of both peers.
+fn response(peers: &mut Peers, password: &[u8], name: &[u8], random: &mut Random) -> Vec<u8> {
+    let least = 54 + name.len();
+    if random.chance(20) {
+        // with too little room nothing is sent
+        let mut small = vec![0; random.below(least)];
+        assert_eq!(peers.write_response(password, name, &mut small), Err(9));
+    }
+    let size = least + random.below(20);
+    let mut out = random.octets(size);
+    let written = peers.write_response(password, name, &mut out);
+    out.truncate(written.expect("a Response"));
+    out
 }
 
-impl Peers {
-    fn agree(&self) {
-        assert_eq!(self.ours, our_turn(&self.theirs), "the turns");
-    }
+/// The change of both peers.
+fn change(peers: &mut Peers, old: &[u8], new: &[u8], random: &mut Random) -> Vec<u8> {
+    let filler: [u8; sys::FILLER_SIZE] = random.array();
+    let mut out = vec![0; sys::CHANGE_PACKET];
+    let written = peers.write_change(old, new, &filler, &mut out);
+    assert_eq!(written, Ok(sys::CHANGE_PACKET));
+    out
+}
 
-    /// The Response of both, compared.
-    fn response(&self, password: &[u8], name: &[u8], random: &mut Random) -> Vec<u8> {
-        let more = random.below(20);
-        let mut ours = random.octets(54 + name.len() + more);
-        let mut theirs = ours.clone();
-        let size = self.ours.write_response(password, name, &mut ours);
-        let written = peer::write_response(&self.theirs, password, name, &mut theirs);
-        assert_eq!((plain(size), 0), (Ok(written.written), written.refusal));
-        assert_eq!(ours, theirs, "the Response");
-        ours.truncate(written.written);
-        ours
-    }
-
-    /// The change of both, compared.
-    fn change(&self, old: &[u8], new: &[u8], random: &mut Random) -> Vec<u8> {
-        let filler: [u8; sys::FILLER_SIZE] = random.array();
-        let mut ours = vec![0; sys::CHANGE_PACKET];
-        let mut theirs = ours.clone();
-        let size = self.ours.write_change(old, new, &filler, &mut ours);
-        let written = peer::write_change(&self.theirs, old, new, &filler, &mut theirs);
-        assert_eq!((plain(size), 0), (Ok(written.written), written.refusal));
-        assert_eq!(ours, theirs, "the change");
-        ours
-    }
-
-    /// Reads the replies crosswise, and gives what they call for; none after Success.
-    fn read(&mut self, our_reply: &[u8], their_reply: &[u8]) -> Option<Call> {
-        let sent = self.ours.sent();
-        let theirs = peer::read_reply(self.theirs.id, our_reply);
-        let ours = plain(sent.read_reply(their_reply));
-        let expected = theirs.as_ref().map(our_reading).map_err(|number| *number);
-        assert_eq!(ours, expected, "the reading");
-        let next = plain(sent.next_turn(their_reply));
-        self.theirs = peer::next_turn(&self.theirs, &theirs);
-        assert_eq!(next, Ok(our_turn(&self.theirs)), "the next turn");
-        self.ours = our_turn(&self.theirs);
-        match theirs {
-            Ok(Verdict::Failure(fields)) => Some(fields.call()),
-            _ => None,
+/// Each peer reads what the other implementation's box wrote. Gives what it calls for; none after
+/// Success.
+fn read(peers: &mut Peers, our_reply: &[u8], their_reply: &[u8]) -> Option<Call> {
+    match peers.read_reply(their_reply, our_reply) {
+        Ok(Verdict::Failure(fields)) => Some(fields.call()),
+        verdict => {
+            assert_eq!(verdict, Ok(Verdict::Success));
+            None
         }
     }
+}
+
+/// Packets that reach the peers beside the reply that they wait for: one from before, or noise, or
+/// that reply with damage. Each is read before it and, where it is refused, behind it.
+fn strays(random: &mut Random, reply: &[u8], earlier: &[Vec<u8>]) -> Vec<Vec<u8>> {
+    let mut strays = Vec::new();
+    for _ in 0..random.pick(&[0, 0, 1, 2]) {
+        let mut stray = match (random.below(3), earlier) {
+            (0, [.., last]) => last.clone(),
+            (1, _) => packets::noise(random),
+            _ => reply.to_vec(),
+        };
+        if random.chance(50) {
+            packets::damage(random, &mut stray);
+        }
+        strays.push(stray);
+    }
+    strays
+}
+
+/// Both peers read the reply, with strays around it.
+fn read_among(
+    peers: &mut Peers,
+    replies: [&[u8]; 2],
+    strays: &[Vec<u8>],
+    seen: &mut Seen,
+) -> Option<Call> {
+    let [ours, theirs] = replies;
+    for stray in strays {
+        seen.note(match peers.read_reply(stray, stray) {
+            Ok(_) => "stray read".to_string(),
+            Err(number) => format!("stray refused {number}"),
+        });
+    }
+    let call = read(peers, ours, theirs);
+    for stray in strays {
+        let before = peers.clone();
+        match peers.read_reply(stray, stray) {
+            // it would give another turn: the series goes on as if it had not come
+            Ok(_) => *peers = before,
+            Err(_) => seen.note("stray refused behind the reply"),
+        }
+    }
+    call
 }
 
 /// Opens in both, with the same octets in both buffers, and a list with room for the one opening.
@@ -87,11 +113,8 @@ fn open(random: &mut Random) -> (Boxes, Peers) {
         "the Challenge and what lies behind it"
     );
     assert_eq!(their_conversation(&conversation), theirs.conversation);
-    let peers = Peers {
-        ours: plain(Turn::read_challenge(&their_reply[..written])).expect("a Challenge"),
-        theirs: peer::read_challenge(&our_reply[..written]).expect("a Challenge"),
-    };
-    peers.agree();
+    let peers = Peers::read_challenge(&their_reply[..written], &our_reply[..written]);
+    let peers = peers.expect("a Challenge");
     let boxes = Boxes {
         ours: conversation,
         theirs: theirs.conversation,
@@ -130,15 +153,17 @@ fn user(random: &mut Random) -> User {
     }
 }
 
-/// A Response by LM, which neither peer writes: by hand, from the hashes of both.
-fn lm_response(peers: &Peers, password: &[u8], name: &[u8], random: &mut Random) -> Vec<u8> {
+/// A Response by LM, which neither peer writes: by hand, from the hashes of both, and sent in place
+/// of one that they wrote.
+fn lm_response(peers: &mut Peers, password: &[u8], name: &[u8], random: &mut Random) -> Vec<u8> {
     let hash = hashes::lm_hash(password).expect("a password");
-    let challenge = peers.theirs.challenge;
+    let challenge = peers.turn().challenge;
+    response(peers, b"", name, random);
     let lm = hashes::challenge_response(&hash, &challenge);
     let ours = mschap::lm_hash(password).and_then(|h| mschap::challenge_response(&h, &challenge));
     assert_eq!(ours, Ok(lm));
     let flag = random.chance(30).into();
-    packet::response(peers.theirs.id, &lm, &random.array(), flag, name)
+    packet::response(peers.last(), &lm, &random.array(), flag, name)
 }
 
 /// A packet that the box is to refuse, as a rule; the boxes must agree even where it is judged.
@@ -173,27 +198,28 @@ fn series(random: &mut Random, seen: &mut Seen) {
     let wrong = random.pick(&[0, 30, 60, 100]);
     let new = packets::password(random);
     let mut earlier: Option<Vec<u8>> = None;
-    let mut change = false;
+    let mut changing = false;
+    let mut replies: Vec<Vec<u8>> = Vec::new();
     let mut judged = 0;
     let mut accepted = None;
     loop {
-        let mut packet = if change {
+        let mut packet = if changing {
             // at times from another old password, which is refused by 709
             let other = random.chance(10).then(|| packets::password(random));
             let old = other.as_ref().unwrap_or(&user.password);
-            peers.change(old, &new, random)
+            change(&mut peers, old, &new, random)
         } else if user.account.lm.is_some() && random.chance(50) {
             let mut password = user.lm_password.clone();
             if random.chance(wrong) {
                 password = random.octets(9);
             }
-            lm_response(&peers, &password, &name, random)
+            lm_response(&mut peers, &password, &name, random)
         } else {
             let mut password = user.password.clone();
             if random.chance(wrong) {
                 password = random.octets(10);
             }
-            peers.response(&password, &name, random)
+            response(&mut peers, &password, &name, random)
         };
         for _ in 0..random.pick(&[0, 0, 0, 1, 2]) {
             let noise = noise(random, &packet, earlier.as_ref());
@@ -218,13 +244,18 @@ fn series(random: &mut Random, seen: &mut Seen) {
         }
         judged += 1;
         seen.note(format!("judged {}", outcome.reason));
-        let written = outcome.written;
-        let call = peers.read(&our_reply[..written], &their_reply[..written]);
+        let (ours, theirs) = (
+            &our_reply[..outcome.written],
+            &their_reply[..outcome.written],
+        );
+        let strays = strays(random, ours, &replies);
+        let call = read_among(&mut peers, [ours, theirs], &strays, seen);
+        replies.push(ours.to_vec());
         accepted = outcome.changed;
         earlier = Some(packet);
         match call {
             Some(Call::Retry) => {}
-            Some(Call::Change2) => change = true,
+            Some(Call::Change2) => changing = true,
             _ => break,
         }
     }
@@ -241,13 +272,13 @@ fn series(random: &mut Random, seen: &mut Seen) {
 /// The record that was handed out lets the new password in at the first Response.
 fn later(random: &mut Random, account: &Account, password: &[u8]) {
     let (mut boxes, mut peers) = open(random);
-    let packet = peers.response(password, b"DOM\\User", random);
+    let packet = response(&mut peers, password, b"DOM\\User", random);
     let mut our_reply = random.octets(17);
     let mut their_reply = our_reply.clone();
     let outcome = boxes.step(&packet, Some(account), &mut our_reply, &mut their_reply);
     assert_eq!((outcome.refusal, outcome.reason), (0, 0));
     let written = outcome.written;
-    let call = peers.read(&our_reply[..written], &their_reply[..written]);
+    let call = read(&mut peers, &our_reply[..written], &their_reply[..written]);
     assert_eq!(call, None);
 }
 
@@ -258,6 +289,8 @@ fn series_agree() {
         seen.expect(&[&format!("judged {reason}")]);
     }
     seen.expect(&["password changed", "later conversation"]);
+    seen.expect(&["stray read", "stray refused 3", "stray refused 5"]);
+    seen.expect(&["stray refused 11", "stray refused behind the reply"]);
 }
 
 /// Openings over one list, with retries over the limit, buffers that are too small, challenges that
