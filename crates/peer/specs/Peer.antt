@@ -17,8 +17,8 @@ use Rattle.peer.specs.declared.Peer.{Peer}
 use Rattle.peer.specs.declared.PacketWritten.{PacketWritten}
 use Rattle.peer.specs.declared.ReplyRead.{ReplyRead}
 
--- A Challenge was read, and nothing is sent yet: for the last packet stand fixed values, and for
--- the turn too where the Challenge was refused (packets Reply `notAsked`).
+-- A Challenge was read, and nothing is sent yet: the last packet has fixed values. So has the turn,
+-- where the Challenge was refused (packets Reply `notAsked`).
 abbrev pub asked : Asked → Peer
 asked a = record { sent = record { id = 0; challenge = replicate 8 0 }; turn = firstTurn a }
 
