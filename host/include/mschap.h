@@ -245,8 +245,8 @@ size_t mschap_domain_length(const uint8_t *packet, size_t packet_size);
    the others change it. A packet that was written counts as sent: send exactly what was written, and
    to send it again send the same octets again. */
 
-/* Reads a Challenge, and writes the peer (18) that is to answer it by a Response with the
-   Challenge's identifier. Call it for every new Challenge. No reply is read before the first packet
+/* Reads a Challenge, and writes the peer (18) that is to answer it: its next packet is a Response
+   with the Challenge's identifier. Call it for each new Challenge, and read no reply before a packet
    was written.
    Returns 0; 3 for a bad frame; 11 for another kind of packet, one that is cut short, or a challenge
    of another size than 8; 100 unless peer has 18 octets. */
