@@ -9,10 +9,10 @@ use reference::peer::{self, Turn};
 use reference::rc4::rc4;
 use reference::script::{hex, Session};
 
-/// Fixed octets: the challenge, the password `MyPw` with its hash H and its response NR are those of
-/// RFC 2433 B.2; the others were computed by OpenSSL and by Nettle. Q is the new password `MyNewPw`
-/// with its hash HQ, L the LM hash of `MyPw`, ZR the response of a hash of octets 0, BAD that of the
-/// password `bad`; a name that ends in 23 is a response to the challenge after a retry.
+/// Fixed octets: the challenge, the password `MyPw` with its hash H and its response NR are those
+/// of RFC 2433 B.2; the others were computed by OpenSSL and by Nettle. Q is the new password
+/// `MyNewPw` with its hash HQ, L the LM hash of `MyPw`, ZR the response of a hash of octets 0, BAD
+/// that of the password `bad`; a name that ends in 23 is a response to the challenge after a retry.
 const CH: [u8; 8] = [0x10, 0x2D, 0xB5, 0xDF, 0x08, 0x5D, 0x30, 0x41];
 const CHX: &str = "102DB5DF085D3041";
 const CH23: &str = "272DB5DF085D3041";

@@ -54,7 +54,7 @@ fn published_values() {
         }
     }
     // RFC 1320 A.5 has 7 digests, RFC 6229 14 keys with 18 offsets each. DES: FIPS 81 has 3 blocks,
-    // a textbook one, NBS SP 500-20 each bit of the text, those ciphertexts as texts, each bit of the
-    // key, and 19 lines for the substitution tables.
+    // a textbook one, NBS SP 500-20 each bit of the text, those ciphertexts as texts, each bit of
+    // the key, and 19 lines for the substitution tables.
     assert_eq!(compared, [7, 14 * 18, 3 + 1 + 64 + 64 + 56 + 19]);
 }

@@ -1,5 +1,5 @@
-//! What a row of `docs/RULES.md` names is there: each definition, function, law, edit, test and file,
-//! and no two rows have the same words. The page says how its cells are to be read.
+//! What a row of `docs/RULES.md` names is there: each definition, function, law, edit, test and
+//! file, and no two rows have the same words. The page says how its cells are to be read.
 
 use std::collections::{BTreeMap, BTreeSet};
 use std::fs;
@@ -209,8 +209,8 @@ impl Tree {
         }
     }
 
-    /// The functions and types that a path names: `crate::item`, `Type::method`, `item`, with `*` for
-    /// any ending.
+    /// The functions and types that a path names: `crate::item`, `Type::method`, `item`, with `*`
+    /// for any ending.
     fn found(&self, front: &str, name: &str) -> Vec<&Item> {
         let fits = |item: &&Item| match name.strip_suffix('*') {
             Some(start) => item.name.starts_with(start),
@@ -297,7 +297,7 @@ impl<'a> Row<'a> {
                 match token {
                     Mark(',') => {}
                     Word(word) if self.tree.crates.contains(word) => {
-                        krate = word;
+                        (krate, front) = (word, "");
                         let mut letters = word.chars();
                         let first = letters.next().unwrap().to_uppercase();
                         file = first.chain(letters).collect();
