@@ -40,17 +40,18 @@ struct work {
     uint32_t wrong; /* not 0 once an answer was not the expected one */
 };
 
-/* The two packets to be judged, each with the conversation that awaits it. */
+/* A packet to be judged, with the conversation that awaits it. */
 struct judged {
     uint8_t conversation[MSCHAP_CONVERSATION_SIZE];
     uint8_t packet[MSCHAP_CHANGE_PACKET];
     size_t size;
     uint8_t record[MSCHAP_RECORD_SIZE];
+    uint8_t code; /* of the reply that is expected */
     uint8_t reply[MSCHAP_REPLY_SIZE];
     uint8_t handed[MSCHAP_RECORD_SIZE];
 };
 
-static struct judged response, change;
+static struct judged response, wrong_response, unknown, change;
 
 /* An opening, with the list that it is lent. */
 struct opening {
@@ -119,7 +120,7 @@ static void our_hash_and_answer(struct work *w, long calls)
 }
 
 /* A judged packet ends or changes its conversation, so each call starts from a copy. The identifier is the reply's plus 1: it is the one part of
-   the input that may follow the output while the verdict stays Success. */
+   the input that may follow the output while the verdict stays the same. */
 static void judge(struct judged *j, struct work *w, long calls)
 {
     uint8_t conversation[MSCHAP_CONVERSATION_SIZE];
@@ -128,13 +129,23 @@ static void judge(struct judged *j, struct work *w, long calls)
         conversation[2] = j->packet[1] = (uint8_t)(j->reply[1] + 1);
         w->wrong |= mschap_step(conversation, sizeof conversation, j->packet, j->size, j->record, sizeof j->record,
                                 j->reply, sizeof j->reply, j->handed, sizeof j->handed);
-        w->wrong |= j->reply[0] != 3;
+        w->wrong |= j->reply[0] != j->code;
     }
 }
 
 static void our_response(struct work *w, long calls)
 {
     judge(&response, w, calls);
+}
+
+static void our_wrong_response(struct work *w, long calls)
+{
+    judge(&wrong_response, w, calls);
+}
+
+static void our_unknown(struct work *w, long calls)
+{
+    judge(&unknown, w, calls);
 }
 
 static void our_change(struct work *w, long calls)
@@ -284,6 +295,8 @@ static struct line {
     {.what = "challenge response", .run = {our_answer, THEIRS(their_answer)}},
     {.what = "NT hash, challenge response", .run = {our_hash_and_answer, THEIRS(their_hash_and_answer)}},
     {.what = "judged Response", .run = {our_response, NULL}},
+    {.what = "judged Response, wrong", .run = {our_wrong_response, NULL}},
+    {.what = "judged Response, no record", .run = {our_unknown, NULL}},
     {.what = "judged change", .run = {our_change, NULL}},
     {.what = "opening, none used", .run = {open_empty, NULL}},
     {.what = "opening, 2,048 used", .run = {open_half, NULL}},
@@ -297,10 +310,10 @@ static struct line {
 #define ANSWER 3
 #define HASH_AND_ANSWER 4
 #define RESPONSE 5
-#define OPEN_EMPTY 7
-#define OPEN_NEARLY 9
-#define OPEN_ALIKE 11
-#define OPEN_FEW 12
+#define OPEN_EMPTY 9
+#define OPEN_NEARLY 11
+#define OPEN_ALIKE 13
+#define OPEN_FEW 14
 
 static void begin(struct work *w)
 {
@@ -351,7 +364,7 @@ static double median(double *ns)
     return ns[ROUNDS / 2];
 }
 
-/* A conversation up to each of the two packets, by the library's own peer. Returns 0 where both could be made. */
+/* A conversation up to each of the packets, by the library's own peer. Returns 0 where all could be made. */
 static uint32_t prepare(const struct work *w)
 {
     static const uint8_t password[PASSWORD] = {'c', 0, 'l', 0, 'i', 0, 'e', 0, 'n', 0, 't', 0, 'P', 0, 'a', 0, 's', 0, 's', 0};
@@ -371,6 +384,15 @@ static uint32_t prepare(const struct work *w)
     wrong |= mschap_write_response(peer, sizeof peer, password, sizeof password, name, sizeof name,
                                    response.packet, sizeof response.packet);
     response.size = 54 + sizeof name;
+    response.code = 3;
+
+    /* the same with a wrong NT response, and with no record */
+    wrong_response = response;
+    wrong_response.packet[29] ^= 1;
+    wrong_response.code = 4;
+    unknown = response;
+    memset(unknown.record, 0, sizeof unknown.record);
+    unknown.code = 4;
 
     /* the same Response where the password has expired: then a change is awaited */
     change = response;

@@ -1,7 +1,6 @@
-// Account records: the blank one, the one after a change, and whether a hash gives a response.
+// Account records: the blank one, and the one after a change.
 ghost use mathlib.Core.Path.{_≡_};
-ghost use Rattle.octets.specs.Parts.{agrees};
-ghost use Rattle.authenticator.specs.Account.{noHash, blank, noRecord, found, answers, renewed};
+ghost use Rattle.authenticator.specs.Account.{noHash, blank, noRecord, found, renewed};
 use crate::Account;
 use crate::Hash;
 use crate::Lookup;
@@ -39,24 +38,6 @@ pub fn no_record() -> Lookup
         found: false,
         account,
     }
-}
-
-pub fn is_same_response(a: [u8; 24], b: [u8; 24]) -> bool
-    ensures { λ r. ⌜ r ≡ agrees a b ⌝ }
-{
-    octets::agree(&a, &b)
-}
-
-// Whether the hash is there and the response is its response to the challenge.
-pub fn is_answer(hash: Hash, challenge: [u8; 8], response: [u8; 24]) -> bool
-    ensures { λ r. ⌜ r ≡ answers hash challenge response ⌝ }
-{
-    let present = hash.present;
-    let octets = hash.octets;
-    if present {
-        return is_same_response(response, credentials::challenge_response(octets, challenge));
-    }
-    false
 }
 
 // The record after an accepted change, handed out.

@@ -11,7 +11,6 @@ ghost use Rattle.authenticator.specs.Code.{hashFound, judgementOf};
 use crate::Conversation;
 use crate::Hash;
 use crate::Judgement;
-use crate::accounts::is_same_response;
 use crate::accounts::no_hash;
 use crate::accounts::no_record;
 use crate::accounts::renewed_record;
@@ -46,6 +45,12 @@ fn hash_in(unsealed: Unsealed) -> Hash
 }
 
 fn is_same_hash(a: [u8; 16], b: [u8; 16]) -> bool
+    ensures { λ r. ⌜ r ≡ agrees a b ⌝ }
+{
+    octets::agree(&a, &b)
+}
+
+fn is_same_response(a: [u8; 24], b: [u8; 24]) -> bool
     ensures { λ r. ⌜ r ≡ agrees a b ⌝ }
 {
     octets::agree(&a, &b)

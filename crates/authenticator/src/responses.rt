@@ -1,7 +1,6 @@
 // How a Response is judged.
 ghost use mathlib.Core.Path.{_≡_};
-ghost use mathlib.Core.Bool.{_&&_};
-ghost use lib.Dec.{eqb};
+ghost use mathlib.Core.Bool.{cond, _&&_};
 ghost use Rattle.packets.specs.Response.{responseIn};
 ghost use Rattle.authenticator.specs.Response.{valid, reasonOf, mayRetry, afterReason, responseDrawn};
 ghost use Rattle.authenticator.specs.Code.{judgementOf};
@@ -9,47 +8,51 @@ use crate::Account;
 use crate::Conversation;
 use crate::Judgement;
 use crate::Lookup;
-use crate::accounts::is_answer;
 use crate::accounts::no_record;
 
-// Flag 1 and an NT hash: the NT response counts, and a wrong one is not made good by the LM response.
-fn goes_by_nt(flag: u8, present: bool) -> bool
-    ensures { λ r. ⌜ r ≡ (eqb flag 1 && present) ⌝ }
+// A Response that is not valid takes the same work in whatever way it is not (a wrong response, no
+// record, no hash, LM off), so that the time does not tell an unknown account. Hash and response are
+// chosen without a branch, and one response is made and compared in every case.
+
+fn chosen_hash(a: bool, b: bool, both: [u8; 16], other: [u8; 16]) -> [u8; 16]
+    ensures { λ r. ⌜ r ≡ cond (a && b) both other ⌝ }
 {
-    if flag == 1 {
-        return present;
-    }
-    false
+    let mut hash = other;
+    octets::copy_if_both(a, b, &mut hash, &both);
+    hash
+}
+
+fn chosen_response(a: bool, b: bool, both: [u8; 24], other: [u8; 24]) -> [u8; 24]
+    ensures { λ r. ⌜ r ≡ cond (a && b) both other ⌝ }
+{
+    let mut response = other;
+    octets::copy_if_both(a, b, &mut response, &both);
+    response
 }
 
 impl Conversation {
-    fn is_valid(self, account: Account, fields: packets::Response) -> bool
-        ensures { λ r. ⌜ r ≡ valid self account fields ⌝ }
-    {
-        let challenge = self.challenge;
-        let terms = self.terms;
-        let nt = account.nt;
-        let lm = account.lm;
-        let by_nt = fields.nt;
-        let by_lm = fields.lm;
-        if goes_by_nt(fields.flag, nt.present) {
-            return is_answer(nt, challenge, by_nt);
-        }
-        if terms.lm {
-            return is_answer(lm, challenge, by_lm);
-        }
-        false
-    }
-
-    // There is a record, and the Response is valid for it.
+    // There is a record, and the Response is valid for it. With flag 1 and an NT hash the NT response
+    // counts, and a wrong one is not made good by the LM response.
     fn is_found_and_valid(self, lookup: Lookup, fields: packets::Response) -> bool
         ensures { λ r. ⌜ r ≡ (lookup .found && valid self (lookup .account) fields) ⌝ }
     {
+        let challenge = self.challenge;
+        let terms = self.terms;
+        let found = lookup.found;
         let account = lookup.account;
-        if lookup.found {
-            return self.is_valid(account, fields);
-        }
-        false
+        let nt = account.nt;
+        let lm = account.lm;
+        let nt_hash = nt.octets;
+        let lm_hash = lm.octets;
+        let nt_response = fields.nt;
+        let lm_response = fields.lm;
+        let flagged = fields.flag == 1;
+        let present = nt.present;
+        let hash = chosen_hash(flagged, present, nt_hash, lm_hash);
+        let response = chosen_response(flagged, present, nt_response, lm_response);
+        let expected = credentials::challenge_response(hash, challenge);
+        let counts = (flagged & present) | (terms.lm & lm.present);
+        octets::agree_if_both(found, counts, &response, &expected)
     }
 
     // The first reason that applies; 0 is Success.

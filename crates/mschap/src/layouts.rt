@@ -12,10 +12,11 @@ ghost use mathlib.Core.Path.{_≡_};
 ghost use Rattle.authenticator.specs.Conversation.{awaitedCode};
 ghost use Rattle.mschap.specs.Layout.{mark, isMark, hashRun, hashIn, accountRun, accountIn, recordRun, recordIn, phaseOf, conversationRun, conversationIn, isRecord, isConversation, peerRun, peerIn, isPeer};
 
+// No branch: a record's marks say whether there is an account, and the time is not to tell it.
 pub fn mark(b: bool) -> u8
     ensures { λ r. ⌜ r ≡ mark b ⌝ }
 {
-    if b { 1 } else { 0 }
+    b as u8
 }
 
 fn is_mark(n: u8) -> bool

@@ -1,5 +1,6 @@
 // Lists of octets: parts, copies, agreement, numbers of two, four and eight octets, digits. Every function is total.
 ghost use mathlib.Core.Path.{_≡_};
+ghost use mathlib.Core.Bool.{cond, _&&_};
 ghost use mathlib.Core.List.{[], _∷_};
 ghost use Prim.Native.Nat.{_%_, _<_, min};
 ghost use Rattle.octets.specs.Parts.{part, over, overAt, fixed, agrees};
@@ -70,20 +71,61 @@ pub fn copy_at(target: &mut [u8], at: usize, source: &[u8])
     copy(&mut target[a..], source);
 }
 
-// Whether a and b are the same octets. Every octet is looked at, wherever they differ, so that the time tells nothing of the place.
-pub fn agree(a: &[u8], b: &[u8]) -> bool
-    ensures { λ r. ⌜ r ≡ agrees (now (a .entry)) (now (b .entry)) ⌝ }
+// ---- without a branch, so that the time does not tell what holds
+
+// x where both conditions hold, else y. The place in a row of three decides: of a conditional, or of
+// a product with one condition, the compiler makes a branch again.
+fn where_both(a: bool, b: bool, x: u8, y: u8) -> u8
+    ensures { λ r. ⌜ r ≡ cond (a && b) x y ⌝ }
 {
-    if a.len() != b.len() {
+    let row = [y, y, x];
+    row[a as usize + b as usize]
+}
+
+// x under a mask of 255, y under a mask of 0.
+fn masked(mask: u8, x: u8, y: u8) -> u8
+    ensures { λ r. ⌜ (mask ≡ 255 → r ≡ x) × (mask ≡ 0 → r ≡ y) ⌝ }
+{
+    y ^ (mask & (x ^ y))
+}
+
+// Copies where both conditions hold, and leaves target as it is where not: in either case the same
+// octets are read and written.
+pub fn copy_if_both(a: bool, b: bool, target: &mut [u8], source: &[u8])
+    ensures { λ _. ⌜ now (target .exit)
+        ≡ cond (a && b) (over (now (source .entry)) (now (target .entry))) (now (target .entry)) ⌝ }
+{
+    let n = least(target.len(), source.len());
+    let mask = where_both(a, b, 255, 0);
+    let mut i = 0;
+    while i < n {
+        target[i] = masked(mask, source[i], target[i]);
+        i += 1;
+    }
+}
+
+// Whether both conditions hold and x and y are the same octets. Every octet is looked at, wherever
+// they differ, and a condition that does not hold counts as a difference.
+pub fn agree_if_both(a: bool, b: bool, x: &[u8], y: &[u8]) -> bool
+    ensures { λ r. ⌜ r ≡ ((a && b) && agrees (now (x .entry)) (now (y .entry))) ⌝ }
+{
+    if x.len() != y.len() {
         return false;
     }
-    let mut differences: u8 = 0;
+    let mut differences = where_both(a, b, 0, 255);
     let mut i = 0;
-    while i < a.len() {
-        differences = differences | (a[i] ^ b[i]);
+    while i < x.len() {
+        differences = differences | (x[i] ^ y[i]);
         i += 1;
     }
     differences == 0
+}
+
+// Whether a and b are the same octets. The time tells nothing of where they differ.
+pub fn agree(a: &[u8], b: &[u8]) -> bool
+    ensures { λ r. ⌜ r ≡ agrees (now (a .entry)) (now (b .entry)) ⌝ }
+{
+    agree_if_both(true, true, a, b)
 }
 
 // ---- numbers

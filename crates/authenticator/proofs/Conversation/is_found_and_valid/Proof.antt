@@ -1,14 +1,58 @@
--- `authenticator::Conversation::is_found_and_valid` meets its contract.
+-- `authenticator::Conversation::is_found_and_valid` meets its contract: one hash and one response
+-- are chosen first, and what the definition asks of either is asked of the chosen ones.
 -- Assumes nothing.
 use borrow.Author.Needs.{needs}
+use mathlib.Core.Path.{_≡_, ap, ap₂, _∙_}
+use mathlib.Core.Bool.{Bool, true, false, cond, _&&_, _||_, and-true, and-assoc}
+use mathlib.Core.List.{List}
+use Prim.Native.Nat.{ℕ}
+use lib.Dec.{eqb}
+use Rattle.octets.specs.Parts.{agrees}
+use Rattle.credentials.specs.Credentials.{responseOf}
+use Rattle.authenticator.specs.Account.{answers}
+use Rattle.authenticator.specs.Response.{valid}
 use Rattle.authenticator.proofs.Conversation.is_found_and_valid.Statement.{statement}
 use Rattle.authenticator.proofs.Conversation.is_found_and_valid.Tie as tie
 
-returns : tie.Need-returns
-returns c = simp (c .before .if1 .taken) (c .is-valid .ensures)
+by-lm : (found lm q t : Bool) → ((found && (lm && q)) && t) ≡ (found && (lm && (q && t)))
+by-lm found lm q t =
+    and-assoc found (lm && q) t ∙ ap (λ (x : Bool). found && x) (and-assoc lm q t)
 
-returns-2 : tie.Need-returns-2
-returns-2 c = simp (c .if1 .left)
+-- p and q say that there is an NT hash and an LM hash; of is what is asked of the NT response
+-- (true) or of the LM response (false)
+chosen-first : (flagged p found lm q : Bool) (of : Bool → Bool)
+    → ((found && ((flagged && p) || (lm && q))) && of (flagged && p))
+    ≡ (found && cond (flagged && p) (p && of true) (lm && (q && of false)))
+chosen-first true true found lm q of = ap (λ (x : Bool). x && of true) (and-true found)
+chosen-first true false found lm q of = by-lm found lm q (of false)
+chosen-first false p found lm q of = by-lm found lm q (of false)
+
+returns : tie.Need-returns
+unfolding valid answers
+returns c =
+    let e = c .before .before .before .before .before in
+    let g = e .before .before in
+    let s = g .before .before .before .before .before .before .before in
+    let a = s .before .before .before .before .args in
+    let challenge = a .self .challenge in
+    let flagged = eqb (a .fields .flag) 1 in
+    let nt = a .lookup .account .nt in
+    let lm = a .lookup .account .lm in
+    let allowed = a .self .terms .lm in
+    let found = a .lookup .found in
+    let counts = (flagged && nt .present) || (allowed && lm .present) in
+    let answer : Bool → List ℕ = λ b. cond b (a .fields .nt) (a .fields .lm) in
+    let hash : Bool → List ℕ = λ b. cond b (nt .octets) (lm .octets) in
+    let of : Bool → Bool = λ b. agrees (answer b) (responseOf (hash b) challenge) in
+    c .agree-if-both .ensures
+    ∙ ap₂ (λ (x y : List ℕ). (found && counts) && agrees x y) (e .before .chosen-response .ensures)
+    (e .challenge-response .ensures
+    ∙ ap (λ (x : List ℕ). responseOf x challenge) (g .chosen-hash .ensures))
+    ∙ chosen-first flagged (nt .present) found allowed (lm .present) of
 
 pub is-found-and-valid-spec : {M : Type 1} → statement M
-is-found-and-valid-spec = tie.close (tie.spec (λ c κs. search needs) returns returns-2)
+is-found-and-valid-spec =
+    tie.close
+    (tie.spec
+    (λ c κs. search needs) (λ c κs. search needs) (λ c κs. search needs) (λ c. search needs)
+    (λ c. search needs) (λ c κs. search needs) returns)

@@ -1,0 +1,196 @@
+/*
+ * Calls mschap_step once for each way in which a Response is not valid, at the first, the second
+ * and the last try, and prints a line for each call: R of the reply, and the way. The time is not
+ * to tell which way it was, so tests/timing.sh counts the instructions of each call. Exit status 1
+ * where a call does not draw its reply.
+ */
+#include <mschap.h>
+#include <stdio.h>
+#include <string.h>
+
+#define PACKET 62 /* 54 octets and the name */
+#define FLAG 53
+#define LM_RESPONSE 5
+#define NT_RESPONSE 29
+
+/* record, from the header's layout */
+#define FOUND 0
+#define NT 1
+#define LM 18
+#define MARKS 35
+
+/* conversation */
+#define LM_ALLOWED 1
+#define RETRIES 3
+#define CHALLENGE 4
+
+/* Every call works on these same octets, so that no call differs from another by alignment. */
+static uint8_t conversation[MSCHAP_CONVERSATION_SIZE];
+static uint8_t record[MSCHAP_RECORD_SIZE];
+static uint8_t packet[PACKET];
+static uint8_t reply[MSCHAP_REPLY_SIZE];
+static uint8_t handed[MSCHAP_RECORD_SIZE];
+
+/* A user with both hashes, and the right responses of each. */
+static const uint8_t challenge[MSCHAP_CHALLENGE_SIZE] =
+    {0x10, 0x2d, 0xb5, 0xdf, 0x08, 0x5d, 0x30, 0x41};
+static uint8_t nt_hash[MSCHAP_HASH_SIZE], lm_hash[MSCHAP_HASH_SIZE];
+static uint8_t nt_right[MSCHAP_RESPONSE_SIZE], lm_right[MSCHAP_RESPONSE_SIZE];
+
+static uint8_t retries;
+static int failed;
+
+static const uint8_t success[] = {3, 7, 0, 4};
+static const uint8_t again[] = "\4\7\0\21E=691 R=1 V=2";
+static const uint8_t no_more[] = "\4\7\0\21E=691 R=0 V=2";
+
+/* A record that was found, with both hashes; a packet with both responses right, which is judged
+   by the NT one; LM is allowed. Each way changes a part of this. */
+static void rightful(void)
+{
+    static const uint8_t head[] = {2, 7, 0, PACKET, 49};
+    static const uint8_t name[] = {'D', 'O', 'M', '\\', 'U', 's', 'e', 'r'};
+    memset(conversation, 0, sizeof conversation);
+    conversation[0] = 2; /* a Response is awaited */
+    conversation[LM_ALLOWED] = 1;
+    conversation[2] = 7;
+    conversation[RETRIES] = retries;
+    memcpy(conversation + CHALLENGE, challenge, sizeof challenge);
+    memset(record, 0, sizeof record);
+    record[FOUND] = record[NT] = record[LM] = 1;
+    memcpy(record + NT + 1, nt_hash, sizeof nt_hash);
+    memcpy(record + LM + 1, lm_hash, sizeof lm_hash);
+    memcpy(packet, head, sizeof head);
+    memcpy(packet + LM_RESPONSE, lm_right, sizeof lm_right);
+    memcpy(packet + NT_RESPONSE, nt_right, sizeof nt_right);
+    packet[FLAG] = 1;
+    memcpy(packet + 54, name, sizeof name);
+    memset(reply, 0, sizeof reply);
+    memset(handed, 0, sizeof handed);
+}
+
+static void judged(const char *way, const char *group, const uint8_t *expected, size_t size)
+{
+    uint32_t number = mschap_step(conversation, sizeof conversation, packet, sizeof packet,
+                                  record, sizeof record, reply, sizeof reply,
+                                  handed, sizeof handed);
+    if (number != MSCHAP_OK || memcmp(reply, expected, size) != 0) {
+        fprintf(stderr, "timing: %s: another reply than %s\n", way, group);
+        failed = 1;
+    }
+    printf("%s %s\n", group, way);
+    rightful();
+}
+
+static void valid(const char *way)
+{
+    judged(way, "Success", success, sizeof success);
+}
+
+static void invalid(const char *way)
+{
+    if (retries > 0)
+        judged(way, "R=1", again, MSCHAP_REPLY_SIZE);
+    else
+        judged(way, "R=0", no_more, MSCHAP_REPLY_SIZE);
+}
+
+/* Without a hash, the octets that stand beside the mark stay: they are to have no effect. */
+static void without(size_t hash)
+{
+    record[hash] = 0;
+}
+
+static void all_ways(void)
+{
+    rightful();
+    valid("the NT response right");
+    packet[FLAG] = 0;
+    valid("the LM response right, flag 0");
+    without(NT);
+    valid("the LM response right, flag 1 and no NT hash");
+
+    packet[NT_RESPONSE] ^= 1;
+    invalid("a wrong NT response, in its first octet");
+    packet[NT_RESPONSE + 23] ^= 0x80;
+    invalid("a wrong NT response, in its last octet");
+    memset(packet + NT_RESPONSE, 0, MSCHAP_RESPONSE_SIZE);
+    invalid("a wrong NT response, octets 0");
+    packet[NT_RESPONSE] ^= 1;
+    without(LM);
+    invalid("a wrong NT response, no LM hash");
+    packet[NT_RESPONSE] ^= 1;
+    conversation[LM_ALLOWED] = 0;
+    invalid("a wrong NT response, LM off");
+    packet[NT_RESPONSE] ^= 1;
+    memset(record + MARKS, 1, 4);
+    invalid("a wrong NT response, every mark set");
+    packet[FLAG] = 0;
+    packet[LM_RESPONSE] ^= 1;
+    invalid("a wrong LM response, flag 0");
+    without(NT);
+    packet[LM_RESPONSE] ^= 1;
+    invalid("a wrong LM response, flag 1 and no NT hash");
+
+    memset(record, 0, sizeof record);
+    invalid("no record, octets 0");
+    memset(record, 0, sizeof record);
+    packet[FLAG] = 0;
+    invalid("no record, octets 0, flag 0");
+    record[FOUND] = 0;
+    invalid("no record, an account's octets, NT response right for them");
+    record[FOUND] = 0;
+    packet[FLAG] = 0;
+    invalid("no record, an account's octets, LM response right for them");
+    record[FOUND] = 0;
+    memset(record + MARKS, 1, 4);
+    conversation[LM_ALLOWED] = 0;
+    invalid("no record, an account's octets, every mark set, LM off");
+
+    memset(record + NT, 0, MSCHAP_ACCOUNT_SIZE);
+    invalid("no hash, octets 0, flag 1");
+    memset(record + NT, 0, MSCHAP_ACCOUNT_SIZE);
+    packet[FLAG] = 0;
+    invalid("no hash, octets 0, flag 0");
+    without(NT);
+    without(LM);
+    invalid("no hash, a hash's octets beside the mark, flag 1");
+    without(NT);
+    without(LM);
+    packet[FLAG] = 0;
+    invalid("no hash, a hash's octets beside the mark, flag 0");
+    without(LM);
+    packet[FLAG] = 0;
+    invalid("no LM hash, flag 0");
+
+    conversation[LM_ALLOWED] = 0;
+    packet[FLAG] = 0;
+    invalid("LM off, flag 0");
+    conversation[LM_ALLOWED] = 0;
+    packet[FLAG] = 0;
+    without(LM);
+    invalid("LM off, flag 0, no LM hash");
+    conversation[LM_ALLOWED] = 0;
+    without(NT);
+    invalid("LM off, flag 1 and no NT hash");
+}
+
+int main(void)
+{
+    static const uint8_t nt_password[] = {'M', 0, 'y', 0, 'P', 0, 'w', 0};
+    static const uint8_t lm_password[] = {'M', 'y', 'P', 'w'};
+    static const uint8_t tries[] = {2, 1, 0}; /* retries left: the first try to the last */
+    size_t i;
+
+    failed |= mschap_nt_hash(nt_password, sizeof nt_password, nt_hash, sizeof nt_hash) != MSCHAP_OK;
+    failed |= mschap_lm_hash(lm_password, sizeof lm_password, lm_hash, sizeof lm_hash) != MSCHAP_OK;
+    failed |= mschap_challenge_response(nt_hash, sizeof nt_hash, challenge, sizeof challenge,
+                                        nt_right, sizeof nt_right) != MSCHAP_OK;
+    failed |= mschap_challenge_response(lm_hash, sizeof lm_hash, challenge, sizeof challenge,
+                                        lm_right, sizeof lm_right) != MSCHAP_OK;
+    for (i = 0; i < sizeof tries; i++) {
+        retries = tries[i];
+        all_ways();
+    }
+    return failed;
+}

@@ -1,0 +1,44 @@
+#!/bin/sh
+# A Response that is not valid takes the same instructions in whatever way it is not: a wrong
+# response, no record, no hash, LM off. host/timing.c makes one call for each way, and callgrind
+# counts the instructions within mschap_step. Calls with the same reply are compared.
+# Run in the repository. Argument: the archive, if not the one that `rt staticlib mschap` writes.
+set -eu
+archive=${1:-target/staticlib/libmschap.a}
+program=target/host-timing
+${CC:-cc} -Wall -Wextra -Werror -std=c99 -pedantic -I host/include host/timing.c "$archive" \
+    -o "$program"
+if ! command -v valgrind > /dev/null; then
+    "$program" > /dev/null
+    echo 'timing: skipped, as valgrind is not installed: no instructions were counted'
+    exit 0
+fi
+
+# A part of callgrind's output for each call, in order. The names of the C library are bound before,
+# since binding one at its first use would be counted.
+parts=$(mktemp -d)
+trap 'rm -rf "$parts"' EXIT
+LD_BIND_NOW=1 valgrind --quiet --tool=callgrind --callgrind-out-file="$parts/part" \
+    --toggle-collect=mschap_step --dump-after=mschap_step "$program" > "$parts/ways"
+call=0
+while read -r reply way; do
+    call=$((call + 1))
+    echo "$reply $(sed -n 's/^summary: //p' "$parts/part.$call") $way"
+done < "$parts/ways" > "$parts/counts"
+
+awk '
+    $2 !~ /^[1-9][0-9]*$/ { bad = 1 }
+    !($1 in count) { count[$1] = $2; group[++groups] = $1 }
+    $2 != count[$1] { bad = 1 }
+    { calls[$1]++; line[NR] = $0 }
+    END {
+        if (!("R=1" in count) || !("R=0" in count)) bad = 1
+        for (i = 1; bad && i <= NR; i++) print "timing: " line[i]
+        if (bad) print "timing: the instructions differ between calls with the same reply"
+        for (i = 1; !bad && i <= groups; i++) {
+            reply = group[i]
+            print "timing: " reply ": " calls[reply] " calls, " count[reply] " instructions each"
+        }
+        exit bad
+    }
+' "$parts/counts"
