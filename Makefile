@@ -26,10 +26,12 @@ showfail:
 	rt check showfail
 	sh tests/showfail.sh target/bin/showfail
 
-# The archive for C: the example, bad lengths, what its time tells, and through the Rust wrapper the comparison with the independent program.
+# The archive for C: the example, bad lengths, the stack of each function, what the time of a step
+# tells, and through the Rust wrapper the comparison with the independent program.
 host:
 	rt staticlib mschap
 	sh tests/host.sh
+	sh tests/stack.sh
 	sh tests/timing.sh
 	cargo test --quiet --release --offline --manifest-path host/rust/Cargo.toml
 

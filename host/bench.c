@@ -2,14 +2,13 @@
  * How long the library takes, next to OpenSSL's libcrypto where its headers are installed (HAVE_OPENSSL): medians of interleaved batches.
  * Exit status 1 where the two do not give the same octets, or a call is not answered as it should be. tests/bench.sh compiles and runs it.
  */
-#define _XOPEN_SOURCE 700 /* clock_gettime and ucontext, which C11 alone hides */
+#define _XOPEN_SOURCE 700 /* clock_gettime, which C11 alone hides */
 
 #include <mschap.h>
 #include <stdio.h>
 #include <stdlib.h>
 #include <string.h>
 #include <time.h>
-#include <ucontext.h>
 
 #ifdef HAVE_OPENSSL
 #include <openssl/crypto.h>
@@ -29,7 +28,7 @@
 #define HALF (MSCHAP_LIST_PLACES / 2)
 #define NEARLY (MSCHAP_LIST_PLACES - SPENT) /* used places that leave room for one opening */
 #define FEW 8
-#define STACK 1048576
+#define MESSAGE 256 /* octets, the longest that is read */
 
 /* What a batch works on. Every call takes its input from the output of the call before: so none can be dropped, no two can overlap, and one
    wrong octet shows in all that follows. */
@@ -198,6 +197,22 @@ static void open_few(struct work *w, long calls)
     open_again(&few, w, calls);
 }
 
+/* A Failure with the message of our authenticator and, up to the most that is read, other words. Its
+   identifier follows from the field E that was read before. */
+static void read_failure(struct work *w, long calls)
+{
+    static uint8_t packet[4 + MESSAGE] = {4, 7, (4 + MESSAGE) >> 8, (4 + MESSAGE) & 255};
+    uint8_t fields[MSCHAP_FIELDS_SIZE];
+    for (size_t i = 0; i < MESSAGE; i++)
+        packet[4 + i] = (uint8_t)"words "[i % 6];
+    memcpy(packet + 4, "E=691 R=1 V=2 ", 14);
+    while (calls-- > 0) {
+        w->wrong |= mschap_read_reply(packet[1], packet, sizeof packet, fields, sizeof fields);
+        w->wrong |= fields[8] != 691 >> 8;
+        packet[1] = (uint8_t)(packet[1] + fields[9]);
+    }
+}
+
 /* ---- OpenSSL's */
 
 #ifdef HAVE_OPENSSL
@@ -304,6 +319,7 @@ static struct line {
     {.what = "opening, full: refused", .run = {open_full, NULL}},
     {.what = "opening, 4,093, all end alike", .run = {open_alike, NULL}},
     {.what = "opening, none of 8 used", .run = {open_few, NULL}},
+    {.what = "message of 256 octets, read", .run = {read_failure, NULL}},
 };
 
 #define LINES (sizeof lines / sizeof lines[0])
@@ -423,112 +439,11 @@ static void fill(struct opening *o, const struct work *w, size_t places, size_t 
     o->answer = answer;
 }
 
-/* ---- the stack of a call: it is made on a stack of its own, which was painted; what is no longer paint was touched */
-
-typedef uint32_t step(uint8_t *, size_t, const uint8_t *, size_t, const uint8_t *, size_t, uint8_t *, size_t, uint8_t *, size_t);
-typedef uint32_t opener(uint8_t, const uint8_t *, size_t, uint8_t, uint8_t, uint8_t *, size_t, size_t *, uint16_t *, size_t, uint8_t *, size_t,
-                        uint8_t *, size_t);
-
-static uint8_t stack[STACK];
-static ucontext_t here, there;
-static step *volatile stepped;
-static struct judged stepped_on;
-static opener *volatile opened;
-static struct opening opened_on;
-static uint32_t answered;
-
-/* These two take what the calls take and use no stack: what they leave touched is the caller's share. */
-static uint32_t no_step(uint8_t *a, size_t b, const uint8_t *c, size_t d, const uint8_t *e, size_t f, uint8_t *g, size_t h, uint8_t *i, size_t j)
-{
-    (void)a, (void)b, (void)c, (void)d, (void)e, (void)f, (void)g, (void)h, (void)i, (void)j;
-    return 0;
-}
-
-static uint32_t no_open(uint8_t a, const uint8_t *b, size_t c, uint8_t d, uint8_t e, uint8_t *f, size_t g, size_t *h, uint16_t *i, size_t j,
-                        uint8_t *k, size_t l, uint8_t *m, size_t n)
-{
-    (void)a, (void)b, (void)c, (void)d, (void)e, (void)f, (void)g, (void)h, (void)i, (void)j, (void)k, (void)l, (void)m, (void)n;
-    return 0;
-}
-
-static void step_there(void)
-{
-    struct judged *j = &stepped_on;
-    answered = stepped(j->conversation, sizeof j->conversation, j->packet, j->size, j->record, sizeof j->record, j->reply, sizeof j->reply,
-                       j->handed, sizeof j->handed);
-}
-
-static void open_there(void)
-{
-    struct opening *o = &opened_on;
-    answered = opened(7, o->challenge, sizeof o->challenge, RETRIES, 1, o->list, o->places * MSCHAP_CHALLENGE_SIZE, &o->used, o->counts,
-                      MSCHAP_COUNTS_SIZE, o->conversation, sizeof o->conversation, o->reply, sizeof o->reply);
-}
-
-/* Apart from the counting, since getcontext may return twice and a local might then be lost. */
-static void visit(void (*call)(void))
-{
-    getcontext(&there);
-    there.uc_stack.ss_sp = stack;
-    there.uc_stack.ss_size = sizeof stack;
-    there.uc_link = &here;
-    makecontext(&there, call, 0);
-    swapcontext(&here, &there);
-}
-
-/* What a call touches that works on a copy of these octets. */
-static size_t touched(void (*call)(void), void *copy, const void *octets, size_t size)
-{
-    /* two paints, since a call may happen to write one of them */
-    static const uint8_t paints[] = {0x5a, 0xa5};
-    size_t most = 0;
-    for (int p = 0; p < 2; p++) {
-        size_t clean = 0;
-        memset(stack, paints[p], sizeof stack);
-        memcpy(copy, octets, size);
-        visit(call);
-        while (clean < sizeof stack && stack[clean] == paints[p])
-            clean++;
-        if (sizeof stack - clean > most)
-            most = sizeof stack - clean;
-    }
-    return most;
-}
-
-/* What the step touches below its return address; 0 where its verdict was not Success, for then less may have been run. */
-static size_t stack_of(struct judged *j)
-{
-    size_t with, without;
-    j->packet[1] = j->conversation[2];
-    j->reply[0] = 0;
-    stepped = mschap_step;
-    with = touched(step_there, &stepped_on, j, sizeof *j);
-    if (answered != MSCHAP_OK || stepped_on.reply[0] != 3)
-        return 0;
-    stepped = no_step;
-    without = touched(step_there, &stepped_on, j, sizeof *j);
-    return with - without;
-}
-
-/* The same for an opening; 0 where it was not accepted. */
-static size_t stack_of_opening(const struct opening *o)
-{
-    size_t with, without;
-    opened = mschap_open;
-    with = touched(open_there, &opened_on, o, sizeof *o);
-    if (answered != MSCHAP_OK || opened_on.used != o->used + SPENT)
-        return 0;
-    opened = no_open;
-    without = touched(open_there, &opened_on, o, sizeof *o);
-    return with - without;
-}
-
 int main(void)
 {
     static struct work ours, theirs;
     struct work *works[2] = {&ours, &theirs};
     double ns[LINES][2];
-    size_t of_change, of_response, of_opening;
     uint32_t x = 1320;
 
     begin(&ours);
@@ -582,14 +497,6 @@ int main(void)
         return 1;
     }
 
-    of_change = stack_of(&change);
-    of_response = stack_of(&response);
-    of_opening = stack_of_opening(&nearly);
-    if (!of_change || !of_response || !of_opening) {
-        printf("not judged a Success, or not opened, on a stack of its own\n");
-        return 1;
-    }
-
 #ifdef HAVE_OPENSSL
     printf("OpenSSL: %s; the same octets as ours\n", OpenSSL_version(OPENSSL_VERSION));
 #else
@@ -614,6 +521,5 @@ int main(void)
            (ns[OPEN_NEARLY][OURS] - ns[OPEN_EMPTY][OURS]) / NEARLY, (ns[OPEN_ALIKE][OURS] - ns[OPEN_EMPTY][OURS]) / NEARLY);
     /* Unused places are not looked at, so their number must not matter. */
     printf("opening, none of 4,096 used / none of 8 used: %.2f\n", ns[OPEN_EMPTY][OURS] / ns[OPEN_FEW][OURS]);
-    printf("stack of a step: %zu octets for a change, %zu for a Response; of an opening: %zu octets\n", of_change, of_response, of_opening);
     return 0;
 }

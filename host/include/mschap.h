@@ -26,6 +26,13 @@
  *   or a peer may be stored and continued later. Do not continue a conversation from two copies:
  *   each would take an answer to the same challenge. Secrets that pass through are left on the
  *   stack; the library does not wipe them.
+ *
+ * STACK
+ *   Provide MSCHAP_STACK_SIZE octets of stack for any call, whatever its input is. That is at least
+ *   4 KiB more than any function takes: a test measures each on its worst inputs, and
+ *   docs/PERFORMANCE.md has a row for each. The rest is for others: where memcpy and memset are bound
+ *   at their first call, the loader runs there and takes about 3 KiB (none where the program is linked
+ *   with -z now), and a signal's handler may run there.
  */
 #ifndef MSCHAP_H
 #define MSCHAP_H
@@ -77,6 +84,10 @@ extern "C" {
 #define MSCHAP_REPLY_SIZE 17          /* the longest packet of the authenticator */
 #define MSCHAP_RESPONSE_PACKET 310    /* the longest Response */
 #define MSCHAP_CHANGE_PACKET 1118     /* every change */
+
+/* ---- the size of the stack to provide, in octets (see STACK) */
+
+#define MSCHAP_STACK_SIZE 12288
 
 /*
  * ---- layouts
