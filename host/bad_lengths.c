@@ -52,7 +52,7 @@ static const uint8_t opened[51] = {2, 1, 7, 2}; /* a conversation that awaits a 
 static const uint8_t response[63] = {2, 7, 0, 62, 49, [53] = 1, 'D', 'O', 'M', '\\', 'U', 's', 'e', 'r'};
 static const uint8_t challenge[14] = {1, 7, 0, 13, 8};
 static const uint8_t success[5] = {3, 7, 0, 4};
-static const uint8_t peer[19] = {7, [9] = 8}; /* it sent a packet with identifier 7 */
+static const uint8_t peer[20] = {1, 7, [10] = 8}; /* it sent a packet with identifier 7 */
 #define FILL 0xa5 /* what is in a run that is only written */
 
 /* the answers for a run of a fixed size */
@@ -92,11 +92,11 @@ static const struct function {
     {"account_length", account_length, 4, 0, {{response, 62, 0, 0, 4}}},
     {"domain_offset", domain_offset, 54, 0, {{response, 62, 0, 0, 54}}},
     {"domain_length", domain_length, 3, 0, {{response, 62, 0, 0, 3}}},
-    {"read_challenge", read_challenge, 0, 100, {{challenge, 13, 3, 3, 0}, {NULL, 18, FIXED}}},
-    {"read_reply", read_reply, 0, 100, {{peer, 18, FIXED}, {success, 4, 3, 3, 0}, {NULL, 35, FIXED}}},
+    {"read_challenge", read_challenge, 0, 100, {{challenge, 13, 3, 3, 0}, {NULL, 19, FIXED}}},
+    {"read_reply", read_reply, 0, 100, {{peer, 19, FIXED}, {success, 4, 3, 3, 0}, {NULL, 35, FIXED}}},
     /* a name of one octet more has too little room */
-    {"write_response", write_response, 0, 100, {{peer, 18, FIXED}, {zeros, 2, 0, 8, 8}, {zeros, 8, 10, 0, 9}, {NULL, 62, 9, 9, 0}}},
-    {"write_change", write_change, 0, 100, {{peer, 18, FIXED}, {zeros, 2, 0, 8, 8}, {zeros, 2, 0, 8, 8}, {zeros, 512, 12, 12, 12}, {NULL, 1118, 9, 9, 0}}},
+    {"write_response", write_response, 0, 100, {{peer, 19, FIXED}, {zeros, 2, 0, 8, 8}, {zeros, 8, 10, 0, 9}, {NULL, 62, 9, 9, 0}}},
+    {"write_change", write_change, 0, 100, {{peer, 19, FIXED}, {zeros, 2, 0, 8, 8}, {zeros, 2, 0, 8, 8}, {zeros, 512, 12, 12, 12}, {NULL, 1118, 9, 9, 0}}},
 };
 
 /* the digest or hash of no octets */

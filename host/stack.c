@@ -99,10 +99,9 @@ CALL(mschap_account_offset, RUN(0))
 CALL(mschap_account_length, RUN(0))
 CALL(mschap_domain_offset, RUN(0))
 CALL(mschap_domain_length, RUN(0))
-/* the peer's: a packet that is read is run 0, and what was sent or is to be sent is run 4 */
-CALL(mschap_read_challenge, RUN(0), RUN(1))
-CALL(mschap_read_reply, 7, RUN(0), RUN(1))
-CALL(mschap_next_turn, RUN(4), RUN(0), RUN(2))
+/* the peer's: a packet that is read is run 0, and the peer is run 4 */
+CALL(mschap_read_challenge, RUN(0), RUN(4))
+CALL(mschap_read_reply, RUN(4), RUN(0), RUN(1))
 CALL(mschap_write_response, RUN(4), RUN(0), RUN(1), RUN(2))
 CALL(mschap_write_change, RUN(4), RUN(0), RUN(1), RUN(3), RUN(2))
 
@@ -438,6 +437,14 @@ static void try_names(void)
 
 /* ---- the peer */
 
+/* It sent a packet with the identifier 7. */
+static void lend_peer(void)
+{
+    uint8_t *peer = lend_drawn(4, MSCHAP_PEER_SIZE);
+    peer[0] = 1;
+    peer[1] = 7;
+}
+
 static void lend_packet(uint8_t code, const char *data, size_t size)
 {
     uint8_t *packet = lend_drawn(0, 4 + size);
@@ -447,15 +454,13 @@ static void lend_packet(uint8_t code, const char *data, size_t size)
     packet[3] = (uint8_t)(4 + size);
     memcpy(packet + 4, data, size);
     lend_drawn(1, MSCHAP_FIELDS_SIZE);
-    lend_drawn(2, MSCHAP_TURN_SIZE);
-    lend_drawn(4, MSCHAP_TURN_SIZE)[0] = 7;
+    lend_peer();
 }
 
 static void try_reply(uint8_t code, const char *data, size_t size, size_t expected)
 {
     lend_packet(code, data, size);
     TRY(mschap_read_reply, expected);
-    TRY(mschap_next_turn, expected);
 }
 
 static size_t add(char *message, size_t n, const char *word)
@@ -527,11 +532,10 @@ static void try_peer(void)
     for (size_t n = 0; n <= LONGEST_MESSAGE; n++) {
         char data[LONGEST_MESSAGE] = {8};
         lend_packet(1, data, n);
-        lent[1].size = MSCHAP_TURN_SIZE;
         TRY(mschap_read_challenge, n < 9 ? MSCHAP_READING : MSCHAP_OK);
     }
     for (size_t n = 0; n <= 257; n++) {
-        lend_drawn(4, MSCHAP_TURN_SIZE);
+        lend_peer();
         lend_drawn(0, 2 * n);
         lend_drawn(1, n);
         lend_drawn(2, MSCHAP_RESPONSE_PACKET);

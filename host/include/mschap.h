@@ -79,7 +79,7 @@ extern "C" {
 #define MSCHAP_CONVERSATION_SIZE 50
 #define MSCHAP_LIST_PLACES 4096       /* the most places of a list, of MSCHAP_CHALLENGE_SIZE octets each */
 #define MSCHAP_COUNTS_SIZE 256        /* counts, not octets */
-#define MSCHAP_PEER_SIZE 18
+#define MSCHAP_PEER_SIZE 19
 #define MSCHAP_FIELDS_SIZE 35
 #define MSCHAP_REPLY_SIZE 17          /* the longest packet of the authenticator */
 #define MSCHAP_RESPONSE_PACKET 310    /* the longest Response */
@@ -122,12 +122,13 @@ extern "C" {
  *   counts    256 counts: counts[x] is how many of the used places end in the octet x
  * An empty list has 0 places used and all counts 0. mschap_open alone adds to a list, and only the caller empties it: used and counts together.
  *
- * A peer, 18 octets: written by mschap_read_challenge and changed by the three functions below it;
+ * A peer, 19 octets: written by mschap_read_challenge and changed by the three functions below it;
  * a caller may read it.
- *    0       the identifier of the packet that was written last; 0 before the first one
- *    1 ..  8 the challenge that the last Response answers; octets 0 before the first packet
- *    9       the identifier of the next packet
- *   10 .. 17 the challenge of the next packet
+ *    0       a packet was written since the Challenge was read (mark)
+ *    1       the identifier of the packet that was written last; of no effect before the first one
+ *    2 ..  9 the challenge that the last Response answers; of no effect before the first packet
+ *   10       the identifier of the next packet
+ *   11 .. 18 the challenge of the next packet
  *
  * What a reply says ("fields"), 35 octets; a number has its most significant octet first:
  *    0       0 is Success, 1 is a Failure
@@ -252,44 +253,43 @@ size_t mschap_domain_length(const uint8_t *packet, size_t packet_size);
 
 /* ---- the peer
 
-   Keep one run of 18 octets, the peer, and pass it to each call: mschap_read_challenge writes it, and
+   Keep one run of 19 octets, the peer, and pass it to each call: mschap_read_challenge writes it, and
    the others change it. A packet that was written counts as sent: send exactly what was written, and
    to send it again send the same octets again. */
 
-/* Reads a Challenge, and writes the peer (18) that is to answer it: its next packet is a Response
-   with the Challenge's identifier. Call it for each new Challenge, and read no reply before a packet
-   was written.
+/* Reads a Challenge, and writes the peer (19) that is to answer it: its next packet is a Response
+   with the Challenge's identifier. Call it for each new Challenge.
    Returns 0; 3 for a bad frame; 11 for another kind of packet, one that is cut short, or a challenge
-   of another size than 8; 100 unless peer has 18 octets. */
+   of another size than 8; 100 unless peer has 19 octets. */
 uint32_t mschap_read_challenge(const uint8_t *packet, size_t packet_size,
                                uint8_t *peer, size_t peer_size);
 
-/* Reads the reply to the packet that the peer (18) wrote last: a Success or a Failure. Writes what
+/* Reads the reply to the packet that the peer (19) wrote last: a Success or a Failure. Writes what
    it says into fields (35), and the identifier and the challenge of the next packet into the peer.
    Write that packet only where fields[1] is 1 (mschap_write_response) or 2 (mschap_write_change).
    A reply that comes twice may be read twice: it says the same, and gives the same peer. A packet
    that is refused changes nothing; so an old reply, which is refused by 5, does no harm.
    Returns 0; 3 for a bad frame; 5 for another identifier than that of the packet that was written
-   last; 11 for another kind of packet, or a message that cannot be read; 100 unless peer has 18
-   octets and fields has 35. */
+   last, and where none was written; 11 for another kind of packet, or a message that cannot be read;
+   100 unless peer holds a peer and fields has 35 octets. */
 uint32_t mschap_read_reply(uint8_t *peer, size_t peer_size,
                            const uint8_t *packet, size_t packet_size,
                            uint8_t *fields, size_t fields_size);
 
-/* Writes the peer's (18) Response by an NT password, with a name of 1 to 256 octets, at the front of
+/* Writes the peer's (19) Response by an NT password, with a name of 1 to 256 octets, at the front of
    out. The packet has 54 octets more than its name; what lay behind it stays.
    Returns 0; 8 for the password (as mschap_nt_hash); 10 for the name; 9 for too little room; 100
-   unless peer has 18 octets. */
+   unless peer holds a peer. */
 uint32_t mschap_write_response(uint8_t *peer, size_t peer_size,
                                const uint8_t *password, size_t password_size,
                                const uint8_t *name, size_t name_size,
                                uint8_t *out, size_t out_size);
 
-/* Writes the peer's (18) version 2 change from an old to a new NT password, at the front of out:
+/* Writes the peer's (19) version 2 change from an old to a new NT password, at the front of out:
    1,118 octets. filler (512) fills the block that hides the new password's length: pass octets that
    are unpredictable, from a cryptographic random number generator.
    Returns 0; 8 for either password; 12 for a filler of another size than 512; 9 for too little room;
-   100 unless peer has 18 octets. */
+   100 unless peer holds a peer. */
 uint32_t mschap_write_change(uint8_t *peer, size_t peer_size,
                              const uint8_t *old_password, size_t old_password_size,
                              const uint8_t *new_password, size_t new_password_size,

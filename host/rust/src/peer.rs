@@ -53,12 +53,12 @@ impl Peer {
 
     /// The identifier of the next packet.
     pub fn identifier(&self) -> u8 {
-        self.0[9]
+        self.0[10]
     }
 
     /// The challenge of the next packet.
     pub fn challenge(&self) -> Challenge {
-        part(&self.0, 10)
+        part(&self.0, 11)
     }
 
     /// Writes the Response by an NT password, with a name of 1 to 256 octets, at the front of
@@ -104,9 +104,10 @@ impl Peer {
         &self.0
     }
 
-    /// The peer of stored octets: any are one.
-    pub fn from_octets(octets: [u8; sys::PEER_SIZE]) -> Peer {
-        Peer(octets)
+    /// The peer of stored octets; none where no peer has them.
+    pub fn from_octets(octets: [u8; sys::PEER_SIZE]) -> Option<Peer> {
+        mark(octets[0])?;
+        Some(Peer(octets))
     }
 }
 

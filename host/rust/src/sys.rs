@@ -36,7 +36,7 @@ pub const LIST_PLACES: usize = 4096;
 /// The counts beside a list: their number, not their octets.
 pub const COUNTS_SIZE: usize = 256;
 /// Octets of a peer.
-pub const PEER_SIZE: usize = 18;
+pub const PEER_SIZE: usize = 19;
 /// Octets of what a reply says.
 pub const FIELDS_SIZE: usize = 35;
 /// Octets of the authenticator's longest packet.

@@ -183,7 +183,7 @@ fn lists() {
 
 /// A conversation that awaits a Response, and a Response for it.
 fn opened() -> ([u8; 50], Vec<u8>) {
-    let (mut conversation, mut reply, mut peer) = ([0; 50], [0; 17], [0; 18]);
+    let (mut conversation, mut reply, mut peer) = ([0; 50], [0; 17], [0; 19]);
     let number = Lent::new(3, 0).open(&[0; 8], 2, 1, &mut conversation, &mut reply);
     assert_eq!(number, sys::OK);
     assert_eq!(sys::read_challenge(&reply, &mut peer), sys::OK);
@@ -251,28 +251,31 @@ fn steps() {
     assert_eq!(&reply, b"\x04\x07\x00\x11E=691 R=1 V=2");
 }
 
+/// A peer that sent a packet with the identifier 7.
+const PEER: [u8; 19] = [1, 7, 7, 7, 7, 7, 7, 7, 7, 7, 7, 7, 7, 7, 7, 7, 7, 7, 7];
+
 #[test]
 fn peers() {
     let challenge = [1, 7, 0, 13, 8, 1, 2, 3, 4, 5, 6, 7, 8];
     let success = [3, 7, 0, 4];
-    misfits(18, |peer| sys::read_challenge(&challenge, peer));
-    misfits(18, |peer| sys::read_challenge(&[], peer));
+    misfits(19, |peer| sys::read_challenge(&challenge, peer));
+    misfits(19, |peer| sys::read_challenge(&[], peer));
     for packet in [&success[..], &[]] {
-        let (mut peer, mut fields) = ([7; 18], [FILL; 35]);
-        misfits(18, |other| sys::read_reply(other, packet, &mut fields));
+        let (mut peer, mut fields) = (PEER, [FILL; 35]);
+        misfits(19, |other| sys::read_reply(other, packet, &mut fields));
         misfits(35, |other| sys::read_reply(&mut peer, packet, other));
-        assert_eq!((peer, fields), ([7; 18], [FILL; 35]));
+        assert_eq!((peer, fields), (PEER, [FILL; 35]));
     }
     let mut out = [FILL; 1118];
-    misfits(18, |peer| sys::write_response(peer, b"", b"u", &mut out));
-    misfits(18, |peer| sys::write_response(peer, b"a", b"", &mut []));
-    misfits(18, |peer| {
+    misfits(19, |peer| sys::write_response(peer, b"", b"u", &mut out));
+    misfits(19, |peer| sys::write_response(peer, b"a", b"", &mut []));
+    misfits(19, |peer| {
         sys::write_change(peer, b"", b"", &[0; 512], &mut out)
     });
     // a filler of another size is refused by 12, behind the passwords and before the room
     for size in [0, 1, 511, 513, 1024] {
         let filler = vec![0; size];
-        let mut peer = [7; 18];
+        let mut peer = PEER;
         let number = sys::write_change(&mut peer, b"", b"", &filler, &mut out);
         assert_eq!(number, 12);
         assert_eq!(sys::write_change(&mut peer, b"", b"", &filler, &mut []), 12);
@@ -280,7 +283,7 @@ fn peers() {
         assert_eq!(number, 8);
         let number = sys::write_change(&mut peer, b"", b"a", &filler, &mut out);
         assert_eq!(number, 8);
-        assert_eq!(peer, [7; 18]);
+        assert_eq!(peer, PEER);
     }
     assert_eq!(out, [FILL; 1118]);
 }
@@ -352,28 +355,28 @@ fn null_with_no_octets() {
 
         assert_eq!(mschap_read_challenge(n, 0, m, 0), sys::MISFIT);
         assert_eq!(mschap_read_reply(m, 0, n, 0, m, 0), sys::MISFIT);
-        assert_eq!(mschap_read_challenge(n, 0, run.as_mut_ptr(), 18), 3);
-        let mut peer = [7; 18];
+        assert_eq!(mschap_read_challenge(n, 0, run.as_mut_ptr(), 19), 3);
+        let mut peer = PEER;
         let p = peer.as_mut_ptr();
-        assert_eq!(mschap_read_reply(p, 18, n, 0, m, 0), sys::MISFIT);
-        assert_eq!(mschap_read_reply(p, 18, n, 0, run.as_mut_ptr(), 35), 3);
+        assert_eq!(mschap_read_reply(p, 19, n, 0, m, 0), sys::MISFIT);
+        assert_eq!(mschap_read_reply(p, 19, n, 0, run.as_mut_ptr(), 35), 3);
         assert_eq!(run, [FILL; 50]);
         assert_eq!(mschap_write_response(m, 0, n, 0, n, 0, m, 0), sys::MISFIT);
-        assert_eq!(mschap_write_response(p, 18, n, 0, n, 0, m, 0), 10);
+        assert_eq!(mschap_write_response(p, 19, n, 0, n, 0, m, 0), 10);
         assert_eq!(
-            mschap_write_response(p, 18, n, 0, [b'u'].as_ptr(), 1, m, 0),
+            mschap_write_response(p, 19, n, 0, [b'u'].as_ptr(), 1, m, 0),
             9
         );
         assert_eq!(
             mschap_write_change(m, 0, n, 0, n, 0, n, 0, m, 0),
             sys::MISFIT
         );
-        assert_eq!(mschap_write_change(p, 18, n, 0, n, 0, n, 0, m, 0), 12);
+        assert_eq!(mschap_write_change(p, 19, n, 0, n, 0, n, 0, m, 0), 12);
         let filler = [0; 512];
         assert_eq!(
-            mschap_write_change(p, 18, n, 0, n, 0, filler.as_ptr(), 512, m, 0),
+            mschap_write_change(p, 19, n, 0, n, 0, filler.as_ptr(), 512, m, 0),
             9
         );
-        assert_eq!(peer, [7; 18]);
+        assert_eq!(peer, PEER);
     }
 }

@@ -6,6 +6,7 @@ use mschap::{sys, Awaited, Call, Challenge, Conversation, Issued, Peer, Reading,
 use reference::authenticator::{self as their, Phase};
 use reference::issued;
 use reference::message;
+use reference::packet;
 use reference::peer::{self, Verdict};
 
 pub fn number<T>(result: &Result<T, Refusal>) -> u32 {
@@ -228,7 +229,7 @@ impl Boxes {
 #[derive(Clone)]
 pub struct Peers {
     ours: Peer,
-    sent: peer::Turn,
+    sent: Option<peer::Turn>,
     turn: peer::Turn,
 }
 
@@ -236,6 +237,17 @@ pub struct Peers {
 fn turn_octets(turn: &peer::Turn) -> [u8; 9] {
     let mut octets = [turn.id; 9];
     octets[1..].copy_from_slice(&turn.challenge);
+    octets
+}
+
+/// The last packet, or none, and the next one, in our octets.
+fn peer_octets(sent: Option<&peer::Turn>, turn: &peer::Turn) -> [u8; sys::PEER_SIZE] {
+    let mut octets = [0; sys::PEER_SIZE];
+    octets[0] = sent.is_some().into();
+    if let Some(sent) = sent {
+        octets[1..10].copy_from_slice(&turn_octets(sent));
+    }
+    octets[10..].copy_from_slice(&turn_octets(turn));
     octets
 }
 
@@ -252,13 +264,9 @@ impl Peers {
         let read = peer::read_challenge(theirs);
         let ours = plain(Peer::read_challenge(ours));
         assert_eq!(ours.err(), read.err(), "the Challenge's answer");
-        let nothing = peer::Turn {
-            id: 0,
-            challenge: [0; 8],
-        };
         let peers = Peers {
             ours: ours?,
-            sent: nothing,
+            sent: None,
             turn: read?,
         };
         peers.agree();
@@ -268,18 +276,17 @@ impl Peers {
     /// Peers that sent something and may have read something since.
     pub fn drawn(random: &mut Random) -> Peers {
         let (sent, turn) = (drawn_turn(random), drawn_turn(random));
-        let octets = [turn_octets(&sent), turn_octets(&turn)].concat();
-        let octets = octets.try_into().expect("the octets of a peer");
+        let octets = peer_octets(Some(&sent), &turn);
         Peers {
-            ours: Peer::from_octets(octets),
-            sent,
+            ours: Peer::from_octets(octets).expect("a peer"),
+            sent: Some(sent),
             turn,
         }
     }
 
-    /// The identifier of the last packet.
+    /// The identifier of the last packet, which there is.
     pub fn last(&self) -> u8 {
-        self.sent.id
+        self.sent.expect("a packet was sent").id
     }
 
     /// Identifier and challenge of the next packet.
@@ -288,8 +295,8 @@ impl Peers {
     }
 
     fn agree(&self) {
-        let theirs = [turn_octets(&self.sent), turn_octets(&self.turn)].concat();
-        assert_eq!(self.ours.octets()[..], theirs, "the peers");
+        let theirs = peer_octets(self.sent.as_ref(), &self.turn);
+        assert_eq!(*self.ours.octets(), theirs, "the peers");
         let turn = (self.ours.identifier(), self.ours.challenge());
         assert_eq!(turn, (self.turn.id, self.turn.challenge), "the turns");
     }
@@ -311,7 +318,7 @@ impl Peers {
         };
         assert_eq!(answer, expected, "the writer's answer");
         match answer {
-            Ok(_) => self.sent = self.turn,
+            Ok(_) => self.sent = Some(self.turn),
             Err(_) => assert_eq!(
                 (self.ours, ours),
                 (before, lent),
@@ -353,9 +360,13 @@ impl Peers {
     /// refused packet leaves the peer, and the fields that it was lent, as they were.
     pub fn read_reply(&mut self, ours: &[u8], theirs: &[u8]) -> Result<Verdict, u8> {
         let before = self.ours;
-        let reading = peer::read_reply(self.sent.id, theirs);
-        if reading.is_ok() {
-            self.turn = peer::next_turn(&self.sent, &reading);
+        let reading = match self.sent {
+            Some(sent) => peer::read_reply(sent.id, theirs),
+            // no packet has the identifier of the last one: 5, behind the frame's 3
+            None => Err(packet::frame(theirs).err().unwrap_or(5)),
+        };
+        if let (Some(sent), Ok(_)) = (self.sent, &reading) {
+            self.turn = peer::next_turn(&sent, &reading);
         }
         let expected = reading.as_ref().map(our_reading).map_err(|number| *number);
         for _ in 0..2 {

@@ -114,7 +114,17 @@ fn open(random: &mut Random) -> (Boxes, Peers) {
     );
     assert_eq!(their_conversation(&conversation), theirs.conversation);
     let peers = Peers::read_challenge(&their_reply[..written], &our_reply[..written]);
-    let peers = peers.expect("a Challenge");
+    let mut peers = peers.expect("a Challenge");
+    // A reply that comes before any packet was sent is to no packet of theirs, whatever it carries.
+    for id in [0, id, random.octet()] {
+        let early = match random.below(3) {
+            0 => packet::success(id),
+            1 => packet::failure(id, random.pick(&[691, 648]), 1, 2),
+            _ => packets::noise(random),
+        };
+        let refused = peers.read_reply(&early, &early);
+        assert!(matches!(refused, Err(3 | 5)), "a reply to nothing");
+    }
     let boxes = Boxes {
         ours: conversation,
         theirs: theirs.conversation,
