@@ -26,8 +26,8 @@ showfail:
 	rt check showfail
 	sh tests/showfail.sh target/bin/showfail
 
-# The archive for C: the example, bad lengths, the stack of each function, and through the Rust wrapper
-# the comparison with the independent program.
+# The archive for C: the example, bad lengths, the stack of each function, and through the Rust
+# wrapper the comparison with the independent program.
 host:
 	rt staticlib mschap
 	sh tests/host.sh
