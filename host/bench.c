@@ -197,8 +197,8 @@ static void open_few(struct work *w, long calls)
     open_again(&few, w, calls);
 }
 
-/* A Failure with the message of our authenticator and, up to the most that is read, other words. Its
-   identifier follows from the field E that was read before. */
+/* A Failure with the message of our authenticator and, up to the most that is read, other words.
+   Its identifier follows from the field E that was read before. */
 static void read_failure(struct work *w, long calls)
 {
     static uint8_t packet[4 + MESSAGE] = {4, 7, (4 + MESSAGE) >> 8, (4 + MESSAGE) & 255};

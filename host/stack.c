@@ -1,12 +1,13 @@
 /*
  * How much stack each function of mschap.h takes, in octets below its return address: a line
- * `NAME OCTETS` for each, the most over all inputs that are tried here. After that the same calls are
- * made on a stack of MSCHAP_STACK_SIZE octets, and from a thread with the smallest stack that there
- * is; what needs more there dies. tests/stack.sh compiles and runs this, and compares the lines with
- * docs/PERFORMANCE.md. Exit status 1 where a call is not answered as it should be.
+ * `NAME OCTETS` for each, the most over all inputs that are tried here. After that the same calls
+ * are made on a stack of MSCHAP_STACK_SIZE octets, and from a thread with the smallest stack that
+ * there is: the program dies where that is too little. tests/stack.sh compiles and runs it, and
+ * compares the lines with docs/PERFORMANCE.md. Exit status 1 where a call is not answered as it
+ * should be.
  *
- * A call is measured on a stack of its own that was painted: what is no longer paint was touched. The
- * same call is then made to a function that does nothing: what that one touches is the caller's share.
+ * A call is measured on a stack of its own that was painted: what is no longer paint was touched.
+ * The same call is made to a function that does nothing too: what that touches is the caller's.
  */
 #define _XOPEN_SOURCE 700 /* ucontext, which C99 alone hides */
 #define _DEFAULT_SOURCE   /* MAP_ANONYMOUS */
@@ -21,11 +22,11 @@
 
 #define PAINTED 131072
 #define PAGE 4096
-#define LONGEST_MESSAGE 256
 #define DRAWN 500 /* how many inputs are drawn of a kind */
-#define ANY 1000  /* an answer that is none: each will do */
+#define ANY 1000  /* expected: no certain answer */
+#define LENGTH(array) (sizeof(array) / sizeof *(array))
 
-/* ---- what is lent: each call works on a copy */
+/* ---- what is lent: each call works on a copy of it */
 
 #define RUNS 5
 #define LARGEST (MSCHAP_LIST_PLACES * MSCHAP_CHALLENGE_SIZE)
@@ -39,15 +40,15 @@ static struct run lent[RUNS], run[RUNS];
 static uint8_t retries, lm;
 static size_t lent_used, used, counts_size;
 static uint16_t lent_counts[MSCHAP_COUNTS_SIZE], counts[MSCHAP_COUNTS_SIZE];
+static uint32_t drawn;
 
 static uint8_t draw(void)
 {
-    static uint32_t x = 2433;
-    x = x * 1664525 + 1013904223;
-    return (uint8_t)(x >> 24);
+    drawn = drawn * 1664525 + 1013904223;
+    return (uint8_t)(drawn >> 24);
 }
 
-static uint8_t *lend_drawn(int i, size_t size)
+static uint8_t *lend(int i, size_t size)
 {
     lent[i].size = size;
     for (size_t k = 0; k < size; k++)
@@ -55,7 +56,7 @@ static uint8_t *lend_drawn(int i, size_t size)
     return lent[i].octets;
 }
 
-static void take_copy(void)
+static void copy_lent(void)
 {
     for (int i = 0; i < RUNS; i++) {
         run[i].size = lent[i].size;
@@ -65,18 +66,22 @@ static void take_copy(void)
     memcpy(counts, lent_counts, sizeof counts);
 }
 
-/* ---- the functions, each with a call of it that takes nothing and leaves its answer */
+/* ---- a function, with a call of it that takes what is lent and leaves its answer */
 
 typedef void function(void);
-
-static function *volatile callee; /* the function that is measured, or the one that does nothing */
-static size_t answer;
 
 struct measured {
     const char *name;
     function *itself, *call;
     size_t caller, most; /* octets */
 };
+
+static function *volatile callee; /* the function itself, or the one that does nothing */
+static size_t answer;
+
+static void nothing(void)
+{
+}
 
 #define RUN(i) run[i].octets, run[i].size
 #define CALL(name, ...)                                    \
@@ -86,36 +91,12 @@ struct measured {
     }                                                      \
     static struct measured of_##name = {#name, (function *)name, call_##name, 0, 0};
 
-CALL(mschap_md4, RUN(0), RUN(1))
-CALL(mschap_rc4, RUN(0), RUN(1))
-CALL(mschap_des_encrypt, RUN(0), RUN(1), RUN(2))
-CALL(mschap_des_decrypt, RUN(0), RUN(1), RUN(2))
-CALL(mschap_nt_hash, RUN(0), RUN(1))
-CALL(mschap_lm_hash, RUN(0), RUN(1))
-CALL(mschap_challenge_response, RUN(0), RUN(1), RUN(2))
-CALL(mschap_open, 7, RUN(0), retries, lm, RUN(1), &used, counts, counts_size, RUN(2), RUN(3))
-CALL(mschap_step, RUN(0), RUN(1), RUN(2), RUN(3), RUN(4))
-CALL(mschap_account_offset, RUN(0))
-CALL(mschap_account_length, RUN(0))
-CALL(mschap_domain_offset, RUN(0))
-CALL(mschap_domain_length, RUN(0))
-/* the peer's: a packet that is read is run 0, and the peer is run 4 */
-CALL(mschap_read_challenge, RUN(0), RUN(4))
-CALL(mschap_read_reply, RUN(4), RUN(0), RUN(1))
-CALL(mschap_write_response, RUN(4), RUN(0), RUN(1), RUN(2))
-CALL(mschap_write_change, RUN(4), RUN(0), RUN(1), RUN(3), RUN(2))
+/* ---- the ways to make a call: measured, with the stack that a caller is to provide, and here */
 
-static void nothing(void)
-{
-}
-
-/* ---- one call: measured, or made where there is little stack */
-
-static struct measured *tried[64];
+static struct measured *all[64];
 static size_t count;
-static int wrong;
-
 static uint64_t painted[PAINTED / sizeof(uint64_t)];
+static uint8_t *provided;
 static ucontext_t here, there;
 
 /* Apart from the counting, since getcontext may return twice and a local might then be lost. */
@@ -132,19 +113,20 @@ static void visit(function *call, void *stack, size_t size)
 static size_t touched(struct measured *m, function *f)
 {
     /* two paints, since a call may happen to write one of them */
-    static const uint64_t paints[] = {0x5a5a5a5a5a5a5a5a, 0xa5a5a5a5a5a5a5a5};
+    static const uint8_t paints[] = {0x5a, 0xa5};
+    const uint8_t *octets = (const uint8_t *)painted;
     size_t most = 0;
     for (int p = 0; p < 2; p++) {
-        const uint8_t *octets = (const uint8_t *)painted;
+        uint64_t eight = paints[p] * (UINT64_MAX / 255);
         size_t clean = 0;
-        for (size_t i = 0; i < PAINTED / sizeof *painted; i++)
-            painted[i] = paints[p];
-        take_copy();
+        memset(painted, paints[p], sizeof painted);
+        copy_lent();
         callee = f;
         visit(m->call, painted, sizeof painted);
-        while (clean < PAINTED && painted[clean / sizeof *painted] == paints[p])
-            clean += sizeof *painted;
-        while (clean < PAINTED && octets[clean] == (uint8_t)paints[p])
+        while (clean < LENGTH(painted) && painted[clean] == eight)
+            clean++;
+        clean *= sizeof eight;
+        while (clean < PAINTED && octets[clean] == paints[p])
             clean++;
         if (PAINTED - clean > most)
             most = PAINTED - clean;
@@ -157,30 +139,29 @@ static void measure(struct measured *m)
     size_t most;
     if (m->caller == 0) {
         m->caller = touched(m, nothing);
-        tried[count++] = m;
+        all[count++] = m;
     }
     most = touched(m, m->itself) - m->caller;
     if (most > m->most)
         m->most = most;
 }
 
-static uint8_t *little; /* MSCHAP_STACK_SIZE octets, and below them a page that nobody may touch */
-
-static void call_on_little(struct measured *m)
+static void call_on_provided(struct measured *m)
 {
-    take_copy();
+    copy_lent();
     callee = m->itself;
-    visit(m->call, little, MSCHAP_STACK_SIZE);
+    visit(m->call, provided, MSCHAP_STACK_SIZE);
 }
 
 static void call_here(struct measured *m)
 {
-    take_copy();
+    copy_lent();
     callee = m->itself;
     m->call();
 }
 
 static void (*make)(struct measured *);
+static int wrong;
 
 static void try(struct measured *m, size_t expected)
 {
@@ -193,26 +174,34 @@ static void try(struct measured *m, size_t expected)
 
 #define TRY(name, expected) try(&of_##name, expected)
 
-/* ---- the inputs */
+/* ---- ciphers and hashes */
+
+CALL(mschap_md4, RUN(0), RUN(1))
+CALL(mschap_rc4, RUN(0), RUN(1))
+CALL(mschap_des_encrypt, RUN(0), RUN(1), RUN(2))
+CALL(mschap_des_decrypt, RUN(0), RUN(1), RUN(2))
+CALL(mschap_nt_hash, RUN(0), RUN(1))
+CALL(mschap_lm_hash, RUN(0), RUN(1))
+CALL(mschap_challenge_response, RUN(0), RUN(1), RUN(2))
 
 static void try_ciphers(void)
 {
     static const size_t keys[] = {0, 1, 7, 16, 255, 256, 257}, streams[] = {0, 1, 516, 4096};
     for (size_t n = 0; n <= 4097; n++) {
-        lend_drawn(0, n);
-        lend_drawn(1, MSCHAP_DIGEST_SIZE);
+        lend(0, n);
+        lend(1, MSCHAP_DIGEST_SIZE);
         TRY(mschap_md4, n > 4096 ? MSCHAP_INPUT : MSCHAP_OK);
     }
-    for (size_t k = 0; k < sizeof keys / sizeof *keys; k++)
-        for (size_t s = 0; s < sizeof streams / sizeof *streams; s++) {
-            lend_drawn(0, keys[k]);
-            lend_drawn(1, streams[s]);
+    for (size_t k = 0; k < LENGTH(keys); k++)
+        for (size_t s = 0; s < LENGTH(streams); s++) {
+            lend(0, keys[k]);
+            lend(1, streams[s]);
             TRY(mschap_rc4, keys[k] == 0 || keys[k] > 256 ? MSCHAP_INPUT : MSCHAP_OK);
         }
     for (int k = 0; k < DRAWN; k++) {
-        lend_drawn(0, MSCHAP_KEY_SIZE);
-        lend_drawn(1, MSCHAP_BLOCK_SIZE);
-        lend_drawn(2, MSCHAP_BLOCK_SIZE);
+        lend(0, MSCHAP_KEY_SIZE);
+        lend(1, MSCHAP_BLOCK_SIZE);
+        lend(2, MSCHAP_BLOCK_SIZE);
         TRY(mschap_des_encrypt, MSCHAP_OK);
         TRY(mschap_des_decrypt, MSCHAP_OK);
     }
@@ -221,24 +210,28 @@ static void try_ciphers(void)
 static void try_hashes(void)
 {
     for (size_t n = 0; n <= 514; n++) {
-        lend_drawn(0, n);
-        lend_drawn(1, MSCHAP_HASH_SIZE);
+        lend(0, n);
+        lend(1, MSCHAP_HASH_SIZE);
         TRY(mschap_nt_hash, n % 2 || n > 512 ? MSCHAP_INPUT : MSCHAP_OK);
         TRY(mschap_lm_hash, n > 14 ? MSCHAP_INPUT : MSCHAP_OK);
     }
     for (int k = 0; k < DRAWN; k++) {
-        lend_drawn(0, MSCHAP_HASH_SIZE);
-        lend_drawn(1, MSCHAP_CHALLENGE_SIZE);
-        lend_drawn(2, MSCHAP_RESPONSE_SIZE);
+        lend(0, MSCHAP_HASH_SIZE);
+        lend(1, MSCHAP_CHALLENGE_SIZE);
+        lend(2, MSCHAP_RESPONSE_SIZE);
         TRY(mschap_challenge_response, MSCHAP_OK);
     }
 }
 
-/* A list with so many places and so many of them used, which all end as the challenge does or not. */
+/* ---- openings */
+
+CALL(mschap_open, 7, RUN(0), retries, lm, RUN(1), &used, counts, counts_size, RUN(2), RUN(3))
+
+/* A list with so many places and so many of them used. Alike: all entries end as the challenge. */
 static void lend_list(size_t places, size_t in_use, int alike)
 {
-    const uint8_t *challenge = lend_drawn(0, MSCHAP_CHALLENGE_SIZE);
-    uint8_t *list = lend_drawn(1, places * MSCHAP_CHALLENGE_SIZE);
+    const uint8_t *challenge = lend(0, MSCHAP_CHALLENGE_SIZE);
+    uint8_t *list = lend(1, places * MSCHAP_CHALLENGE_SIZE);
     memset(lent_counts, 0, sizeof lent_counts);
     for (size_t i = 0; i < in_use; i++) {
         if (alike)
@@ -247,31 +240,41 @@ static void lend_list(size_t places, size_t in_use, int alike)
     }
     lent_used = in_use;
     counts_size = MSCHAP_COUNTS_SIZE;
-    lend_drawn(2, MSCHAP_CONVERSATION_SIZE);
-    lend_drawn(3, MSCHAP_REPLY_SIZE);
+    lend(2, MSCHAP_CONVERSATION_SIZE);
+    lend(3, MSCHAP_REPLY_SIZE);
+}
+
+static void try_opening(size_t places, size_t in_use, uint8_t r, int alike)
+{
+    size_t spent = r == 255 ? 3 : r + 1u, expected = MSCHAP_OK;
+    if (r > 7 && r < 255)
+        expected = MSCHAP_RETRIES;
+    else if (places - in_use < spent)
+        expected = MSCHAP_LIST_FULL;
+    lend_list(places, in_use, alike);
+    retries = r;
+    lm = (uint8_t)(alike ? 255 : in_use % 2);
+    TRY(mschap_open, expected);
 }
 
 static void try_openings(void)
 {
     static const size_t places[] = {0, 1, 3, 8, 100, MSCHAP_LIST_PLACES};
-    for (size_t p = 0; p < sizeof places / sizeof *places; p++)
-        for (size_t part = 0; part <= 4; part++)
-            for (int r = 0; r <= 9; r++)
-                for (int alike = 0; alike < 2; alike++) {
-                    size_t in_use = places[p] * part / 4, spent = (size_t)(r == 9 ? 3 : r + 1);
-                    lend_list(places[p], in_use, alike);
-                    retries = (uint8_t)(r == 9 ? 255 : r);
-                    lm = (uint8_t)(alike ? 255 : part % 2);
-                    TRY(mschap_open, r == 8                          ? MSCHAP_RETRIES
-                                     : places[p] - in_use < spent ? MSCHAP_LIST_FULL
-                                                                     : MSCHAP_OK);
-                }
+    static const size_t last = 8 * 3999; /* of a place */
+    for (size_t p = 0; p < LENGTH(places); p++)
+        for (size_t quarters = 0; quarters <= 4; quarters++)
+            for (int alike = 0; alike < 2; alike++) {
+                for (uint8_t r = 0; r <= 8; r++)
+                    try_opening(places[p], places[p] * quarters / 4, r, alike);
+                try_opening(places[p], places[p] * quarters / 4, 255, alike);
+            }
+    /* the last successor of the challenge is the last entry */
     retries = 7;
-    lend_list(MSCHAP_LIST_PLACES, 4000, 0); /* the last successor is in the last place that is used */
-    lent_counts[lent[1].octets[8 * 3999 + 7]]--;
-    memcpy(lent[1].octets + 8 * 3999, lent[0].octets, 8);
-    lent[1].octets[8 * 3999] = (uint8_t)(lent[0].octets[0] + 7 * 23);
-    lent_counts[lent[1].octets[8 * 3999 + 7]]++;
+    lend_list(MSCHAP_LIST_PLACES, 4000, 0);
+    lent_counts[lent[1].octets[last + 7]]--;
+    memcpy(lent[1].octets + last, lent[0].octets, MSCHAP_CHALLENGE_SIZE);
+    lent[1].octets[last] = (uint8_t)(lent[0].octets[0] + 7 * 23);
+    lent_counts[lent[1].octets[last + 7]]++;
     TRY(mschap_open, MSCHAP_SPENT);
     lent_counts[0]++;
     TRY(mschap_open, MSCHAP_LIST);
@@ -281,51 +284,64 @@ static void try_openings(void)
     TRY(mschap_open, MSCHAP_MISFIT);
 }
 
-/* ---- the box: the runs of a step are the conversation, the packet, the record, the reply and the
-   record that is handed out */
+/* ---- steps: what is lent are conversation, packet, record, reply and the record handed out */
+
+CALL(mschap_step, RUN(0), RUN(1), RUN(2), RUN(3), RUN(4))
+CALL(mschap_account_offset, RUN(0))
+CALL(mschap_account_length, RUN(0))
+CALL(mschap_domain_offset, RUN(0))
+CALL(mschap_domain_length, RUN(0))
 
 static const uint8_t password[] = {'C', 0, 'L', 0, 'I', 0, 'E', 0, 'N', 0, 'T', 0};
 static uint8_t nt[MSCHAP_HASH_SIZE], lan[MSCHAP_HASH_SIZE], challenge[MSCHAP_CHALLENGE_SIZE];
 
-static void lend_step(uint8_t awaited)
+/* A conversation that awaits a packet of that code with identifier 7, LM allowed and 2 retries
+   left, and a record with both hashes and no mark. */
+static void lend_step(uint8_t code)
 {
-    uint8_t *conversation = lend_drawn(0, MSCHAP_CONVERSATION_SIZE);
-    uint8_t *record = lend_drawn(2, MSCHAP_RECORD_SIZE);
+    uint8_t *conversation = lend(0, MSCHAP_CONVERSATION_SIZE);
+    uint8_t *record = lend(2, MSCHAP_RECORD_SIZE);
     memset(record, 0, MSCHAP_RECORD_SIZE);
-    record[0] = record[1] = record[18] = 1; /* found, with an NT hash and an LM hash */
+    record[0] = record[1] = record[18] = 1;
     memcpy(record + 2, nt, sizeof nt);
     memcpy(record + 19, lan, sizeof lan);
-    conversation[0] = awaited;
-    conversation[1] = 1; /* LM is allowed */
+    memset(conversation, 0, MSCHAP_CONVERSATION_SIZE);
+    conversation[0] = code;
+    conversation[1] = 1;
     conversation[2] = 7;
     conversation[3] = 2;
     memcpy(conversation + 4, challenge, sizeof challenge);
-    memset(conversation + 12, 0, MSCHAP_ACCOUNT_SIZE);
-    if (awaited == 6)
+    if (code == 6)
         memcpy(conversation + 12, record + 1, MSCHAP_ACCOUNT_SIZE);
-    lend_drawn(3, MSCHAP_REPLY_SIZE);
-    lend_drawn(4, MSCHAP_RECORD_SIZE);
+    lend(3, MSCHAP_REPLY_SIZE);
+    lend(4, MSCHAP_RECORD_SIZE);
 }
 
-/* A step that is answered with a Success (3) or a Failure (4). */
-static void try_step(uint8_t reply)
+/* A step that is answered with a packet of that code. */
+static void try_step(uint8_t code)
 {
     TRY(mschap_step, MSCHAP_OK);
-    if (run[3].octets[0] != reply) {
-        printf("stack: a step replies with code %d and not %d\n", run[3].octets[0], reply);
+    if (run[3].octets[0] != code) {
+        printf("stack: a step writes code %d and not %d\n", run[3].octets[0], code);
         wrong = 1;
     }
 }
 
-/* A Response with identifier 7 and a name of n octets, with a backslash at a place of it or, where
-   that is n, with none. */
+/* The front of a packet with identifier 7. */
+static uint8_t *lend_packet(int i, uint8_t code, size_t size)
+{
+    uint8_t *packet = lend(i, size);
+    packet[0] = code;
+    packet[1] = 7;
+    packet[2] = (uint8_t)(size >> 8);
+    packet[3] = (uint8_t)size;
+    return packet;
+}
+
+/* A valid Response with a name of n octets, and a backslash at a place of it or, at n, none. */
 static uint8_t *lend_response(int i, size_t n, size_t backslash)
 {
-    uint8_t *packet = lend_drawn(i, 54 + n);
-    packet[0] = 2;
-    packet[1] = 7;
-    packet[2] = (uint8_t)((54 + n) >> 8);
-    packet[3] = (uint8_t)(54 + n);
+    uint8_t *packet = lend_packet(i, 2, 54 + n);
     packet[4] = 49;
     mschap_challenge_response(lan, sizeof lan, challenge, sizeof challenge, packet + 5, 24);
     mschap_challenge_response(nt, sizeof nt, challenge, sizeof challenge, packet + 29, 24);
@@ -336,48 +352,41 @@ static uint8_t *lend_response(int i, size_t n, size_t backslash)
     return packet;
 }
 
-/* A change with identifier 7 to a password of so many octets, as its block tells. */
+/* A change to a password of that size, whose block tells a size. */
 static uint8_t *lend_change(size_t size, size_t told)
 {
-    uint8_t *packet = lend_drawn(1, MSCHAP_CHANGE_PACKET);
-    uint8_t changed[MSCHAP_HASH_SIZE];
-    packet[0] = 6;
-    packet[1] = 7;
-    packet[2] = MSCHAP_CHANGE_PACKET >> 8;
-    packet[3] = MSCHAP_CHANGE_PACKET & 255;
-    mschap_nt_hash(packet + 4 + 512 - size, size, changed, sizeof changed);
-    packet[516] = (uint8_t)told;
-    packet[517] = (uint8_t)(told >> 8);
-    packet[518] = packet[519] = 0;
-    mschap_rc4(nt, sizeof nt, packet + 4, 516);
-    mschap_des_encrypt(changed, 7, nt, 8, packet + 520, 8);
-    mschap_des_encrypt(changed + 7, 7, nt + 8, 8, packet + 528, 8);
-    mschap_challenge_response(changed, sizeof changed, challenge, sizeof challenge, packet + 1092, 24);
+    uint8_t *packet = lend_packet(1, 6, MSCHAP_CHANGE_PACKET), *block = packet + 4;
+    uint8_t hash[MSCHAP_HASH_SIZE];
+    mschap_nt_hash(block + 512 - size, size, hash, sizeof hash);
+    block[512] = (uint8_t)told;
+    block[513] = (uint8_t)(told >> 8);
+    block[514] = block[515] = 0;
+    mschap_rc4(nt, sizeof nt, block, 516);
+    mschap_des_encrypt(hash, 7, nt, 8, packet + 520, 8);
+    mschap_des_encrypt(hash + 7, 7, nt + 8, 8, packet + 528, 8);
+    mschap_challenge_response(hash, sizeof hash, challenge, sizeof challenge, packet + 1092, 24);
     packet[1116] = 0;
     packet[1117] = 1;
     return packet;
 }
 
-static void try_steps(void)
+static void try_judged(void)
 {
-    mschap_nt_hash(password, sizeof password, nt, sizeof nt);
-    mschap_lm_hash((const uint8_t *)"CLIENT", 6, lan, sizeof lan);
-    for (size_t i = 0; i < sizeof challenge; i++)
-        challenge[i] = draw();
     for (size_t n = 1; n <= 256; n++) {
         lend_step(2);
         lend_response(1, n, n / 2);
         try_step(3);
-        lent[2].octets[38] = 1; /* expired */
+        lent[2].octets[38] = 1; /* the password has expired */
         try_step(4);
-        lent[1].octets[30] ^= 1; /* the NT response is wrong */
+        lent[1].octets[29] ^= 1; /* the NT response is wrong */
         try_step(4);
-        lent[1].octets[53] = 0; /* by LM */
+        lent[1].octets[53] = 0; /* the LM response counts */
         try_step(4);
         lent[2].octets[38] = 0;
         try_step(3);
-        lent[0].octets[1] = 0; /* which is not allowed now */
-        lent[0].octets[3] = 0; /* nor a retry */
+        lent[0].octets[1] = 0; /* but is not allowed */
+        try_step(4);
+        lent[0].octets[3] = 0; /* no retry */
         try_step(4);
         lent[2].octets[0] = 0; /* no record */
         try_step(4);
@@ -393,15 +402,21 @@ static void try_steps(void)
         lent[0].octets[12] = 0; /* the kept record has no NT hash */
         try_step(4);
     }
-    for (int k = 0; k < DRAWN; k++) { /* some octets of a packet that is judged, and of the record */
+    for (int k = 0; k < DRAWN; k++) { /* with a few other octets, and other marks */
+        size_t n = draw();
+        uint8_t *packet;
         lend_step(k % 2 ? 2 : 6);
-        uint8_t *packet = k % 2 ? lend_response(1, 1u + draw(), draw()) : lend_change(draw() & 254u, 0);
-        for (int damaged = draw() % 4; damaged > 0; damaged--)
+        packet = k % 2 ? lend_response(1, n + 1, draw()) : lend_change(2 * n, 2 * n);
+        for (int others = draw() % 4; others > 0; others--)
             packet[(draw() * 256u + draw()) % lent[1].size] = draw();
-        for (int m = 35; m < 39; m++)
-            lent[2].octets[m] = draw() % 2;
+        for (int mark = 35; mark < 39; mark++)
+            lent[2].octets[mark] = draw() % 2;
         TRY(mschap_step, ANY);
     }
+}
+
+static void try_refused(void)
+{
     lend_step(2);
     lend_response(1, 256, 0)[53] = 2;
     TRY(mschap_step, MSCHAP_FLAGS);
@@ -424,44 +439,92 @@ static void try_steps(void)
 static void try_names(void)
 {
     for (size_t n = 1; n <= 257; n++)
-        for (size_t part = 0; part <= 4; part++) {
-            size_t at = n * part / 4, account = at < n ? at + 1 : 0;
-            int refused = n > 256;
+        for (size_t quarters = 0; quarters <= 4; quarters++) {
+            size_t at = n * quarters / 4, account = at < n ? at + 1 : 0;
             lend_response(0, n, at);
-            TRY(mschap_account_offset, refused ? 0 : 54 + account);
-            TRY(mschap_account_length, refused ? 0 : n - account);
-            TRY(mschap_domain_offset, refused || at == n ? 0 : 54);
-            TRY(mschap_domain_length, refused || at == n ? 0 : at);
+            TRY(mschap_account_offset, n > 256 ? 0 : 54 + account);
+            TRY(mschap_account_length, n > 256 ? 0 : n - account);
+            TRY(mschap_domain_offset, n > 256 || at == n ? 0 : 54);
+            TRY(mschap_domain_length, n > 256 || at == n ? 0 : at);
         }
 }
 
-/* ---- the peer */
+static void try_steps(void)
+{
+    mschap_nt_hash(password, sizeof password, nt, sizeof nt);
+    mschap_lm_hash((const uint8_t *)"CLIENT", 6, lan, sizeof lan);
+    for (size_t i = 0; i < sizeof challenge; i++)
+        challenge[i] = draw();
+    try_judged();
+    try_refused();
+    try_names();
+}
+
+/* ---- the peer: its functions are called by what stands from here to try_peer, and nowhere else */
+
+CALL(mschap_read_challenge, RUN(0), RUN(1))
+CALL(mschap_read_reply, RUN(2), RUN(0), RUN(1))
+CALL(mschap_write_response, RUN(0), RUN(1), RUN(2), RUN(3))
+CALL(mschap_write_change, RUN(0), RUN(1), RUN(2), RUN(3), RUN(4))
 
 /* It sent a packet with the identifier 7. */
-static void lend_peer(void)
+static void lend_peer(size_t i)
 {
-    uint8_t *peer = lend_drawn(4, MSCHAP_PEER_SIZE);
+    uint8_t *peer = lend(i, MSCHAP_PEER_SIZE);
     peer[0] = 1;
     peer[1] = 7;
 }
 
-static void lend_packet(uint8_t code, const char *data, size_t size)
-{
-    uint8_t *packet = lend_drawn(0, 4 + size);
-    packet[0] = code;
-    packet[1] = 7;
-    packet[2] = (uint8_t)((4 + size) >> 8);
-    packet[3] = (uint8_t)(4 + size);
-    memcpy(packet + 4, data, size);
-    lend_drawn(1, MSCHAP_FIELDS_SIZE);
-    lend_peer();
-}
-
 static void try_reply(uint8_t code, const char *data, size_t size, size_t expected)
 {
-    lend_packet(code, data, size);
+    memcpy(lend_packet(0, code, 4 + size) + 4, data, size);
+    lend(1, MSCHAP_FIELDS_SIZE);
+    lend_peer(2);
     TRY(mschap_read_reply, expected);
 }
+
+static void try_challenge(size_t size, size_t expected)
+{
+    lend_packet(0, 1, 4 + size)[4] = 8;
+    lend(1, MSCHAP_PEER_SIZE);
+    TRY(mschap_read_challenge, expected);
+}
+
+static void try_write_response(size_t password_size, size_t name_size, size_t expected)
+{
+    lend_peer(0);
+    lend(1, password_size);
+    lend(2, name_size);
+    lend(3, MSCHAP_RESPONSE_PACKET);
+    TRY(mschap_write_response, expected);
+}
+
+static void try_write_change(size_t old_size, size_t new_size, size_t room, size_t expected)
+{
+    lend_peer(0);
+    lend(1, old_size);
+    lend(2, new_size);
+    lend(3, MSCHAP_FILLER_SIZE);
+    lend(4, room);
+    TRY(mschap_write_change, expected);
+}
+
+static void try_peer(void)
+{
+    for (size_t n = 1; n <= 256; n++)
+        try_challenge(n, n < 9 ? MSCHAP_READING : MSCHAP_OK);
+    for (size_t n = 0; n <= 256; n++) {
+        try_write_response(2 * n, n, n == 0 ? MSCHAP_NAME : MSCHAP_OK);
+        try_write_response(2 * n + 1, 256, MSCHAP_INPUT);
+        try_write_change(2 * n, 512 - 2 * n, MSCHAP_CHANGE_PACKET, MSCHAP_OK);
+        try_write_change(512, 2 * n, MSCHAP_CHANGE_PACKET - 1, MSCHAP_ROOM);
+        try_write_change(2 * n, 2 * n + 1, MSCHAP_CHANGE_PACKET, MSCHAP_INPUT);
+    }
+}
+
+/* ---- the messages of a Failure */
+
+#define MESSAGE 256 /* octets, the most that are read */
 
 static size_t add(char *message, size_t n, const char *word)
 {
@@ -469,19 +532,22 @@ static size_t add(char *message, size_t n, const char *word)
     return n + strlen(word);
 }
 
-/* The four fields in an order, with as much text before one of them or behind them as there is room
-   for: copies of a piece. */
+/* The four fields in an order, with as much text before one of them, or behind all, as there is
+   room for: copies of a piece. */
 static void try_fields(const int *order, int place, const char *piece)
 {
-    static const char *const fields[] = {"E=9999999999 ", "R=1 ", "V=9999999999 ", "C=0123456789abcdef "};
-    char message[LONGEST_MESSAGE];
-    size_t n = 0, length = 0;
+    static const char *const fields[] = {"E=9999999999 ", "R=1 ", "V=9999999999 ",
+                                         "C=0123456789abcdef "};
+    char message[MESSAGE];
+    size_t n = 0, text = MESSAGE;
     for (int k = 0; k < 4; k++)
-        length += strlen(fields[k]);
+        text -= strlen(fields[k]);
     for (int k = 0; k < 5; k++) {
-        if (k == place)
-            for (size_t text = 0; text + length < LONGEST_MESSAGE; text++)
-                message[n++] = text + length + 1 < LONGEST_MESSAGE ? piece[text % strlen(piece)] : ' ';
+        if (k == place) {
+            for (size_t i = 0; i + 1 < text; i++)
+                message[n++] = piece[i % strlen(piece)];
+            message[n++] = ' ';
+        }
         if (k < 4)
             n = add(message, n, fields[order[k]]);
     }
@@ -491,19 +557,23 @@ static void try_fields(const int *order, int place, const char *piece)
 static void try_messages(void)
 {
     /* text: none of these has a field E, wherever it is cut */
-    static const char *const pieces[] = {" ",  "x",    "E",    "=",    "E=",   "E= ",      "E=a ", "x ",
-                                         "R=", "R=2 ", "V=1x", "C=0 ", "C=0g", "R=1 V=1 ", "\xff"};
-    static const char *const words[] = {"E=691", "R=1", "V=2",  "C=0123456789ABCDEF", "E=",   "x", "",
-                                        "R=2",   "V=",  "C=01", "C=0123456789ABCDEG", "E=1x", "=", "E"};
-    char message[LONGEST_MESSAGE + 1];
-    for (size_t p = 0; p < sizeof pieces / sizeof *pieces; p++) {
+    static const char *const pieces[] = {
+        " ", "x", "E", "=", "E=", "E= ", "E=a ", "x ", "R= ", "R=2 ", "V=1x", "C=0 ", "C=0g",
+        "R=1 ", "V=1 ", "\xff", "R=1 V=1 C=0123456789abcdef ",
+    };
+    static const char *const words[] = {
+        "E=691", "R=1", "V=2", "C=0123456789ABCDEF", "C=0123456789ABCDEG", "E=", "R=2", "V=",
+        "C=01", "E=1x", "x", "", "=", "E",
+    };
+    char message[MESSAGE + 1];
+    for (size_t p = 0; p < LENGTH(pieces); p++) {
         for (int order = 0; order < 256; order++) {
             int o[] = {order & 3, order >> 2 & 3, order >> 4 & 3, order >> 6};
             if ((1 << o[0] | 1 << o[1] | 1 << o[2] | 1 << o[3]) == 15)
                 for (int place = 0; place < 5; place++)
                     try_fields(o, place, pieces[p]);
         }
-        for (size_t n = 0; n <= LONGEST_MESSAGE + 1; n++) {
+        for (size_t n = 0; n <= MESSAGE + 1; n++) {
             for (size_t i = 0; i < n; i++)
                 message[i] = pieces[p][i % strlen(pieces[p])];
             try_reply(4, message, n, MSCHAP_READING);
@@ -511,15 +581,14 @@ static void try_messages(void)
     }
     for (int k = 0; k < DRAWN; k++) {
         size_t n = 0;
-        for (;;) {
-            const char *word = words[draw() % (sizeof words / sizeof *words)];
-            if (n + strlen(word) + 1 > LONGEST_MESSAGE)
-                break;
+        const char *word = "";
+        while (n + strlen(word) < MESSAGE) {
             n = add(message, n, word);
-            n = add(message, n, " ");
+            message[n++] = ' ';
+            word = words[draw() % LENGTH(words)];
         }
         try_reply(4, message, n, ANY);
-        for (n = 0; n < LONGEST_MESSAGE; n++)
+        for (n = 0; n < MESSAGE; n++)
             message[n] = k % 2 ? (char)draw() : " =ERVC019af"[draw() % 11];
         try_reply(4, message, n, ANY);
     }
@@ -527,63 +596,44 @@ static void try_messages(void)
     try_reply(1, "", 0, MSCHAP_READING);
 }
 
-static void try_peer(void)
+static void *try_all(void *unused)
 {
-    for (size_t n = 0; n <= LONGEST_MESSAGE; n++) {
-        char data[LONGEST_MESSAGE] = {8};
-        lend_packet(1, data, n);
-        TRY(mschap_read_challenge, n < 9 ? MSCHAP_READING : MSCHAP_OK);
-    }
-    for (size_t n = 0; n <= 257; n++) {
-        lend_peer();
-        lend_drawn(0, 2 * n);
-        lend_drawn(1, n);
-        lend_drawn(2, MSCHAP_RESPONSE_PACKET);
-        TRY(mschap_write_response, n > 256 ? MSCHAP_INPUT : n == 0 ? MSCHAP_NAME : MSCHAP_OK);
-        lend_drawn(1, 512 - (n > 256 ? 512 : 2 * n));
-        lend_drawn(2, MSCHAP_CHANGE_PACKET);
-        lend_drawn(3, MSCHAP_FILLER_SIZE);
-        TRY(mschap_write_change, n > 256 ? MSCHAP_INPUT : MSCHAP_OK);
-        lent[2].size--;
-        TRY(mschap_write_change, n > 256 ? MSCHAP_INPUT : MSCHAP_ROOM);
-    }
-}
-
-static void *try_all(void *how)
-{
-    make = *(void (**)(struct measured *))how;
+    drawn = 2433;
     try_ciphers();
     try_hashes();
     try_openings();
     try_steps();
-    try_names();
-    try_messages();
     try_peer();
-    return NULL;
+    try_messages();
+    return unused;
 }
 
 int main(void)
 {
-    void (*measured)(struct measured *) = measure, (*on_little)(struct measured *) = call_on_little;
-    void (*on_thread)(struct measured *) = call_here;
     pthread_attr_t smallest;
     pthread_t thread;
 
-    try_all(&measured);
+    make = measure;
+    try_all(NULL);
     for (size_t i = 0; i < count; i++)
-        printf("%s %zu\n", tried[i]->name, tried[i]->most);
+        printf("%s %zu\n", all[i]->name, all[i]->most);
     fflush(stdout);
 
-    little = mmap(NULL, PAGE + MSCHAP_STACK_SIZE, PROT_READ | PROT_WRITE, MAP_PRIVATE | MAP_ANONYMOUS, -1, 0);
-    if (little == MAP_FAILED || mprotect(little, PAGE, PROT_NONE)) {
-        printf("stack: no memory for a stack of %d octets\n", MSCHAP_STACK_SIZE);
+    /* below it a page that nobody may touch */
+    provided = mmap(NULL, PAGE + MSCHAP_STACK_SIZE, PROT_READ | PROT_WRITE,
+                    MAP_PRIVATE | MAP_ANONYMOUS, -1, 0);
+    if (provided == MAP_FAILED || mprotect(provided, PAGE, PROT_NONE)) {
+        printf("stack: no memory for a stack\n");
         return 1;
     }
-    little += PAGE;
-    try_all(&on_little);
+    provided += PAGE;
+    make = call_on_provided;
+    try_all(NULL);
 
+    make = call_here;
     pthread_attr_init(&smallest);
-    if (pthread_attr_setstacksize(&smallest, PTHREAD_STACK_MIN) || pthread_create(&thread, &smallest, try_all, &on_thread)) {
+    if (pthread_attr_setstacksize(&smallest, PTHREAD_STACK_MIN)
+        || pthread_create(&thread, &smallest, try_all, NULL)) {
         printf("stack: no thread with a stack of %ld octets\n", (long)PTHREAD_STACK_MIN);
         return 1;
     }

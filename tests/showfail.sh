@@ -47,9 +47,9 @@ same '  E=691   R=1 ' 'E 691\nR 1\nC -\nV 1\n'
 # a pipe that delivers the message in two pieces
 check 'two pieces' 'E 691\nR 1\nC -\nV 2\n' "$({ printf 'E=691 '; sleep 0.2; printf 'R=1 V=2'; } | "$program"; echo .)"
 
-# a field of each kind and text up to 256 octets, with little stack: 16 KiB are the least that a program
-# starts with
+# a field of each kind and text up to 256 octets, with a stack of 32 KiB: under 16 not even true starts
+long="E=691 R=1 V=2 C=0123456789abcdef$(spaces 224)"
 check 'a stack of 32 KiB' 'E 691\nR 1\nC 0123456789ABCDEF\nV 2\n' \
-    "$(printf "E=691 R=1 V=2 C=0123456789abcdef$(spaces 224)" | (ulimit -s 32; exec "$program"); echo .)"
+    "$(printf "$long" | (ulimit -s 32; exec "$program"); echo .)"
 
 echo "showfail: $count cases agree"

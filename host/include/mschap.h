@@ -30,9 +30,9 @@
  * STACK
  *   Provide MSCHAP_STACK_SIZE octets of stack for any call, whatever its input is. That is at least
  *   4 KiB more than any function takes: a test measures each on its worst inputs, and
- *   docs/PERFORMANCE.md has a row for each. The rest is for others: where memcpy and memset are bound
- *   at their first call, the loader runs there and takes about 3 KiB (none where the program is linked
- *   with -z now), and a signal's handler may run there.
+ *   docs/PERFORMANCE.md has a row for each. The rest is for others: where memcpy and memset are
+ *   bound at their first call, the loader runs there and takes about 3 KiB (none where the program
+ *   is linked with -z now), and a signal's handler may run there.
  */
 #ifndef MSCHAP_H
 #define MSCHAP_H

@@ -47,8 +47,8 @@ pub struct Reading {
     pub c: Given,
 }
 
-// Where a field begins in the message. One octet will do, as no message over 256 octets is read, and
-// each call of the reading states holds four places.
+// Where a field begins in the message. One octet will do, as no message over 256 octets is read,
+// and each call of the reading states holds four places.
 enum Place {
     At(u8),
     Nowhere,

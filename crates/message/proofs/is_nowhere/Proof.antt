@@ -1,5 +1,5 @@
--- `message::is_nowhere` meets its contract. (The check finds this proof by itself. It stands here so
--- that the edit `last_counts` is refused at the promise that it breaks.)
+-- `message::is_nowhere` meets its contract. (The check finds this proof by itself. It stands here
+-- so that the edit `last_counts` is refused at the promise that it breaks.)
 -- Assumes nothing.
 use borrow.Author.Needs.{needs}
 use Rattle.message.proofs.is_nowhere.Statement.{statement}
