@@ -3,8 +3,8 @@ use super::failures;
 use super::text;
 use message::Reading;
 use message::Verdict;
-use packets::Written;
 use peer::ChallengeRead;
+use peer::PacketWritten;
 use peer::Peer;
 use peer::Sent;
 use peer::Turn;
@@ -86,24 +86,24 @@ fn turn(line: &[u8], out: &mut [u8], at: usize) -> usize {
 
 // ---- what the peer writes
 
-fn put_packet(written: Written, packet: &[u8], out: &mut [u8], at: usize) -> usize {
+fn put_packet(wrote: PacketWritten, packet: &[u8], out: &mut [u8], at: usize) -> usize {
+    let written = wrote.written;
     let start = text::put(out, at, b" = ");
     text::put_written(out, start, written.refusal, written.length, packet)
 }
 
 // The Response of the peer's turn, into the packet.
-fn respond(line: &[u8], packet: &mut [u8]) -> Written {
+fn respond(line: &[u8], packet: &mut [u8]) -> PacketWritten {
     let mut password = [0u8; 1024];
     let n = text::decode(text::word(line, 3), &mut password);
     let mut name = [0u8; 1024];
     let k = text::decode(text::word(line, 4), &mut name);
-    let wrote = peer_in(line).write_response(&password[..n], &name[..k], packet);
-    wrote.written
+    peer_in(line).write_response(&password[..n], &name[..k], packet)
 }
 
 fn put_response(line: &[u8], packet: &mut [u8], out: &mut [u8], at: usize) -> usize {
-    let written = respond(line, packet);
-    put_packet(written, packet, out, at)
+    let wrote = respond(line, packet);
+    put_packet(wrote, packet, out, at)
 }
 
 // writeresponse ID CHALLENGE PASSWORD NAME BUFFER
@@ -114,20 +114,19 @@ fn response(line: &[u8], out: &mut [u8], at: usize) -> usize {
 }
 
 // The change of the peer's turn, into the packet.
-fn renew(line: &[u8], packet: &mut [u8]) -> Written {
+fn renew(line: &[u8], packet: &mut [u8]) -> PacketWritten {
     let mut old = [0u8; 1024];
     let n = text::decode(text::word(line, 3), &mut old);
     let mut new = [0u8; 1024];
     let k = text::decode(text::word(line, 4), &mut new);
     let mut filler = [0u8; 1024];
     let m = text::decode(text::word(line, 5), &mut filler);
-    let wrote = peer_in(line).write_change(&old[..n], &new[..k], &filler[..m], packet);
-    wrote.written
+    peer_in(line).write_change(&old[..n], &new[..k], &filler[..m], packet)
 }
 
 fn put_change(line: &[u8], packet: &mut [u8], out: &mut [u8], at: usize) -> usize {
-    let written = renew(line, packet);
-    put_packet(written, packet, out, at)
+    let wrote = renew(line, packet);
+    put_packet(wrote, packet, out, at)
 }
 
 // writechange ID CHALLENGE OLD NEW FILLER BUFFER
