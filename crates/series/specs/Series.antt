@@ -202,11 +202,11 @@ module _ (box : Box) (writer : Writer) where
   Claimed a p (other s) = Unit {0}
 
   -- "A single claim about the series from opening to end": the Challenge is read; each packet of
-  -- our peer is written and draws what it should; "with k invalid tries the box judges exactly k +
-  -- 1 packets, or k + 2 with the record expired", and the conversation has ended; of any steps at
-  -- all it judges at most r + 2, and a step whose packet it does not judge leaves all as it was. It
+  -- our peer is written and draws what it should; "with k invalid tries the box judges exactly
+  -- k + 1 packets, or k + 2 with the record expired", and the conversation has ended; of any steps
+  -- at all it judges at most r + 2, and a step whose packet it does not judge leaves all as it was. It
   -- holds of our box and writer (proofs/Demand3), and of none of the wrong ones in specs/Boxes and
-  -- specs/Writers (proofs/Wrong, WrongWriters).
+  -- specs/Writers (proofs/Wrong, WrongRefusals, WrongWriters).
   abbrev pub Demand3 : Type 0
   Demand3 =
       (o : Opening) → opened o .refusal ≡ 0 → length (o .challenge) ≡ 8
