@@ -126,7 +126,7 @@ extern "C" {
  * a caller may read it.
  *    0       a packet was written since the Challenge was read (mark)
  *    1       the identifier of the packet that was written last; of no effect before the first one
- *    2 ..  9 the challenge that the last Response answers; of no effect before the first packet
+ *    2 ..  9 the challenge of the last Response; of no effect before the first packet
  *   10       the identifier of the next packet
  *   11 .. 18 the challenge of the next packet
  *
@@ -270,8 +270,8 @@ uint32_t mschap_read_challenge(const uint8_t *packet, size_t packet_size,
    A reply that comes twice may be read twice: it says the same, and gives the same peer. A packet
    that is refused changes nothing; so an old reply, which is refused by 5, does no harm.
    Returns 0; 3 for a bad frame; 5 for another identifier than that of the packet that was written
-   last, and where none was written; 11 for another kind of packet, or a message that cannot be read;
-   100 unless peer holds a peer and fields has 35 octets. */
+   last, or where none was written; 11 for another kind of packet, or a message that cannot be read;
+   100 unless peer has 19 octets, the first 0 or 1, and fields has 35. */
 uint32_t mschap_read_reply(uint8_t *peer, size_t peer_size,
                            const uint8_t *packet, size_t packet_size,
                            uint8_t *fields, size_t fields_size);
@@ -279,7 +279,7 @@ uint32_t mschap_read_reply(uint8_t *peer, size_t peer_size,
 /* Writes the peer's (19) Response by an NT password, with a name of 1 to 256 octets, at the front of
    out. The packet has 54 octets more than its name; what lay behind it stays.
    Returns 0; 8 for the password (as mschap_nt_hash); 10 for the name; 9 for too little room; 100
-   unless peer holds a peer. */
+   unless peer has 19 octets, the first 0 or 1. */
 uint32_t mschap_write_response(uint8_t *peer, size_t peer_size,
                                const uint8_t *password, size_t password_size,
                                const uint8_t *name, size_t name_size,
@@ -289,7 +289,7 @@ uint32_t mschap_write_response(uint8_t *peer, size_t peer_size,
    1,118 octets. filler (512) fills the block that hides the new password's length: pass octets that
    are unpredictable, from a cryptographic random number generator.
    Returns 0; 8 for either password; 12 for a filler of another size than 512; 9 for too little room;
-   100 unless peer holds a peer. */
+   100 unless peer has 19 octets, the first 0 or 1. */
 uint32_t mschap_write_change(uint8_t *peer, size_t peer_size,
                              const uint8_t *old_password, size_t old_password_size,
                              const uint8_t *new_password, size_t new_password_size,

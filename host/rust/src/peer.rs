@@ -43,8 +43,8 @@ pub enum Reading {
 }
 
 impl Peer {
-    /// Reads a Challenge: the peer that is to answer it. Read no reply before it has written a
-    /// packet.
+    /// Reads a Challenge: the peer that is to answer it. Before it has written a packet, every reply
+    /// is refused.
     pub fn read_challenge(packet: &[u8]) -> Result<Peer, Refusal> {
         let mut peer = [0; sys::PEER_SIZE];
         Refusal::check(sys::read_challenge(packet, &mut peer))?;

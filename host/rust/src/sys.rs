@@ -45,6 +45,9 @@ pub const REPLY_SIZE: usize = 17;
 pub const RESPONSE_PACKET: usize = 310;
 /// Octets of every change.
 pub const CHANGE_PACKET: usize = 1118;
+/// Octets of stack that any call of the library may take, with room for the loader and a signal's
+/// handler.
+pub const STACK_SIZE: usize = 12288;
 
 /// The C interface itself. Each pointer goes with the size behind it.
 pub mod raw {

@@ -272,6 +272,19 @@ fn peers() {
     misfits(19, |peer| {
         sys::write_change(peer, b"", b"", &[0; 512], &mut out)
     });
+    // a mark that is neither 0 nor 1
+    for value in 2..=255 {
+        let mut peer = PEER;
+        peer[0] = value;
+        let (before, mut fields) = (peer, [FILL; 35]);
+        let numbers = [
+            sys::read_reply(&mut peer, &success, &mut fields),
+            sys::write_response(&mut peer, b"", b"u", &mut out),
+            sys::write_change(&mut peer, b"", b"", &[0; 512], &mut out),
+        ];
+        assert_eq!(numbers, [sys::MISFIT; 3]);
+        assert_eq!((peer, fields), (before, [FILL; 35]));
+    }
     // a filler of another size is refused by 12, behind the passwords and before the room
     for size in [0, 1, 511, 513, 1024] {
         let filler = vec![0; size];

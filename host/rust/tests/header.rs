@@ -34,6 +34,7 @@ fn sizes() {
         ("REPLY_SIZE", sys::REPLY_SIZE),
         ("RESPONSE_PACKET", sys::RESPONSE_PACKET),
         ("CHANGE_PACKET", sys::CHANGE_PACKET),
+        ("STACK_SIZE", sys::STACK_SIZE),
         ("OK", sys::OK as usize),
         ("MISFIT", sys::MISFIT as usize),
     ];
