@@ -1,10 +1,10 @@
 //! The readers: Challenge, reply, Failure message, and the parts of a name.
 
-use crate::both::{our_reading, Peers};
+use crate::both::{our_reading, plain, Peers};
 use crate::packets;
 use crate::random::Random;
 use crate::run::{run, Seen};
-use mschap::sys;
+use mschap::{sys, Peer};
 use reference::packet;
 
 fn challenge(random: &mut Random, seen: &mut Seen) {
@@ -42,6 +42,20 @@ fn message(random: &mut Random, seen: &mut Seen) {
     let peers = Peers::drawn(random);
     let packet = packets::failure(random, peers.last());
     reply_to(peers, &packet, seen);
+}
+
+/// A reply to a peer that sent nothing. The octets that stand for its last packet are drawn, and the
+/// reply has their identifier: they have no effect, and stay.
+fn early(random: &mut Random, seen: &mut Seen) {
+    let mut octets: [u8; sys::PEER_SIZE] = random.array();
+    octets[0] = 0;
+    let mut packet = packets::failure(random, octets[1]);
+    packets::damage(random, &mut packet);
+    let refusal = packet::frame(&packet).err().unwrap_or(5);
+    let mut peer = Peer::from_octets(octets).expect("a peer");
+    assert_eq!(plain(peer.read_reply(&packet)), Err(refusal), "{packet:?}");
+    assert_eq!(peer.octets(), &octets);
+    seen.note(format!("early reply refused {refusal}"));
 }
 
 fn name(random: &mut Random, seen: &mut Seen) {
@@ -90,11 +104,14 @@ fn place(packet: &[u8], home: &[u8], part: &[u8]) -> (usize, usize) {
 
 #[test]
 fn readers_agree() {
-    let seen = run("readers", 2_000_000, |random, seen| match random.below(4) {
-        0 => challenge(random, seen),
-        1 => reply(random, seen),
-        2 => message(random, seen),
-        _ => name(random, seen),
+    let seen = run("readers", 2_000_000, |random, seen| {
+        match random.below(20) {
+            0 => early(random, seen),
+            1..=5 => challenge(random, seen),
+            6..=10 => reply(random, seen),
+            11..=15 => message(random, seen),
+            _ => name(random, seen),
+        }
     });
     seen.expect(&[
         "challenge read",
@@ -108,6 +125,8 @@ fn readers_agree() {
         "reply refused 3",
         "reply refused 5",
         "reply refused 11",
+        "early reply refused 3",
+        "early reply refused 5",
         "name: no Response",
         "name: home domain",
         "name: empty domain",
