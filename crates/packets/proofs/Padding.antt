@@ -2,7 +2,7 @@
 -- good frame, cut at its Length with any octets behind, is read as the packet is, by every reader
 -- and whatever the packet holds.
 -- Assumes nothing.
-use mathlib.Core.Bool.{Bool, true, false, cond, not, _||_}
+use mathlib.Core.Bool.{Bool, true, false, cond, not, _||_, true≢false}
 use mathlib.Core.List.{List, [], _∷_, _++_}
 use mathlib.Core.Path.{_≡_, refl, sym, ap, ap₂, _∙_}
 use Prim.Native.Nat.{ℕ, _+_, _-_, _≤_, _<_}
@@ -74,9 +74,9 @@ chosen : {A : Type 0} (t : Bool) (a b c : A) → (t ≡ false → b ≡ c) → c
 chosen true a b c h = refl
 chosen false a b c h = h refl
 
-or-false : (t u : Bool) → (t || u) ≡ false → (t ≡ false) × (u ≡ false)
-or-false true u e = absurd (let z : _≡_ {A = ℕ} 0 1 = cc in omega arith)
-or-false false u e = (refl, e)
+pub or-false-both : (t u : Bool) → (t || u) ≡ false → (t ≡ false) × (u ≡ false)
+or-false-both true u e = absurd (true≢false e)
+or-false-both false u e = (refl, e)
 
 -- ---- every reader
 
@@ -111,8 +111,8 @@ module _ (p q : List ℕ) (s : SamePacket p q) where
 
       fields : badChallenge p ≡ false → fieldsOf q ≡ fieldsOf p
       fields h =
-          let t = or-false (not (eqb (octet 0 p) 1)) (ltb (lengthOf p) (5 + 8) || not (eqb (octet 4 p) 8)) h in
-          let long = ltb-false (lengthOf p) 13 (or-false (ltb (lengthOf p) (5 + 8)) (not (eqb (octet 4 p) 8)) (t .1) .0) in
+          let t = or-false-both (not (eqb (octet 0 p) 1)) (ltb (lengthOf p) (5 + 8) || not (eqb (octet 4 p) 8)) h in
+          let long = ltb-false (lengthOf p) 13 (or-false-both (ltb (lengthOf p) (5 + 8)) (not (eqb (octet 4 p) 8)) (t .1) .0) in
           asked-same refl same-id (ap (fixed 8) (s .parts 5 8 (omega (arith, long))))
 
   -- a reply
@@ -128,7 +128,7 @@ module _ (p q : List ℕ) (s : SamePacket p q) where
       (λ h. ap (λ (i : ℕ). ltb 310 (lengthOf p) || not (eqb i 49)) (s .octets 4 (omega (arith, ltb-false (lengthOf p) 55 h))))
 
   response-long : badResponseSize p ≡ false → 55 ≤ lengthOf p
-  response-long h = ltb-false (lengthOf p) 55 (or-false (ltb (lengthOf p) 55) _ h .0)
+  response-long h = ltb-false (lengthOf p) 55 (or-false-both (ltb (lengthOf p) 55) _ h .0)
 
   response-flag : badResponseSize p ≡ false → badResponseFlag q ≡ badResponseFlag p
   response-flag h = ap (ltb 1) (s .octets 53 (omega (arith, response-long h)))
@@ -153,9 +153,9 @@ module _ (p q : List ℕ) (s : SamePacket p q) where
 
   fit-name : isUnfit p ≡ false → nameIn q ≡ nameIn p
   fit-name h =
-      let t = or-false (badFrame p) _ h in
-      let u = or-false (not (eqb (octet 0 p) 2)) _ (t .1) in
-      let long = response-long (or-false (badResponseSize p) _ (u .1) .0) in
+      let t = or-false-both (badFrame p) _ h in
+      let u = or-false-both (not (eqb (octet 0 p) 2)) _ (t .1) in
+      let long = response-long (or-false-both (badResponseSize p) _ (u .1) .0) in
       ap (λ (n : ℕ). part 54 (n - 54) q) same-length ∙ s .parts 54 (lengthOf p - 54) (omega (arith, long))
 
   -- whatever is made of the name and of Length, where the packet is fit

@@ -1,7 +1,7 @@
 -- What our peer's writers leave in their output buffers: where a writer refuses nothing, the packet stands at the front, and what was lent met the
 -- rules of its refusals.
 -- Assumes nothing.
-use mathlib.Core.Bool.{Bool, true, false, cond, _||_, true≢false}
+use mathlib.Core.Bool.{Bool, true, false, cond, _||_}
 use mathlib.Core.List.{List}
 use mathlib.Core.Logic.{_≢_}
 use mathlib.Core.Path.{_≡_, refl, sym, ap, _∙_}
@@ -14,6 +14,7 @@ use Rattle.credentials.specs.Credentials.{badNtPassword, badFiller}
 use Rattle.credentials.proofs.Laws.{good-password}
 use Rattle.packets.specs.Response.{badName, responseWriteRefusal}
 use Rattle.packets.specs.Change.{changeWriteRefusal}
+use Rattle.packets.proofs.Padding.{or-false-both}
 use Rattle.packets.proofs.Writing.{taken, good-name}
 use Rattle.peer.specs.Write.{responseFor, changeFor, writeResponseRefusal, writeChangeRefusal, Wrote, wroteBy, writeResponse, writeChange}
 use Rattle.peer.specs.declared.Turn.{Turn}
@@ -41,10 +42,6 @@ all-false true t₂ t₃ a b c x y z e = absurd (x e)
 all-false false true t₃ a b c x y z e = absurd (y e)
 all-false false false true a b c x y z e = absurd (z e)
 all-false false false false a b c x y z e = (refl, refl, refl)
-
-or-false-both : (a b : Bool) → (a || b) ≡ false → (a ≡ false) × (b ≡ false)
-or-false-both true b h = absurd (true≢false h)
-or-false-both false b h = (refl, h)
 
 positive : (n : ℕ) → 1 ≤ n → n ≢ 0
 positive n h e = omega arith
