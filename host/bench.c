@@ -202,12 +202,13 @@ static void open_few(struct work *w, long calls)
 static void read_failure(struct work *w, long calls)
 {
     static uint8_t packet[4 + MESSAGE] = {4, 7, (4 + MESSAGE) >> 8, (4 + MESSAGE) & 255};
-    uint8_t fields[MSCHAP_FIELDS_SIZE];
+    uint8_t peer[MSCHAP_PEER_SIZE] = {1}, fields[MSCHAP_FIELDS_SIZE];
     for (size_t i = 0; i < MESSAGE; i++)
         packet[4 + i] = (uint8_t)"words "[i % 6];
     memcpy(packet + 4, "E=691 R=1 V=2 ", 14);
     while (calls-- > 0) {
-        w->wrong |= mschap_read_reply(packet[1], packet, sizeof packet, fields, sizeof fields);
+        peer[1] = packet[1];
+        w->wrong |= mschap_read_reply(peer, sizeof peer, packet, sizeof packet, fields, sizeof fields);
         w->wrong |= fields[8] != 691 >> 8;
         packet[1] = (uint8_t)(packet[1] + fields[9]);
     }

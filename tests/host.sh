@@ -26,6 +26,11 @@ $run "$example" > "$example.txt"
 diff host/example.txt "$example.txt"
 echo "host: no writable data; the example in C prints what it should (${run:-without valgrind})"
 
+# make test does not run the benchmark, but it follows the header.
+${CC:-cc} -std=c11 -O2 -Wall -Wextra -Werror -pedantic -I host/include host/bench.c "$archive" \
+    -o target/host-bench
+echo 'host: the benchmark compiles'
+
 for name in $(sed -nE 's/^(uint32_t|size_t) (mschap_[a-z0-9_]+)\(.*/\2/p' "$header"); do
     grep -q "$name(" host/bad_lengths.c || { echo "host: bad_lengths.c does not call $name"; exit 1; }
 done
