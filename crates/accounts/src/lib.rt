@@ -1,0 +1,120 @@
+// Account records: what one holds, what a lookup found, and the only functions that make or update
+// one. Whoever reads a record, from a file or from C, makes it by these.
+ghost use mathlib.Core.Path.{_≡_};
+ghost use Rattle.accounts.specs.Account.{
+  noHash,
+  hashOf,
+  hashIf,
+  accountOf,
+  blankAccount,
+  notFound,
+  found,
+  lookupOf,
+  changed,
+};
+
+// A hash, or none: what stands in the octets of an absent hash has no effect.
+pub struct Hash {
+    pub present: bool,
+    pub octets: [u8; 16],
+}
+
+// An account record: an NT hash or none, an LM hash or none, and document 01's four marks: disabled,
+// barred by hours, no dial-in, expired.
+pub struct Account {
+    pub nt: Hash,
+    pub lm: Hash,
+    pub disabled: bool,
+    pub hours_denied: bool,
+    pub dialin_denied: bool,
+    pub expired: bool,
+}
+
+// The record of the named account, or none: the account has no effect unless it was found.
+pub struct Lookup {
+    pub found: bool,
+    pub account: Account,
+}
+
+// ---- made
+
+pub fn hash_if(present: bool, octets: [u8; 16]) -> Hash
+    ensures { λ r. ⌜ r ≡ hashIf present octets ⌝ }
+{
+    Hash { present, octets }
+}
+
+pub fn hash_of(octets: [u8; 16]) -> Hash
+    ensures { λ r. ⌜ r ≡ hashOf octets ⌝ }
+{
+    hash_if(true, octets)
+}
+
+pub fn no_hash() -> Hash
+    ensures { λ r. ⌜ r ≡ noHash ⌝ }
+{
+    hash_if(false, [0; 16])
+}
+
+pub fn account_of(
+    nt: Hash,
+    lm: Hash,
+    disabled: bool,
+    hours: bool,
+    dialin: bool,
+    expired: bool,
+) -> Account
+    ensures { λ r. ⌜ r ≡ accountOf nt lm disabled hours dialin expired ⌝ }
+{
+    Account {
+        nt,
+        lm,
+        disabled,
+        hours_denied: hours,
+        dialin_denied: dialin,
+        expired,
+    }
+}
+
+// Neither hash, no mark.
+pub fn blank_account() -> Account
+    ensures { λ r. ⌜ r ≡ blankAccount ⌝ }
+{
+    account_of(no_hash(), no_hash(), false, false, false, false)
+}
+
+// ---- looked up
+
+pub fn lookup_of(found: bool, account: Account) -> Lookup
+    ensures { λ r. ⌜ r ≡ lookupOf found account ⌝ }
+{
+    Lookup { found, account }
+}
+
+pub fn found(account: Account) -> Lookup
+    ensures { λ r. ⌜ r ≡ found account ⌝ }
+{
+    lookup_of(true, account)
+}
+
+pub fn not_found() -> Lookup
+    ensures { λ r. ⌜ r ≡ notFound ⌝ }
+{
+    lookup_of(false, blank_account())
+}
+
+// ---- updated
+
+// The record after an accepted change of the password.
+pub fn changed(account: Account, hash: [u8; 16]) -> Account
+    ensures { λ r. ⌜ r ≡ changed account hash ⌝ }
+{
+    account_of(
+        hash_of(hash),
+        no_hash(),
+        account.disabled,
+        account.hours_denied,
+        account.dialin_denied,
+        false,
+    )
+}
