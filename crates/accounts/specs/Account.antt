@@ -3,6 +3,7 @@
 -- Assumes nothing: these are definitions.
 use mathlib.Core.Bool.{Bool, true, false}
 use mathlib.Core.List.{List}
+use mathlib.Core.Option.{Option, none, some}
 use mathlib.Core.Path.{_≡_}
 use Prim.Native.Nat.{ℕ}
 use lib.ListN.{replicate}
@@ -20,6 +21,10 @@ hashOf h = hashIf true h
 
 abbrev pub noHash : Hash
 noHash = hashIf false (replicate 16 0)
+
+abbrev pub hashFrom : Option (List ℕ) → Hash
+hashFrom none = noHash
+hashFrom (some h) = hashOf h
 
 -- NT hash, LM hash, and the marks disabled, barred by hours, no dial-in, expired
 abbrev pub accountOf : Hash → Hash → Bool → Bool → Bool → Bool → Account

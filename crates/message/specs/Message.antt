@@ -8,6 +8,7 @@ use Prim.Native.Nat.{ℕ, _+_, _*_, _/_, _%_}
 use lib.Dec.{eqb, leb, ltb}
 use lib.ListN.{length, drop, replicate}
 use Rattle.octets.specs.Digits.{digitOf, hexOf}
+use Rattle.message.specs.Reasons.{authenticationFailure, passwordExpired}
 use Rattle.message.specs.declared.Call.{Call}
 use Rattle.message.specs.declared.Call.the-variants.{Retry, ChangeTwo, ChangeOne, End}
 use Rattle.message.specs.declared.Verdict.{Verdict}
@@ -90,10 +91,10 @@ pairs (x ∷ y ∷ ds) = (x * 16 + y) ∷ pairs ds
 
 -- when a failure with the fields E, R and V calls for each of these
 abbrev pub callFits : Call → ℕ → ℕ → ℕ → Bool
-callFits Retry e r v = eqb e 691 && eqb r 1
-callFits ChangeTwo e r v = eqb e 648 && leb 2 v
-callFits ChangeOne e r v = eqb e 648 && ltb v 2
-callFits End e r v = not (eqb e 691 && eqb r 1 || eqb e 648)
+callFits Retry e r v = eqb e authenticationFailure && eqb r 1
+callFits ChangeTwo e r v = eqb e passwordExpired && leb 2 v
+callFits ChangeOne e r v = eqb e passwordExpired && ltb v 2
+callFits End e r v = not (eqb e authenticationFailure && eqb r 1 || eqb e passwordExpired)
 
 unfoldable pub calledFor : ℕ → ℕ → ℕ → Call
 calledFor e r v =

@@ -1,4 +1,6 @@
 // The message of a Failure packet (RFC 2433, section 8): what the peer reads in it, and the text that the authenticator writes.
+pub mod reasons;
+
 ghost use mathlib.Core.Path.{_≡_};
 ghost use mathlib.Core.Bool.{true};
 ghost use mathlib.Core.List.{map};
@@ -325,13 +327,13 @@ fn given_at(message: &[u8], place: Place) -> Given
 fn called_for(e: u64, r: u64, v: u64) -> Call
     ensures { λ k. ⌜ k ≡ calledFor e r v ⌝ }
 {
-    if e == 691 {
+    if e == reasons::AUTHENTICATION_FAILURE as u64 {
         if r == 1 {
             return Call::Retry;
         }
         return Call::End;
     }
-    if e == 648 {
+    if e == reasons::PASSWORD_EXPIRED as u64 {
         if 2 <= v {
             return Call::ChangeTwo;
         }

@@ -1,4 +1,4 @@
--- `authenticator::responses::chosen_response` meets its contract.
+-- `verify::responses::chosen_hash` meets its contract.
 -- Assumes nothing.
 use borrow.Author.Needs.{needs}
 use mathlib.Core.Path.{_≡_, ap, _∙_}
@@ -7,8 +7,8 @@ use mathlib.Core.List.{List}
 use Prim.Native.Nat.{ℕ}
 use lib.ListN.{length}
 use Rattle.octets.proofs.Laid.{filled}
-use Rattle.authenticator.proofs.responses.chosen_response.Statement.{statement}
-use Rattle.authenticator.proofs.responses.chosen_response.Tie as tie
+use Rattle.verify.proofs.responses.chosen_hash.Statement.{statement}
+use Rattle.verify.proofs.responses.chosen_hash.Tie as tie
 
 same-lengths : (c : tie.Start) → length (c .args .other) ≡ length (c .args .t3)
 same-lengths c = search needs
@@ -20,6 +20,6 @@ returns c =
     let whole = filled (a .t3) (a .other) (same-lengths s) in
     c .before .copy-if-both .ensures ∙ ap (λ (x : List ℕ). cond (a .a && a .b) x (a .other)) whole
 
-pub chosen-response-spec : {M : Type 1} → statement M
-chosen-response-spec =
+pub chosen-hash-spec : {M : Type 1} → statement M
+chosen-hash-spec =
     tie.close (tie.spec (λ c. search needs) (λ c. search needs) (λ c κs. search needs) returns)

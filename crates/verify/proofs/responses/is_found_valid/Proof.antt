@@ -1,4 +1,4 @@
--- `authenticator::Conversation::is_found_and_valid` meets its contract: one hash and one response
+-- `verify::responses::is_found_valid` meets its contract: one hash and one response
 -- are chosen first, and what the definition asks of either is asked of the chosen ones.
 -- Assumes nothing.
 use borrow.Author.Needs.{needs}
@@ -9,10 +9,9 @@ use Prim.Native.Nat.{ℕ}
 use lib.Dec.{eqb}
 use Rattle.octets.specs.Parts.{agrees}
 use Rattle.credentials.specs.Credentials.{responseOf}
-use Rattle.authenticator.specs.Account.{answers}
-use Rattle.authenticator.specs.Response.{valid}
-use Rattle.authenticator.proofs.Conversation.is_found_and_valid.Statement.{statement}
-use Rattle.authenticator.proofs.Conversation.is_found_and_valid.Tie as tie
+use Rattle.verify.specs.Response.{answers, valid}
+use Rattle.verify.proofs.responses.is_found_valid.Statement.{statement}
+use Rattle.verify.proofs.responses.is_found_valid.Tie as tie
 
 by-lm : (found lm q t : Bool) → ((found && (lm && q)) && t) ≡ (found && (lm && (q && t)))
 by-lm found lm q t =
@@ -32,13 +31,12 @@ unfolding valid answers
 returns c =
     let e = c .before .before .before .before .before in
     let g = e .before .before in
-    let s = g .before .before .before .before .before .before .before in
-    let a = s .before .before .before .before .args in
-    let challenge = a .self .challenge in
+    let a = g .before .before .before .before .before .before .before .before .before .args in
+    let challenge = a .challenge in
     let flagged = eqb (a .fields .flag) 1 in
     let nt = a .lookup .account .nt in
     let lm = a .lookup .account .lm in
-    let allowed = a .self .terms .lm in
+    let allowed = a .terms .lm in
     let found = a .lookup .found in
     let counts = (flagged && nt .present) || (allowed && lm .present) in
     let answer : Bool → List ℕ = λ b. cond b (a .fields .nt) (a .fields .lm) in
@@ -50,8 +48,8 @@ returns c =
     ∙ ap (λ (x : List ℕ). responseOf x challenge) (g .chosen-hash .ensures))
     ∙ chosen-first flagged (nt .present) found allowed (lm .present) of
 
-pub is-found-and-valid-spec : {M : Type 1} → statement M
-is-found-and-valid-spec =
+pub is-found-valid-spec : {M : Type 1} → statement M
+is-found-valid-spec =
     tie.close
     (tie.spec
     (λ c κs. search needs) (λ c κs. search needs) (λ c κs. search needs) (λ c. search needs)

@@ -1,0 +1,3 @@
+pub mod NewHash
+pub mod Accepted
+pub mod Reasons

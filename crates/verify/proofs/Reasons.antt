@@ -1,0 +1,67 @@
+-- The reasons that a Response draws: which there are, and which an invalid and a rightful user's
+-- valid one draw.
+-- Assumes nothing.
+use mathlib.Core.Bool.{Bool, true, false, cond, not}
+use mathlib.Core.List.{List}
+use mathlib.Core.Path.{_≡_}
+use Prim.Native.Nat.{ℕ, _<_}
+use native.Mathlib.Omega.{arith}
+use Rattle.accounts.specs.Account.{found, Rightful}
+use Rattle.accounts.specs.declared.Account.{Account}
+use Rattle.accounts.specs.declared.Lookup.{Lookup}
+use Rattle.message.specs.Reasons.{
+    authenticationFailure, accountDisabled, restrictedLogonHours, noDialinPermission, passwordExpired, changingPassword, noReason
+}
+use Rattle.packets.specs.declared.Response.{Response}
+use Rattle.verify.specs.Response.{valid, foundValid, firstReason, responseReason}
+use Rattle.verify.specs.declared.Terms.{Terms}
+
+-- RFC 2433's six, and Success
+pub data Reason : ℕ → Type 0 where
+  success : Reason noReason
+  hours : Reason restrictedLogonHours
+  disabled : Reason accountDisabled
+  expired : Reason passwordExpired
+  dialin : Reason noDialinPermission
+  invalid : Reason authenticationFailure
+  change : Reason changingPassword
+
+-- so a message of three decimal digits tells each
+pub three-digits : {e : ℕ} → Reason e → e < 1000
+three-digits success = omega arith
+three-digits hours = omega arith
+three-digits disabled = omega arith
+three-digits expired = omega arith
+three-digits dialin = omega arith
+three-digits invalid = omega arith
+three-digits change = omega arith
+
+first-reason : (v : Bool) (a : Account) → Reason (firstReason v a)
+unfolding firstReason
+first-reason v a = which v (a .disabled) (a .«hours_denied») (a .«dialin_denied») (a .expired)
+  where
+    which : (v d h n x : Bool)
+        → Reason (cond (not v) authenticationFailure (cond d accountDisabled (cond h restrictedLogonHours (cond n noDialinPermission (cond x passwordExpired noReason)))))
+    which false d h n x = invalid
+    which true true h n x = disabled
+    which true false true n x = hours
+    which true false false true x = dialin
+    which true false false false true = expired
+    which true false false false false = success
+
+module _ (t : Terms) (challenge : List ℕ) (f : Response) where
+  pub response-reason : (l : Lookup) → Reason (responseReason t challenge l f)
+  unfolding responseReason
+  response-reason l = first-reason _ _
+
+  -- no record, or an invalid Response
+  pub reason-invalid : (l : Lookup) → foundValid t challenge l f ≡ false
+      → responseReason t challenge l f ≡ authenticationFailure
+  unfolding responseReason firstReason
+  reason-invalid l v = rw v
+
+  -- a valid one of a rightful user
+  pub rightful-reason : (a : Account) → Rightful a → valid t challenge a f ≡ true
+      → responseReason t challenge (found a) f ≡ cond (a .expired) passwordExpired noReason
+  unfolding responseReason firstReason
+  rightful-reason a g v = rw (v, g .enabled, g .hours, g .dialin)
