@@ -11,7 +11,7 @@ use lib.Dec.{eqb, ltb}
 use Rattle.octets.specs.Parts.{agrees}
 use Rattle.octets.proofs.Parts.{agrees-refl}
 use Rattle.issued.specs.Issued.{holds}
-use Rattle.packets.specs.Next.{grown, succession}
+use Rattle.challenges.specs.Challenges.{incremented, challengesFrom}
 use Rattle.packets.specs.Response.{responseIn}
 use Rattle.packets.specs.declared.Response as fields
 use Rattle.packets.specs.declared.Change as changes
@@ -30,17 +30,17 @@ use Rattle.authenticator.proofs.Steps.{judged-step, number-step, refuse
 
 -- x is the challenge in force, or can be after a retry
 abbrev pub CanBeInForce : Conversation → List ℕ → Type 0
-CanBeInForce c x = holds (succession (suc (c .retries)) (c .challenge)) x ≡ true
+CanBeInForce c x = holds (challengesFrom (suc (c .retries)) (c .challenge)) x ≡ true
 
 pub now-in-force : (c : Conversation) → CanBeInForce c (c .challenge)
-unfolding holds succession
-now-in-force c = ap (λ (t : Bool). t || holds (succession (c .retries) (grown (c .challenge))) (c .challenge)) (agrees-refl (c .challenge))
+unfolding holds challengesFrom
+now-in-force c = ap (λ (t : Bool). t || holds (challengesFrom (c .retries) (incremented (c .challenge))) (c .challenge)) (agrees-refl (c .challenge))
 
 retried-adds-none : (c : Conversation) (x : List ℕ) → 0 < c .retries → CanBeInForce (retried c) x → CanBeInForce c x
-unfolding holds succession
+unfolding holds challengesFrom
 retried-adds-none c x more h =
     let e : suc (c .retries - 1) ≡ c .retries = omega arith in
-    ap (λ (t : Bool). agrees (c .challenge) x || t) (subst (λ (n : ℕ). holds (succession n (grown (c .challenge))) x ≡ true) e h) ∙ or-true (agrees (c .challenge) x)
+    ap (λ (t : Bool). agrees (c .challenge) x || t) (subst (λ (n : ℕ). holds (challengesFrom n (incremented (c .challenge))) x ≡ true) e h) ∙ or-true (agrees (c .challenge) x)
 
 after-adds-none : (c : Conversation) (a : Account) (e : ℕ) (x : List ℕ) → CanBeInForce (afterReason c a e) x → CanBeInForce c x
 after-adds-none c a e x = which (eqb e 691) (ltb 0 (c .retries)) (eqb e 648) refl

@@ -15,12 +15,12 @@ use Rattle.issued.proofs.Listing.{Wide}
 use Rattle.issued.proofs.Spending.{accepted, accepts, empty-accepts, same-issued, spent-added, spent-listed, spent-holds, spent-keeps, spent-true, spent-sound}
 use Rattle.packets.specs.Frame.{headed}
 use Rattle.packets.specs.Reply.{challengePacket}
-use Rattle.packets.proofs.Growing.{length-succession}
+use Rattle.challenges.proofs.Laid.{length-challenges-from}
 use Rattle.packets.proofs.Writing.{taken}
 use Rattle.authenticator.specs.Conversation.{closed}
 use Rattle.authenticator.specs.Opening.{Opening, retriesOf, badRoom, spends, openRefusal, openedIssued, firstConversation, openingPacket, openedBy, opened, openedBuffer, Opens}
 use Rattle.authenticator.specs.declared.Opened.{Opened}
-use Rattle.authenticator.proofs.Spends.{succession-wide, succession-distinct}
+use Rattle.authenticator.proofs.Spends.{challenges-wide, challenges-distinct}
 
 -- the answer's number is the refusal
 pub opened-number : (o : Opening) → opened o .refusal ≡ openRefusal o
@@ -91,7 +91,7 @@ module _ (o : Opening) where
 
   module _ (eight : length (o .challenge) ≡ 8) where
     wide : Wide 8 (spends o)
-    wide = succession-wide (suc (retriesOf (o .retries))) (o .challenge) eight
+    wide = challenges-wide (suc (retriesOf (o .retries))) (o .challenge) eight
 
     -- all that it spends is added, in that order
     pub opened-listed : opened o .refusal ≡ 0 → listed 8 (openedIssued o) ≡ listed 8 (o .issued) ++ spends o
@@ -125,7 +125,7 @@ module _ (o : Opening) where
     pub opened-distinct : opened o .refusal ≡ 0 → Distinct (spends o)
     opened-distinct ok =
         let few = ltb-false 7 (retriesOf (o .retries)) (passed ok .0) in
-        succession-distinct (suc (retriesOf (o .retries))) (o .challenge) (omega arith) (omega arith)
+        challenges-distinct (suc (retriesOf (o .retries))) (o .challenge) (omega arith) (omega arith)
 
 -- ---- what is not refused
 
@@ -139,13 +139,13 @@ module _ (o : Opening) (few : retriesOf (o .retries) ≤ 7) (room : 17 ≤ lengt
       → meets (spends o) (listed 8 (o .issued)) ≡ false → o .issued .used + suc (retriesOf (o .retries)) ≤ places 8 (o .issued .buffer)
       → opened o .refusal ≡ 0
   may-open sound counts fresh left =
-      may-open-by (accepts 8 (spends o) (o .issued) sound counts fresh (omega (arith, length-succession (suc (retriesOf (o .retries))) (o .challenge))))
+      may-open-by (accepts 8 (spends o) (o .issued) sound counts fresh (omega (arith, length-challenges-from (suc (retriesOf (o .retries))) (o .challenge))))
 
   -- on an empty one, whatever lies in its places
   pub may-open-empty : badBuffer 8 (o .issued .buffer) (o .issued .used) ≡ false → o .issued .used ≡ 0 → o .issued .counts ≡ replicate 256 0
       → suc (retriesOf (o .retries)) ≤ places 8 (o .issued .buffer) → opened o .refusal ≡ 0
   may-open-empty sound none zeros left =
-      may-open-by (empty-accepts 8 (spends o) (o .issued) sound none zeros (omega (arith, length-succession (suc (retriesOf (o .retries))) (o .challenge))))
+      may-open-by (empty-accepts 8 (spends o) (o .issued) sound none zeros (omega (arith, length-challenges-from (suc (retriesOf (o .retries))) (o .challenge))))
 
 -- ---- how the code shows its promise at a return
 

@@ -8,10 +8,10 @@ use mathlib.Core.Path.{_≡_, refl, sym, ap, _∙_, subst}
 use Prim.Native.Nat.{ℕ, _<_}
 use native.Mathlib.Omega.{arith}
 use lib.Dec.{eqb}
-use Rattle.message.specs.Message.{textOf, failedWith, noC}
+use Rattle.message.specs.Message.{textOf, failedWith, noC, succeeded}
 use Rattle.message.specs.declared.Reading.{Reading}
 use Rattle.packets.specs.Response.{responseIn}
-use Rattle.packets.specs.Reply.{successPacket, failurePacket, readReply, succeeded}
+use Rattle.packets.specs.Reply.{successPacket, failurePacket, readReply}
 use Rattle.packets.specs.declared.Response as fields
 use Rattle.packets.specs.declared.Change as changes
 use Rattle.packets.proofs.ReadBack.{success-back, failure-read}

@@ -4,7 +4,7 @@ use mathlib.Core.Bool.{Bool, true, false}
 use mathlib.Core.List.{List}
 use Prim.Native.Nat.{ℕ, _-_}
 use lib.ListN.{replicate}
-use Rattle.packets.specs.Next.{nextId, grown}
+use Rattle.challenges.specs.Challenges.{nextId, incremented}
 use Rattle.authenticator.specs.Account.{blank}
 use Rattle.authenticator.specs.declared.Account.{Account}
 use Rattle.authenticator.specs.declared.Conversation.{Conversation}
@@ -33,7 +33,7 @@ ended c = successor c (c .id) (c .challenge) (c .retries) Ended blank
 
 -- another Response is awaited
 abbrev pub retried : Conversation → Conversation
-retried c = successor c (nextId (c .id)) (grown (c .challenge)) (c .retries - 1) (c .phase) (c .kept)
+retried c = successor c (nextId (c .id)) (incremented (c .challenge)) (c .retries - 1) (c .phase) (c .kept)
 
 -- a change is awaited, and the record is kept; the challenge stays
 abbrev pub keeping : Conversation → Account → Conversation

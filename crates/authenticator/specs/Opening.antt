@@ -9,7 +9,7 @@ use lib.Dec.{eqb, ltb}
 use lib.ListN.{length}
 use Rattle.issued.specs.Issued.{Issued, spendRefusal, added}
 use Rattle.packets.specs.Frame.{headed}
-use Rattle.packets.specs.Next.{succession}
+use Rattle.challenges.specs.Challenges.{challengesFrom}
 use Rattle.packets.specs.Reply.{challengePacket}
 use Rattle.authenticator.specs.Account.{blank}
 use Rattle.authenticator.specs.Conversation.{closed}
@@ -47,7 +47,7 @@ badRoom buffer = ltb (length buffer) 17
 
 -- "the challenge and its r successors by the 23 rule"
 abbrev pub spends : Opening → List (List ℕ)
-spends o = succession (suc (retriesOf (o .retries))) (o .challenge)
+spends o = challengesFrom (suc (retriesOf (o .retries))) (o .challenge)
 
 -- 13, 2, and then 24, 16, 17 of the list, whose entries have 8 octets; 0 is none
 unfoldable pub openRefusal : Opening → ℕ

@@ -2,7 +2,7 @@
 ghost use mathlib.Core.Path.{_≡_};
 ghost use Prim.Native.Nat.{suc, _≤_};
 ghost use Rattle.issued.specs.Issued.{spendRefusal, spent};
-ghost use Rattle.packets.specs.Next.{succession};
+ghost use Rattle.challenges.specs.Challenges.{challengesFrom};
 ghost use Rattle.authenticator.specs.Conversation.{closed};
 ghost use Rattle.authenticator.specs.Opening.{retriesOf, lmAllowed, badRoom, Opens};
 use crate::Conversation;
@@ -56,9 +56,9 @@ fn refused_opening(refusal: u8, used: usize) -> Opened
 // Spends the challenge and its r successors: refusals 24, 16 and 17.
 fn spend(challenge: [u8; 8], r: u8, list: &mut [u8], used: usize, counts: &mut [u16]) -> Spent
     requires { ⌜ r ≤ 7 ⌝ }
-    ensures { λ s. ⌜ (s .refusal ≡ spendRefusal 8 (succession (suc r) challenge) (record { buffer = now (list .entry); used = used; counts = now (counts .entry) })) × (record { buffer = now (list .exit); used = s .used; counts = now (counts .exit) } ≡ spent 8 (succession (suc r) challenge) (record { buffer = now (list .entry); used = used; counts = now (counts .entry) })) ⌝ }
+    ensures { λ s. ⌜ (s .refusal ≡ spendRefusal 8 (challengesFrom (suc r) challenge) (record { buffer = now (list .entry); used = used; counts = now (counts .entry) })) × (record { buffer = now (list .exit); used = s .used; counts = now (counts .exit) } ≡ spent 8 (challengesFrom (suc r) challenge) (record { buffer = now (list .entry); used = used; counts = now (counts .entry) })) ⌝ }
 {
-    let run = packets::succession(challenge);
+    let run = challenges::challenges_from(challenge);
     let n = 8 * (r as usize + 1);
     issued::spend(list, used, counts, 8, octets::part_of(&run, 0, n))
 }

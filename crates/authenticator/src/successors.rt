@@ -59,8 +59,8 @@ impl Conversation {
         let phase = self.phase;
         let kept = self.kept;
         self.successor(
-            packets::next_id(self.id),
-            packets::grown_challenge(challenge),
+            challenges::next_id(self.id),
+            challenges::incremented(challenge),
             one_less(self.retries),
             phase,
             kept,
@@ -73,7 +73,7 @@ impl Conversation {
     {
         let challenge = self.challenge;
         self.successor(
-            packets::next_id(self.id),
+            challenges::next_id(self.id),
             challenge,
             self.retries,
             Phase::Change,

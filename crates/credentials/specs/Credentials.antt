@@ -56,6 +56,12 @@ badLmPassword password = ltb 14 (length password)
 abbrev pub hashed : Bool → List ℕ → Hashed
 hashed bad hash = record { refusal = cond bad 8 0; hash = cond bad (replicate 16 0) hash }
 
+abbrev pub ntHashed : List ℕ → Hashed
+ntHashed password = hashed (badNtPassword password) (ntHashOf password)
+
+abbrev pub lmHashed : List ℕ → Hashed
+lmHashed password = hashed (badLmPassword password) (lmHashOf password)
+
 -- ---- responses
 
 -- A.7, ChallengeResponse(): the hash zero-padded to 21 octets, three keys, each encrypting the challenge

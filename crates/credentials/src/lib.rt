@@ -4,7 +4,7 @@ ghost use mathlib.Core.List.{_++_};
 ghost use Prim.Native.Nat.{_≤_};
 ghost use lib.ListN.{length};
 ghost use Rattle.rc4.specs.Rc4.{crypted};
-ghost use Rattle.credentials.specs.Credentials.{upper, ntHashOf, badNtPassword, lmKeys, lmHashOf, badLmPassword, hashed, responseOf, oldUnderNew, plainBlock, sealedAs, lengthIn, contentFor, lengthTold, passwordLength, unsealedAs};
+ghost use Rattle.credentials.specs.Credentials.{upper, badNtPassword, lmKeys, ntHashed, lmHashed, responseOf, oldUnderNew, plainBlock, sealedAs, lengthIn, contentFor, lengthTold, passwordLength, unsealedAs};
 
 // A hash, or a refusal (8) with sixteen octets 0. 0 is no refusal.
 pub struct Hashed {
@@ -41,7 +41,7 @@ fn is_bad_nt_password(password: &[u8]) -> bool
 
 // A.6, NtPasswordHash(): the password's octets as lent, 0 to 512 of them, an even number; else refusal 8.
 pub fn nt_hash(password: &[u8]) -> Hashed
-    ensures { λ r. ⌜ r ≡ hashed (badNtPassword (now (password .entry))) (ntHashOf (now (password .entry))) ⌝ }
+    ensures { λ r. ⌜ r ≡ ntHashed (now (password .entry)) ⌝ }
 {
     if is_bad_nt_password(password) {
         return Hashed {
@@ -105,7 +105,7 @@ fn joined(a: [u8; 8], b: [u8; 8]) -> [u8; 16]
 
 // A.2, LmPasswordHash(): at most 14 octets, else refusal 8; a longer password is never cut.
 pub fn lm_hash(password: &[u8]) -> Hashed
-    ensures { λ r. ⌜ r ≡ hashed (badLmPassword (now (password .entry))) (lmHashOf (now (password .entry))) ⌝ }
+    ensures { λ r. ⌜ r ≡ lmHashed (now (password .entry)) ⌝ }
 {
     if 14 < password.len() {
         return Hashed {

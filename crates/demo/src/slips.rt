@@ -30,7 +30,7 @@ fn refused_twice(list: &mut [u8], used: usize, counts: &mut [u16]) {
         b"   A second box on the same list, with the same challenge, and with the one that a retry at the first would answer:",
     );
     let again = opening_on(7, challenge(), Retries::Default, list, used, counts);
-    let next = packets::grown_challenge(challenge());
+    let next = challenges::incremented(challenge());
     opening_on(7, next, Retries::Count(0), list, again.used, counts);
 }
 
@@ -189,7 +189,7 @@ fn anew() {
 
 fn grown() {
     title(b"Slip: the challenge grown after 648. A change answers the last Response's challenge.");
-    let grown = packets::grown_challenge(challenge());
+    let grown = challenges::incremented(challenge());
     let response = credentials::challenge_response(new_hash(), grown);
     slipped(1092, &response);
 }

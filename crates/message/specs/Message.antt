@@ -1,5 +1,5 @@
--- The message of a Failure packet (RFC 2433, section 8; document 01, "What the peer reads"): what it says, and the text that the
--- authenticator writes.
+-- The message of a Failure packet (RFC 2433, section 8; document 01, "What the peer reads"): what it
+-- says, and the text that the authenticator writes.
 -- Assumes nothing: these are definitions.
 use mathlib.Core.Bool.{Bool, true, false, cond, not, _&&_, _||_}
 use mathlib.Core.List.{List, [], _∷_, map}
@@ -120,6 +120,10 @@ abbrev pub givenAs : Option (List ℕ) → Given
 givenAs none = noC
 givenAs (some ds) = record { given = true; octets = pairs ds }
 
+-- the three answers: a success, a refusal and a failure
+abbrev pub succeeded : Reading
+succeeded = record { verdict = Success; c = noC }
+
 abbrev pub refusedWith : ℕ → Reading
 refusedWith n = record { verdict = Refused n; c = noC }
 
@@ -158,7 +162,8 @@ fieldValues ws (some e) = numberFrom 10 0 e ∷ valueR ws ∷ valueV ws ∷ []
 unfoldable pub messageValues : List ℕ → List ℕ
 messageValues m = cond (ltb 256 (length m)) [] (fieldValues (words m) (first fieldE (words m)))
 
--- ---- the text that is written: `E=691 R=1 V=2` with the numbers set, of which the three, one and one last decimal digits count
+-- ---- the text that is written: `E=691 R=1 V=2` with the numbers set, of which the three, one and
+-- one last decimal digits count
 unfoldable pub textOf : ℕ → ℕ → ℕ → List ℕ
 textOf e r v =
     69 ∷ 61 ∷ hexOf (e / 100 % 10) ∷ hexOf (e / 10 % 10) ∷ hexOf (e % 10) ∷ 32

@@ -1,4 +1,5 @@
-// The message of a Failure packet (RFC 2433, section 8): what the peer reads in it, and the text that the authenticator writes.
+// The message of a Failure packet (RFC 2433, section 8): what the peer reads in it, and the text that
+// the authenticator writes.
 pub mod reasons;
 
 ghost use mathlib.Core.Path.{_≡_};
@@ -7,7 +8,7 @@ ghost use mathlib.Core.List.{map};
 ghost use Prim.Native.Nat.{_%_, _≤_, _<_};
 ghost use lib.ListN.{length, drop};
 ghost use Rattle.octets.specs.Digits.{digitOf, hexOf};
-ghost use Rattle.message.specs.Message.{words, allBelow, isField, first, fieldE, numberFrom, numberOr, pairs, calledFor, numberOf, valuesOf, noC, givenAs, refusedWith, readFields, readMessage, messageRefusal, messageValues, textOf};
+ghost use Rattle.message.specs.Message.{words, allBelow, isField, first, fieldE, numberFrom, numberOr, pairs, calledFor, numberOf, valuesOf, noC, givenAs, succeeded, refusedWith, readFields, readMessage, messageRefusal, messageValues, textOf};
 ghost use Rattle.message.specs.Walk.{kindOf, isNowhere, lacks, isNew, withPlace, Noted};
 ghost use Rattle.message.specs.Walk.{digitsAt, parsedAt, parsedIn, completed, wordAt};
 ghost use Rattle.message.specs.Walk.{IfSome, Small, Eight};
@@ -38,7 +39,8 @@ pub enum Verdict {
     Refused(u8),
 }
 
-// The octets of the field C, where it is given. (They stand beside the verdict, as an enum can hold no array.)
+// The octets of the field C, where it is given. (They stand beside the verdict, as an enum can hold
+// no array.)
 pub struct Given {
     pub given: bool,
     pub octets: [u8; 8],
@@ -342,6 +344,17 @@ fn called_for(e: u64, r: u64, v: u64) -> Call
     Call::End
 }
 
+// A success, and no C.
+pub fn succeeded() -> Reading
+    ensures { λ r. ⌜ r ≡ succeeded ⌝ }
+{
+    let c = no_c();
+    Reading {
+        verdict: Verdict::Success,
+        c,
+    }
+}
+
 // A refusal, and no C.
 pub fn refused_with(number: u8) -> Reading
     ensures { λ r. ⌜ r ≡ refusedWith number ⌝ }
@@ -404,7 +417,8 @@ fn last_digit(n: u16) -> u8
     octets::hex_digit((n % 10) as u8)
 }
 
-// The message `E=691 R=1 V=2` with the numbers set. Of e the last three decimal digits are written, of r and v the last.
+// The message `E=691 R=1 V=2` with the numbers set. Of e the last three decimal digits are written,
+// of r and v the last.
 pub fn text(e: u16, r: u8, v: u8) -> [u8; 13]
     ensures { λ t. ⌜ t ≡ textOf e r v ⌝ }
 {

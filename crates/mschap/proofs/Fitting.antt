@@ -15,7 +15,7 @@ use Rattle.credentials.proofs.Laws.{length-nt}
 use Rattle.packets.specs.Response.{responseIn}
 use Rattle.packets.specs.Change.{changeIn}
 use Rattle.packets.specs.declared.Change as changes
-use Rattle.authenticator.proofs.Spends.{length-grown}
+use Rattle.authenticator.proofs.Spends.{length-incremented}
 use Rattle.authenticator.specs.Account.{blank}
 use Rattle.authenticator.specs.Conversation.{ended, retried, closed}
 use Rattle.authenticator.specs.Opening.{Opening, openRefusal, openedIssued, firstConversation, openingPacket, opened}
@@ -52,7 +52,7 @@ module _ (c : Conversation) (s : SizedConversation c) where
   ended-sized = record { challenge = s .challenge; kept = blank-sized }
 
   retried-sized : SizedConversation (retried c)
-  retried-sized = record { challenge = rw length-grown (s .challenge); kept = s .kept }
+  retried-sized = record { challenge = rw length-incremented (s .challenge); kept = s .kept }
 
   after-sized : (a : Account) (e : ℕ) → SizedAccount a → SizedConversation (afterReason c a e)
   after-sized a e t =

@@ -22,11 +22,11 @@ use Rattle.message.specs.declared.Verdict.{Verdict}
 use Rattle.message.specs.declared.Verdict.the-variants.{Success, Failure, Refused}
 use Rattle.message.proofs.Formed.{first-eight}
 use Rattle.packets.specs.Frame.{octet, badFrame, badId, dataOf}
-use Rattle.packets.specs.Next.{grown}
+use Rattle.challenges.specs.Challenges.{incremented}
 use Rattle.packets.specs.Reply.{notAsked, badChallenge, readChallenge, readReply}
 use Rattle.packets.specs.declared.Asked.{Asked}
 use Rattle.packets.specs.declared.Written.{Written}
-use Rattle.authenticator.proofs.Spends.{length-grown}
+use Rattle.authenticator.proofs.Spends.{length-incremented}
 use Rattle.peer.specs.Turn.{sentFor, turnFor, turnAfter, nextTurn}
 use Rattle.peer.specs.Peer.{asked, sending, reads, receiving}
 use Rattle.peer.specs.declared.Peer.{Peer}
@@ -79,9 +79,9 @@ reads-given q p = choice-given (q .sent .present) (reply-given (q .sent .id) p) 
 -- ---- the peer's next turn
 
 module _ (q : Peer) (s : SizedPeer q) (c : Given) (e : length (c .octets) ≡ 8) where
-  retry-eight : (b : Bool) → length (cond b (c .octets) (grown (q .sent .challenge))) ≡ 8
+  retry-eight : (b : Bool) → length (cond b (c .octets) (incremented (q .sent .challenge))) ≡ 8
   retry-eight true = e
-  retry-eight false = rw length-grown (s .sent)
+  retry-eight false = rw length-incremented (s .sent)
 
   call-eight : (k : Call) → length (turnFor k (q .sent) c .challenge) ≡ 8
   call-eight Retry = retry-eight (c .given)

@@ -5,8 +5,6 @@ use mathlib.Core.List.{List}
 use Prim.Native.Nat.{ℕ}
 use lib.Dec.{eqb}
 use lib.ListN.{length}
-use Rattle.credentials.specs.Credentials.{hashed, badNtPassword, ntHashOf, badLmPassword, lmHashOf}
-use Rattle.credentials.specs.declared.Hashed.{Hashed}
 
 -- a run is lent with the size n
 abbrev pub sized : ℕ → List ℕ → Bool
@@ -19,10 +17,3 @@ numbered fit n = cond fit n 100
 -- what a call that answered r leaves in what was lent: the result where r is 0, else what lay there
 abbrev pub left : {A : Type 0} → ℕ → A → A → A
 left r result lent = cond (eqb r 0) result lent
-
--- the hash of a password, or its refusal
-abbrev pub ntHashed : List ℕ → Hashed
-ntHashed password = hashed (badNtPassword password) (ntHashOf password)
-
-abbrev pub lmHashed : List ℕ → Hashed
-lmHashed password = hashed (badLmPassword password) (lmHashOf password)

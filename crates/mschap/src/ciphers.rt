@@ -4,8 +4,8 @@ ghost use mathlib.Core.Bool.{_&&_};
 ghost use Rattle.md4.specs.Md4.{answer};
 ghost use Rattle.rc4.specs.Rc4.{refusalOf, crypted};
 ghost use Rattle.des.specs.Des.{desEncrypt, desDecrypt};
-ghost use Rattle.credentials.specs.Credentials.{responseOf};
-ghost use Rattle.mschap.specs.Call.{sized, numbered, left, ntHashed, lmHashed};
+ghost use Rattle.credentials.specs.Credentials.{responseOf, ntHashed, lmHashed};
+ghost use Rattle.mschap.specs.Call.{sized, numbered, left};
 use crate::runs::hand;
 use crate::runs::wide;
 

@@ -8,4 +8,3 @@ pub mod Refusals
 pub mod ReadBack
 pub mod Stands
 pub mod Lookup
-pub mod Growing

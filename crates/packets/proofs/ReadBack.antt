@@ -13,12 +13,12 @@ use Rattle.octets.specs.Parts.{fixed}
 use Rattle.octets.specs.Numbers.{fromBe, toBe}
 use Rattle.octets.proofs.Parts.{fixed-same}
 use Rattle.octets.proofs.Numbers.{fromBe-toBe}
-use Rattle.message.specs.Message.{readMessage, failedWith, textOf, noC}
+use Rattle.message.specs.Message.{readMessage, failedWith, textOf, noC, succeeded}
 use Rattle.message.proofs.Laws.{read-text, length-text}
 use Rattle.packets.specs.Frame.{octet, lengthOf, framed, badFrame}
 use Rattle.packets.specs.Response.{responsePacket, responseIn, nameIn, badResponseSize, responseRefusal}
 use Rattle.packets.specs.Change.{changePacket, changeIn, badChangeSize, changeRefusal}
-use Rattle.packets.specs.Reply.{challengePacket, successPacket, failurePacket, readChallenge, readReply, succeeded}
+use Rattle.packets.specs.Reply.{challengePacket, successPacket, failurePacket, readChallenge, readReply}
 use Rattle.packets.specs.declared.Response.{Response}
 use Rattle.packets.specs.declared.Change.{Change}
 use Rattle.packets.proofs.Fields.{response-same, asked-same, change-same}

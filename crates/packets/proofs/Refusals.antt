@@ -8,11 +8,11 @@ use Prim.Native.Nat.{ℕ}
 use native.Mathlib.Omega.{arith}
 use borrow.Author.Tests.{eqb-true}
 use lib.Dec.{eqb}
-use Rattle.message.specs.Message.{readMessage, messageRefusal, messageValues, refusedWith, numberOf, valuesOf}
+use Rattle.message.specs.Message.{readMessage, messageRefusal, messageValues, refusedWith, numberOf, valuesOf, succeeded}
 use Rattle.message.specs.declared.Reading.{Reading}
 use Rattle.message.proofs.Laws.{message-told}
 use Rattle.packets.specs.Frame.{octet, badFrame, badId, dataOf}
-use Rattle.packets.specs.Reply.{readReply, replyRefusal, replyValues, succeeded}
+use Rattle.packets.specs.Reply.{readReply, replyRefusal, replyValues}
 
 module _ (last : ℕ) (p : List ℕ) where
   abbrev read : Bool → Bool → Bool → Bool → Reading

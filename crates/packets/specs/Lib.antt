@@ -3,4 +3,3 @@ pub mod Response
 pub mod Change
 pub mod Reply
 pub mod Name
-pub mod Next

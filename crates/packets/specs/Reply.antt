@@ -1,4 +1,5 @@
--- What the authenticator sends: Challenge, Success and Failure (RFC 1994, sections 4.1 and 4.2; RFC 2433, sections 5, 7 and 8).
+-- What the authenticator sends: Challenge, Success and Failure (RFC 1994, sections 4.1 and 4.2;
+-- RFC 2433, sections 5, 7 and 8).
 -- Assumes nothing: these are definitions.
 use mathlib.Core.Bool.{Bool, cond, not, _||_}
 use mathlib.Core.List.{List, [], _∷_}
@@ -6,9 +7,8 @@ use Prim.Native.Nat.{ℕ, _+_}
 use lib.Dec.{eqb, ltb}
 use lib.ListN.{length, replicate}
 use Rattle.octets.specs.Parts.{part, fixed}
-use Rattle.message.specs.Message.{readMessage, messageRefusal, messageValues, refusedWith, noC}
+use Rattle.message.specs.Message.{readMessage, messageRefusal, messageValues, refusedWith, succeeded}
 use Rattle.message.specs.declared.Reading.{Reading}
-use Rattle.message.specs.declared.Verdict.the-variants.{Success}
 use Rattle.packets.specs.Frame.{octet, lengthOf, framed, badFrame, badId, dataOf}
 use Rattle.packets.specs.declared.Asked.{Asked}
 
@@ -22,13 +22,22 @@ successPacket id = framed 3 id []
 unfoldable pub failurePacket : ℕ → List ℕ → List ℕ
 failurePacket id message = framed 4 id message
 
+-- the longest of them is the Failure: 4 octets before its message, which has 13
+abbrev pub longestReply : ℕ
+longestReply = 4 + 13
+
+-- refusal 2: a reply buffer that cannot hold it
+abbrev pub badReplyBuffer : List ℕ → Bool
+badReplyBuffer reply = ltb (length reply) longestReply
+
 -- ---- the peer's reading
 
 -- no Challenge: the refusal, with fixed values
 abbrev pub notAsked : ℕ → Asked
 notAsked n = record { refusal = n; id = 0; challenge = replicate 8 0 }
 
--- refusal 11: of another kind, cut short, or of a size other than 8. A name may follow and is ignored.
+-- refusal 11: of another kind, cut short, or of a size other than 8. A name may follow and is
+-- ignored.
 abbrev pub badChallenge : List ℕ → Bool
 badChallenge p = not (eqb (octet 0 p) 1) || (ltb (lengthOf p) (5 + 8) || not (eqb (octet 4 p) 8))
 
@@ -39,10 +48,8 @@ readChallenge p =
     (cond (badChallenge p) (notAsked 11)
     (record { refusal = 0; id = octet 1 p; challenge = fixed 8 (part 5 8 p) }))
 
-abbrev pub succeeded : Reading
-succeeded = record { verdict = Success; c = noC }
-
--- a reply to the last packet, which had the identifier last: 3, then 5, then 11 for another kind or by the message
+-- a reply to the last packet, which had the identifier last: 3, then 5, then 11 for another kind or
+-- by the message
 unfoldable pub readReply : ℕ → List ℕ → Reading
 readReply last p =
     cond (badFrame p) (refusedWith 3)

@@ -2,7 +2,6 @@
 mod changes;
 mod frames;
 mod names;
-mod nexts;
 mod replies;
 mod responses;
 
@@ -16,9 +15,7 @@ pub use names::account;
 pub use names::account_part;
 pub use names::domain;
 pub use names::domain_part;
-pub use nexts::grown_challenge;
-pub use nexts::next_id;
-pub use nexts::succession;
+pub use replies::is_bad_reply_buffer;
 pub use replies::read_challenge;
 pub use replies::read_reply;
 pub use replies::write_challenge;
@@ -36,8 +33,8 @@ pub struct Response {
     pub flag: u8,
 }
 
-// The fields of a version 2 Change Password packet: the new password under the old NT hash, the old NT hash under the new one, the same
-// two for LM, the LM and the NT response, and the flags.
+// The fields of a version 2 Change Password packet: the new password under the old NT hash, the old
+// NT hash under the new one, the same two for LM, the LM and the NT response, and the flags.
 pub struct Change {
     pub block: [u8; 516],
     pub verifier: [u8; 16],
@@ -61,7 +58,8 @@ pub struct Asked {
     pub challenge: [u8; 8],
 }
 
-// Where a part of a packet stands: from offset on, length octets. Offset 0 says that it is not in the packet.
+// Where a part of a packet stands: from offset on, length octets. Offset 0 says that it is not in
+// the packet.
 pub struct Part {
     pub offset: usize,
     pub length: usize,

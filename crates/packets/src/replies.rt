@@ -6,11 +6,17 @@ use crate::frames::head;
 use crate::frames::length;
 use crate::frames::octet;
 use message::Reading;
-use message::Verdict;
 ghost use mathlib.Core.Path.{_≡_};
 ghost use Rattle.message.specs.Message.{textOf, numberOf, valuesOf};
 ghost use Rattle.packets.specs.Frame.{headed, headedLength};
-ghost use Rattle.packets.specs.Reply.{challengePacket, successPacket, failurePacket, notAsked, badChallenge, readChallenge, readReply, replyRefusal, replyValues};
+ghost use Rattle.packets.specs.Reply.{challengePacket, successPacket, failurePacket, badReplyBuffer, notAsked, badChallenge, readChallenge, readReply, replyRefusal, replyValues};
+
+// Whether a reply buffer cannot hold the longest reply, a Failure.
+pub fn is_bad_reply_buffer(reply: &[u8]) -> bool
+    ensures { λ r. ⌜ r ≡ badReplyBuffer (now (reply .entry)) ⌝ }
+{
+    reply.len() < 17
+}
 
 // ---- writers: each answers how many octets of out it wrote, 0 where there is too little room
 
@@ -106,11 +112,7 @@ pub fn read_reply(last: u8, packet: &[u8]) -> Reading
     }
     let code = octet(packet, 0);
     if code == 3 {
-        let c = message::no_c();
-        return Reading {
-            verdict: Verdict::Success,
-            c,
-        };
+        return message::succeeded();
     }
     if code == 4 {
         return message::read(octets::part_of(packet, 4, behind(packet, 4)));

@@ -8,7 +8,7 @@ use Rattle.message.specs.declared.Verdict.{Verdict}
 use Rattle.message.specs.declared.Verdict.the-variants.{Success, Failure, Refused}
 use Rattle.message.specs.declared.Call.{Call}
 use Rattle.message.specs.declared.Call.the-variants.{Retry, ChangeTwo, ChangeOne, End}
-use Rattle.packets.specs.Next.{nextId, grown}
+use Rattle.challenges.specs.Challenges.{nextId, incremented}
 use Rattle.packets.specs.declared.Asked.{Asked}
 use Rattle.peer.specs.declared.Peer.{Peer}
 use Rattle.peer.specs.declared.Turn.{Turn}
@@ -29,7 +29,7 @@ sameTurn s = record { id = s .id; challenge = s .challenge }
 -- a retry takes C where given, else the 23 rule
 abbrev pub retryTurn : Sent → Given → Turn
 retryTurn s c =
-    record { id = nextId (s .id); challenge = cond (c .given) (c .octets) (grown (s .challenge)) }
+    record { id = nextId (s .id); challenge = cond (c .given) (c .octets) (incremented (s .challenge)) }
 
 -- a change uses the last Response's challenge, whatever C says
 abbrev pub changeTurn : Sent → Turn

@@ -9,7 +9,7 @@ use message::Verdict;
 use packets::Asked;
 ghost use mathlib.Core.Path.{_≡_};
 ghost use mathlib.Core.Bool.{cond};
-ghost use Rattle.packets.specs.Next.{grown};
+ghost use Rattle.challenges.specs.Challenges.{incremented};
 ghost use Rattle.peer.specs.Turn.{firstTurn, sentFor, sameTurn, retryTurn, changeTurn, turnFor, nextTurn};
 
 // The turn that a Challenge asks for.
@@ -48,20 +48,20 @@ fn same_turn(sent: Sent) -> Turn
 
 // C where given, else the 23 rule.
 fn retry_challenge(last: [u8; 8], c: Given) -> [u8; 8]
-    ensures { λ r. ⌜ r ≡ cond (c .given) (c .octets) (grown last) ⌝ }
+    ensures { λ r. ⌜ r ≡ cond (c .given) (c .octets) (incremented last) ⌝ }
 {
     if c.given {
         let octets = c.octets;
         return octets;
     }
-    packets::grown_challenge(last)
+    challenges::incremented(last)
 }
 
 fn retry_turn(sent: Sent, c: Given) -> Turn
     ensures { λ r. ⌜ r ≡ retryTurn sent c ⌝ }
 {
     let last = sent.challenge;
-    let id = packets::next_id(sent.id);
+    let id = challenges::next_id(sent.id);
     let challenge = retry_challenge(last, c);
     Turn { id, challenge }
 }
@@ -71,7 +71,7 @@ fn change_turn(sent: Sent) -> Turn
     ensures { λ r. ⌜ r ≡ changeTurn sent ⌝ }
 {
     let kept = sent.challenge;
-    let id = packets::next_id(sent.id);
+    let id = challenges::next_id(sent.id);
     Turn {
         id,
         challenge: kept,

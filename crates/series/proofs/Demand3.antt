@@ -7,10 +7,10 @@ use Prim.Native.Nat.{ℕ, _+_, _≤_, _<_}
 use native.Mathlib.Omega.{arith}
 use lib.ListN.{length, replicate, length-append, length-replicate}
 use Rattle.credentials.specs.Credentials.{ntHashOf}
-use Rattle.message.specs.Message.{textOf, failedWith, noC}
+use Rattle.message.specs.Message.{textOf, failedWith, noC, succeeded}
 use Rattle.message.specs.declared.Reading.{Reading}
 use Rattle.packets.specs.Response.{responseIn}
-use Rattle.packets.specs.Reply.{successPacket, failurePacket, readReply, succeeded}
+use Rattle.packets.specs.Reply.{successPacket, failurePacket, readReply}
 use Rattle.packets.proofs.ReadBack.{success-back, failure-read}
 use Rattle.authenticator.specs.Account.{blank, found, renewed}
 use Rattle.authenticator.specs.Opening.{retriesOf, opened}

@@ -30,7 +30,7 @@ use Rattle.authenticator.specs.declared.Conversation.{Conversation}
 use Rattle.authenticator.specs.declared.Hash.{Hash}
 use Rattle.authenticator.specs.declared.Opened.{Opened}
 use Rattle.authenticator.proofs.Accepted.{accepted-only}
-use Rattle.authenticator.proofs.Spends.{succession-octets}
+use Rattle.authenticator.proofs.Spends.{challenges-octets}
 use Rattle.authenticator.proofs.Openings.{opened-first, opened-written, opened-fresh, opened-not, opened-holds, opened-keeps, may-open}
 use Rattle.authenticator.proofs.InForce.{CanBeInForce, now-in-force, step-adds-none}
 use Rattle.series.specs.Course.{end, Along}
@@ -102,7 +102,7 @@ module _ (i : Issued) (first second : Opening) (two : Two spendsAll i first seco
 
     eight-octets : (o : Opening) → length (o .challenge) ≡ 8 → Octets (o .challenge) → opened o .refusal ≡ 0 → (us : List Lent)
         → (length (reached spendsAll o us .challenge) ≡ 8) × Octets (reached spendsAll o us .challenge)
-    eight-octets o e k ok us = succession-octets _ (o .challenge) (reached spendsAll o us .challenge) e k (reached-spent o ok us)
+    eight-octets o e k ok us = challenges-octets _ (o .challenge) (reached spendsAll o us .challenge) e k (reached-spent o ok us)
 
     -- 24 octets are a hash's response to one challenge
     responses-apart : (h r : List ℕ) → r ≡ responseOf h (inFirst .challenge) → r ≡ responseOf h (inSecond .challenge) → ⊥

@@ -7,10 +7,9 @@ use mathlib.Core.Path.{_≡_, refl, sym, ap, _∙_}
 use Prim.Native.Nat.{ℕ, zero, suc, _-_, _≤_, _<_}
 use native.Mathlib.Omega.{arith}
 use lib.ListN.{length}
-use Rattle.message.specs.Message.{failedWith, noC, calledFor}
+use Rattle.message.specs.Message.{failedWith, noC, calledFor, succeeded}
 use Rattle.message.specs.declared.Reading.{Reading}
-use Rattle.packets.specs.Next.{nextId, grown}
-use Rattle.packets.specs.Reply.{succeeded}
+use Rattle.challenges.specs.Challenges.{nextId, incremented}
 use Rattle.packets.specs.declared.Asked.{Asked}
 use Rattle.authenticator.specs.Account.{blank}
 use Rattle.authenticator.specs.Conversation.{ended, retried, keeping}
@@ -76,7 +75,7 @@ module _ (c : Conversation) (t : Turn) (h : InStep c t) where
   -- after 691, R=1
   pub retried-in-step : InStep (retried c) (nextTurn (sentBy t) (failedWith 691 1 2 noC))
   unfolding nextTurn calledFor
-  retried-in-step = record { id = ap nextId (h .id); challenge = ap grown (h .challenge) }
+  retried-in-step = record { id = ap nextId (h .id); challenge = ap incremented (h .challenge) }
 
   -- after 648
   kept-in-step : (a : Account) → InStep (keeping c a) (nextTurn (sentBy t) (failedWith 648 0 2 noC))

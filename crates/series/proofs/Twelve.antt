@@ -9,7 +9,7 @@ use Rattle.des.specs.Des.{expandKey}
 use Rattle.credentials.specs.Credentials.{contentFor}
 use Rattle.message.specs.Message.{words, isField, fieldOf, calledFor, readMessage, textOf}
 use Rattle.packets.specs.Frame.{headed}
-use Rattle.packets.specs.Next.{succession}
+use Rattle.challenges.specs.Challenges.{challengesFrom}
 use Rattle.packets.specs.Response.{responseRefusal}
 use Rattle.packets.specs.Reply.{challengePacket, failurePacket}
 use Rattle.authenticator.specs.Opening.{openRefusal, opened, openedBuffer}
@@ -19,5 +19,5 @@ use Rattle.authenticator.specs.Step.{drawn, step}
 use Rattle.series.specs.Twelve.{Row, outputOf, rows}
 
 pub twelve : map outputOf (map (λ (r : Row). r .input) rows) ≡ map (λ (r : Row). r .output) rows
-unfolding outputOf expandKey contentFor words isField fieldOf calledFor readMessage textOf digitOf hexOf headed responseRefusal challengePacket failurePacket agrees holds meets ending endings badBuffer spendRefusal succession openRefusal opened openedBuffer refusalOf firstReason reasonOf responseDrawn drawn step
+unfolding outputOf expandKey contentFor words isField fieldOf calledFor readMessage textOf digitOf hexOf headed responseRefusal challengePacket failurePacket agrees holds meets ending endings badBuffer spendRefusal challengesFrom openRefusal opened openedBuffer refusalOf firstReason reasonOf responseDrawn drawn step
 twelve = refl

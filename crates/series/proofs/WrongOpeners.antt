@@ -10,7 +10,7 @@ use native.Mathlib.Omega.{arith}
 use lib.ListN.{replicate}
 use Rattle.octets.specs.Parts.{over, agrees}
 use Rattle.issued.specs.Issued.{holds, meets, ending, endings, emptyList, badBuffer, spendRefusal}
-use Rattle.packets.specs.Next.{grown, succession}
+use Rattle.challenges.specs.Challenges.{incremented, challengesFrom}
 use Rattle.packets.specs.Response.{responseRefusal}
 use Rattle.authenticator.specs.Account.{noRecord}
 use Rattle.authenticator.specs.Conversation.{isEnded}
@@ -31,7 +31,7 @@ use Rattle.series.proofs.Shared.{openingOn, challenge, first, six-place
 
 -- the first opening on an empty list needs nothing more
 first-openable : Openable first
-unfolding endings ending meets succession holds
+unfolding endings ending meets challengesFrom holds
 first-openable =
     record {
       eight = refl;
@@ -92,13 +92,13 @@ abbrev retrying : Opening
 retrying = openingOn (emptyList 8 6) (Count 1) challenge
 
 abbrev following : Opening
-following = openingOn (openedIssued (noRetries retrying)) (Count 0) (grown challenge)
+following = openingOn (openedIssued (noRetries retrying)) (Count 0) (incremented challenge)
 
 retrying-opens : opened (noRetries retrying) .refusal ≡ 0
 retrying-opens = may-open-empty (noRetries retrying) (omega arith) (omega arith) six-places refl refl (omega arith)
 
 following-opens : opened (noRetries following) .refusal ≡ 0
-unfolding opened openedIssued openRefusal spendRefusal badBuffer flatten over agrees ending endings holds meets succession
+unfolding opened openedIssued openRefusal spendRefusal badBuffer flatten over agrees ending endings holds meets challengesFrom
 following-opens = refl
 
 -- a Response that is lent no record: it draws 691 with R=1
@@ -108,7 +108,7 @@ try = record { packet = 2 ∷ 7 ∷ 0 ∷ 55 ∷ 49 ∷ (replicate 48 0 ++ (1 �
 abbrev afterTry : Conversation → List ℕ
 afterTry c = nextAfter ourBox (withRetries 1 c) try .challenge
 
-retry-grows : afterTry (firstConversation (noRetries retrying)) ≡ grown challenge
+retry-grows : afterTry (firstConversation (noRetries retrying)) ≡ incremented challenge
 unfolding refusalOf responseRefusal step drawn responseDrawn reasonOf firstReason
 retry-grows = refl
 

@@ -6,10 +6,10 @@ use mathlib.Core.Path.{_≡_}
 use Prim.Native.Nat.{ℕ, _+_, _≤_}
 use lib.ListN.{length, take, replicate}
 use Rattle.credentials.specs.Credentials.{ntHashOf, badNtPassword, badFiller}
-use Rattle.message.specs.Message.{textOf, failedWith, noC}
+use Rattle.message.specs.Message.{textOf, failedWith, noC, succeeded}
 use Rattle.message.specs.declared.Reading.{Reading}
 use Rattle.packets.specs.Response.{badName, responseIn}
-use Rattle.packets.specs.Reply.{successPacket, failurePacket, readChallenge, succeeded}
+use Rattle.packets.specs.Reply.{successPacket, failurePacket, readChallenge}
 use Rattle.packets.specs.declared.Asked.{Asked}
 use Rattle.authenticator.specs.Account.{found}
 use Rattle.authenticator.specs.Opening.{Opening, retriesOf, opened, openedBuffer}

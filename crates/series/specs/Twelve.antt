@@ -14,7 +14,7 @@ use Rattle.message.specs.declared.Given.{Given}
 use Rattle.message.specs.declared.Verdict.{Verdict}
 use Rattle.message.specs.declared.Verdict.the-variants.{Success, Failure, Refused}
 use Rattle.issued.specs.Issued.{emptyList}
-use Rattle.packets.specs.Next.{nextId, grown}
+use Rattle.challenges.specs.Challenges.{nextId, incremented}
 use Rattle.authenticator.specs.Account.{noRecord}
 use Rattle.authenticator.specs.Opening.{Opening, firstConversation, opened, openedBuffer}
 use Rattle.authenticator.specs.Step.{Outcome, step}
@@ -72,7 +72,7 @@ readAs (Refused n) c = refusal n
 
 unfoldable pub outputOf : Input → Output
 outputOf (identifier i) = number (nextId i)
-outputOf (challenge c) = octets (grown c)
+outputOf (challenge c) = octets (incremented c)
 outputOf (key k) = octets (expandKey k)
 outputOf (opening id c) = octets (take (opened (openingOf id c) .written) (openedBuffer (openingOf id c)))
 outputOf (response id p) = answered (step (firstConversation (openingOf id (replicate 8 0))) p noRecord (replicate 17 0))

@@ -11,7 +11,7 @@ use lib.Dec.{ltb}
 use lib.ListN.{length}
 use Rattle.issued.specs.Issued.{Issued, spendRefusal, spent}
 use Rattle.issued.proofs.Spending.{spent-refused}
-use Rattle.packets.specs.Next.{succession}
+use Rattle.challenges.specs.Challenges.{challengesFrom}
 use Rattle.packets.specs.Reply.{challengePacket}
 use Rattle.authenticator.specs.Opening.{Opening, retriesOf, badRoom, spends, openRefusal}
 use Rattle.authenticator.proofs.Openings.{refused-promise, accepted-promise}
@@ -74,8 +74,8 @@ second c = c .before .before .before
 abbrev opening : tie.After-spend → Opening
 opening c = given (first (second c) .before)
 
-entries-told : (c : tie.After-spend) → succession (suc (first (second c) .before .retries-of .result)) (opening c .challenge) ≡ spends (opening c)
-entries-told c = ap (λ (r : ℕ). succession (suc r) (opening c .challenge)) (first (second c) .before .retries-of .ensures)
+entries-told : (c : tie.After-spend) → challengesFrom (suc (first (second c) .before .retries-of .result)) (opening c .challenge) ≡ spends (opening c)
+entries-told c = ap (λ (r : ℕ). challengesFrom (suc r) (opening c .challenge)) (first (second c) .before .retries-of .ensures)
 
 refusal-told : (c : tie.After-spend) → openRefusal (opening c) ≡ c .spend .result .refusal
 unfolding openRefusal

@@ -7,7 +7,7 @@ use borrow.Author.Needs.{needs}
 use lib.ListN.{length}
 use Rattle.octets.specs.Parts.{part}
 use Rattle.issued.specs.Issued.{Issued, entriesIn, spendRefusal, spent}
-use Rattle.authenticator.proofs.Spends.{succession-run}
+use Rattle.authenticator.proofs.Spends.{challenges-run}
 use Rattle.authenticator.proofs.opening.spend.Statement.{statement}
 use Rattle.authenticator.proofs.opening.spend.Tie as tie
 
@@ -22,8 +22,8 @@ returns c =
     let s = n .before .before .before in
     let a = s .args in
     let i : Issued = record { buffer = a .list .now; used = a .used; counts = a .counts .now } in
-    let run = p .part-of .ensures ∙ ap (part 0 (8 * (a .r + 1))) (n .succession .ensures) in
-    let cs = ap (entriesIn 8) run ∙ succession-run (a .r) (a .challenge) (s .pre) (eight s) in
+    let run = p .part-of .ensures ∙ ap (part 0 (8 * (a .r + 1))) (n .challenges-from .ensures) in
+    let cs = ap (entriesIn 8) run ∙ challenges-run (a .r) (a .challenge) (s .pre) (eight s) in
     (k .spend .ensures .0 ∙ ap (λ (es : List (List ℕ)). spendRefusal 8 es i) cs, k .spend .ensures .1 ∙ ap (λ (es : List (List ℕ)). spent 8 es i) cs)
 
 pub spend-spec : {M : Type 1} → statement M

@@ -6,7 +6,6 @@ use native.Mathlib.Omega.{arith}
 use borrow.Author.Tests.{eq-eqb, ne-eqb}
 use borrow.Author.Needs.{needs}
 use Rattle.octets.specs.Parts.{part}
-use Rattle.message.specs.declared.Verdict.the-variants.{Success}
 use Rattle.message.specs.Message.{readMessage}
 use Rattle.packets.specs.Reply.{readReply}
 use Rattle.packets.specs.Frame.{octet}
@@ -42,8 +41,8 @@ unfolding readReply
 returns-3 c =
     let a = c .before .before .before .before .before .before .before .before .args in
     let p = a .packet .now in
-    let e : record { verdict = Success; c = c .no-c .result } ≡ readReply (a .last) p = simp (
-      c .no-c .ensures,
+    let e : c .succeeded .result ≡ readReply (a .last) p = simp (
+      c .succeeded .ensures,
       sym (c .before .before .before .before .before .before .bad-frame .ensures) ∙ c .before .before .before .before .before .if1 .left,
       eq-eqb (octet 1 p) (a .last) (omega arith),
       eq-eqb (octet 0 p) 3 (omega arith),
