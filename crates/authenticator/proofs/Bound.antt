@@ -10,21 +10,37 @@ use native.Mathlib.Omega.{arith}
 use borrow.Author.Tests.{eqb-true, eqb-false, ltb-true}
 use lib.Dec.{eqb, ltb}
 use Rattle.packets.specs.Response.{responseIn}
-use Rattle.packets.specs.declared.Response as fields
+use Rattle.packets.specs.declared.Response as responses
 use Rattle.packets.specs.declared.Change as changes
-use Rattle.authenticator.specs.Conversation.{isEnded, ended, retried, keeping}
+use Rattle.accounts.specs.declared.Account.{Account}
+use Rattle.accounts.specs.declared.Lookup.{Lookup}
+use Rattle.message.specs.Reasons.{authenticationFailure, passwordExpired}
+use Rattle.verify.specs.Response.{responseReason}
+use Rattle.verify.specs.Change.{newHash}
+use Rattle.authenticator.specs.Conversation.{isEnded, ended, retried, awaitingChange}
 use Rattle.authenticator.specs.Opening.{Opening, retriesOf, firstConversation}
-use Rattle.authenticator.specs.Refusal.{refusalOf}
-use Rattle.authenticator.specs.Response.{reasonOf, afterReason, responseDrawn}
-use Rattle.authenticator.specs.Change.{newHash, drawnBy, changeDrawn}
-use Rattle.authenticator.specs.Step.{drawnIn, drawn, Outcome}
+use Rattle.authenticator.specs.Admit.{stepRefusal}
+use Rattle.authenticator.specs.Judge.{
+  afterReason,
+  judgeResponse,
+  changeJudgement,
+  judgeChange,
+  judgeIn,
+  judge,
+}
+use Rattle.authenticator.specs.Step.{Outcome}
 use Rattle.authenticator.specs.Steps.{Lent, stepOn, nextAfter, refusalAt, judged}
-use Rattle.authenticator.specs.declared.Account.{Account}
-use Rattle.authenticator.specs.declared.Lookup.{Lookup}
 use Rattle.authenticator.specs.declared.Conversation.{Conversation}
 use Rattle.authenticator.specs.declared.Phase.{Phase}
 use Rattle.authenticator.specs.declared.Phase.the-variants.{Response, Change, Ended}
-use Rattle.authenticator.proofs.Steps.{judged-step, number-step, live-and-roomy, refused-same, judged-one, judged-none}
+use Rattle.authenticator.proofs.Admitted.{passed}
+use Rattle.authenticator.proofs.Steps.{
+  judged-step,
+  number-step,
+  refused-same,
+  judged-one,
+  judged-none,
+}
 
 abbrev left : Phase → ℕ → ℕ
 left Response r = r + 2
@@ -39,36 +55,36 @@ left-first o = refl
 
 -- a retry, a kept record, the end
 after-less : (c : Conversation) (a : Account) (e : ℕ) → c .phase ≡ Response → leftIn (afterReason c a e) < c .retries + 2
-after-less c a e ph = which (eqb e 691) (ltb 0 (c .retries)) (eqb e 648) refl
+after-less c a e ph = which (eqb e authenticationFailure) (ltb 0 (c .retries)) (eqb e passwordExpired) refl
   where
-    which : (t u x : Bool) → ltb 0 (c .retries) ≡ u → leftIn (cond (t && u) (retried c) (cond x (keeping c a) (ended c))) < c .retries + 2
+    which : (t u x : Bool) → ltb 0 (c .retries) ≡ u → leftIn (cond (t && u) (retried c) (cond x (awaitingChange c a) (ended c))) < c .retries + 2
     which true true x h = subst (λ (y : Phase). left y (retried c .retries) < c .retries + 2) (sym ph) (omega (arith, ltb-true 0 (c .retries) h))
     which true false true h = omega arith
     which true false false h = omega arith
     which false u true h = omega arith
     which false u false h = omega arith
 
-response-less : (c : Conversation) (l : Lookup) (f : fields.Response) → c .phase ≡ Response → leftIn (responseDrawn c l f .next) < c .retries + 2
-unfolding responseDrawn
-response-less c l f ph = after-less c (l .account) (reasonOf c l f) ph
+response-less : (c : Conversation) (l : Lookup) (f : responses.Response) → c .phase ≡ Response → leftIn (judgeResponse c l f .next) < c .retries + 2
+unfolding judgeResponse
+response-less c l f ph = after-less c (l .account) (responseReason (c .terms) (c .challenge) l f) ph
 
-change-less : (c : Conversation) (f : changes.Change) → leftIn (changeDrawn c f .next) < 1
-unfolding changeDrawn
-change-less c f = which (newHash c f)
+change-less : (c : Conversation) (f : changes.Change) → leftIn (judgeChange c f .next) < 1
+unfolding judgeChange
+change-less c f = which (newHash (c .kept) (c .challenge) f)
   where
-    which : (o : Option (List ℕ)) → leftIn (drawnBy c o .next) < 1
+    which : (o : Option (List ℕ)) → leftIn (changeJudgement c o .next) < 1
     which none = omega arith
     which (some h) = omega arith
 
 phase-less : (ph : Phase) (c : Conversation) (p : List ℕ) (l : Lookup) → c .phase ≡ ph → isEnded ph ≡ false
-    → leftIn (drawnIn ph c p l .next) < left ph (c .retries)
+    → leftIn (judgeIn ph c p l .next) < left ph (c .retries)
 phase-less Response c p l e live = response-less c l (responseIn p) e
 phase-less Change c p l e live = change-less _ _
 phase-less Ended c p l e live = let z : _≡_ {A = ℕ} 0 1 = cc in absurd (omega arith)
 
-drawn-less : (c : Conversation) (p : List ℕ) (l : Lookup) → isEnded (c .phase) ≡ false → leftIn (drawn c p l .next) < leftIn c
-unfolding drawn
-drawn-less c p l live = phase-less (c .phase) c p l refl live
+judge-less : (c : Conversation) (p : List ℕ) (l : Lookup) → isEnded (c .phase) ≡ false → leftIn (judge c p l .next) < leftIn c
+unfolding judge
+judge-less c p l live = phase-less (c .phase) c p l refl live
 
 -- for any packet, record and buffer
 pub judged-less : (c : Conversation) (s : Lent) → judged stepOn c s + leftIn (nextAfter stepOn c s) ≤ leftIn c
@@ -77,9 +93,9 @@ judged-less c s = which (eqb (refusalAt stepOn c s) 0) refl
     which : (t : Bool) → eqb (refusalAt stepOn c s) 0 ≡ t → judged stepOn c s + leftIn (nextAfter stepOn c s) ≤ leftIn c
     which true e =
         let z = eqb-true (refusalAt stepOn c s) 0 e in
-        let ok : refusalOf c (s .packet) (s .buffer) ≡ 0 = sym (number-step c (s .packet) (s .account) (s .buffer)) ∙ z in
+        let ok : stepRefusal c (s .packet) (s .buffer) ≡ 0 = sym (number-step c (s .packet) (s .account) (s .buffer)) ∙ z in
         let next = ap (λ (o : Outcome). leftIn (o .answer .next)) (judged-step c (s .packet) (s .account) (s .buffer) ok) in
-        omega (arith, judged-one c s z, next, drawn-less c (s .packet) (s .account) (live-and-roomy c (s .packet) (s .buffer) ok .0))
+        omega (arith, judged-one c s z, next, judge-less c (s .packet) (s .account) (passed c (s .packet) (s .buffer) ok .live))
     which false e =
         let n = eqb-false (refusalAt stepOn c s) 0 e in
         omega (arith, judged-none c s n, ap leftIn (refused-same c s n))

@@ -12,21 +12,23 @@ use Rattle.octets.specs.Parts.{agrees}
 use Rattle.octets.proofs.Parts.{agrees-refl}
 use Rattle.issued.specs.Issued.{holds}
 use Rattle.challenges.specs.Challenges.{incremented, challengesFrom}
+use Rattle.message.specs.Reasons.{authenticationFailure, passwordExpired}
 use Rattle.packets.specs.Response.{responseIn}
 use Rattle.packets.specs.declared.Response as fields
 use Rattle.packets.specs.declared.Change as changes
-use Rattle.authenticator.specs.Conversation.{ended, retried, keeping}
-use Rattle.authenticator.specs.Refusal.{refusalOf}
-use Rattle.authenticator.specs.Response.{reasonOf, afterReason, responseDrawn}
-use Rattle.authenticator.specs.Change.{newHash, drawnBy, changeDrawn}
-use Rattle.authenticator.specs.Step.{drawnIn, drawn, Outcome}
+use Rattle.authenticator.specs.Conversation.{ended, retried, awaitingChange}
+use Rattle.authenticator.specs.Admit.{stepRefusal}
+use Rattle.verify.specs.Response.{responseReason}
+use Rattle.authenticator.specs.Judge.{afterReason, judgeResponse, changeJudgement, judgeChange, judgeIn, judge}
+use Rattle.verify.specs.Change.{newHash}
+use Rattle.authenticator.specs.Step.{Outcome}
 use Rattle.authenticator.specs.Steps.{Lent, stepOn, nextAfter, refusalAt}
-use Rattle.authenticator.specs.declared.Account.{Account}
-use Rattle.authenticator.specs.declared.Lookup.{Lookup}
+use Rattle.accounts.specs.declared.Account.{Account}
+use Rattle.accounts.specs.declared.Lookup.{Lookup}
+use Rattle.authenticator.proofs.Steps.{judged-step, number-step, refused-same}
 use Rattle.authenticator.specs.declared.Conversation.{Conversation}
 use Rattle.authenticator.specs.declared.Phase.{Phase}
 use Rattle.authenticator.specs.declared.Phase.the-variants.{Response, Change, Ended}
-use Rattle.authenticator.proofs.Steps.{judged-step, number-step, refused-same}
 
 -- x is the challenge in force, or can be after a retry
 abbrev pub CanBeInForce : Conversation → List ℕ → Type 0
@@ -43,35 +45,35 @@ retried-adds-none c x more h =
     ap (λ (t : Bool). agrees (c .challenge) x || t) (subst (λ (n : ℕ). holds (challengesFrom n (incremented (c .challenge))) x ≡ true) e h) ∙ or-true (agrees (c .challenge) x)
 
 after-adds-none : (c : Conversation) (a : Account) (e : ℕ) (x : List ℕ) → CanBeInForce (afterReason c a e) x → CanBeInForce c x
-after-adds-none c a e x = which (eqb e 691) (ltb 0 (c .retries)) (eqb e 648) refl
+after-adds-none c a e x = which (eqb e authenticationFailure) (ltb 0 (c .retries)) (eqb e passwordExpired) refl
   where
-    which : (t u v : Bool) → ltb 0 (c .retries) ≡ u → CanBeInForce (cond (t && u) (retried c) (cond v (keeping c a) (ended c))) x → CanBeInForce c x
+    which : (t u v : Bool) → ltb 0 (c .retries) ≡ u → CanBeInForce (cond (t && u) (retried c) (cond v (awaitingChange c a) (ended c))) x → CanBeInForce c x
     which true true v p h = retried-adds-none c x (ltb-true 0 (c .retries) p) h
     which true false true p h = h
     which true false false p h = h
     which false u true p h = h
     which false u false p h = h
 
-response-adds-none : (c : Conversation) (l : Lookup) (f : fields.Response) (x : List ℕ) → CanBeInForce (responseDrawn c l f .next) x → CanBeInForce c x
-unfolding responseDrawn
-response-adds-none c l f x h = after-adds-none c (l .account) (reasonOf c l f) x h
+response-adds-none : (c : Conversation) (l : Lookup) (f : fields.Response) (x : List ℕ) → CanBeInForce (judgeResponse c l f .next) x → CanBeInForce c x
+unfolding judgeResponse
+response-adds-none c l f x h = after-adds-none c (l .account) (responseReason (c .terms) (c .challenge) l f) x h
 
-change-adds-none : (c : Conversation) (f : changes.Change) (x : List ℕ) → CanBeInForce (changeDrawn c f .next) x → CanBeInForce c x
-unfolding changeDrawn
-change-adds-none c f x = which (newHash c f)
+change-adds-none : (c : Conversation) (f : changes.Change) (x : List ℕ) → CanBeInForce (judgeChange c f .next) x → CanBeInForce c x
+unfolding judgeChange
+change-adds-none c f x = which (newHash (c .kept) (c .challenge) f)
   where
-    which : (o : Option (List ℕ)) → CanBeInForce (drawnBy c o .next) x → CanBeInForce c x
+    which : (o : Option (List ℕ)) → CanBeInForce (changeJudgement c o .next) x → CanBeInForce c x
     which none h = h
     which (some v) h = h
 
-phase-adds-none : (ph : Phase) (c : Conversation) (p : List ℕ) (l : Lookup) (x : List ℕ) → CanBeInForce (drawnIn ph c p l .next) x → CanBeInForce c x
+phase-adds-none : (ph : Phase) (c : Conversation) (p : List ℕ) (l : Lookup) (x : List ℕ) → CanBeInForce (judgeIn ph c p l .next) x → CanBeInForce c x
 phase-adds-none Response c p l x h = response-adds-none c l (responseIn p) x h
 phase-adds-none Change c p l x h = change-adds-none _ _ x h
 phase-adds-none Ended c p l x h = h
 
-drawn-adds-none : (c : Conversation) (p : List ℕ) (l : Lookup) (x : List ℕ) → CanBeInForce (drawn c p l .next) x → CanBeInForce c x
-unfolding drawn
-drawn-adds-none c p l x h = phase-adds-none (c .phase) c p l x h
+judge-adds-none : (c : Conversation) (p : List ℕ) (l : Lookup) (x : List ℕ) → CanBeInForce (judge c p l .next) x → CanBeInForce c x
+unfolding judge
+judge-adds-none c p l x h = phase-adds-none (c .phase) c p l x h
 
 -- for any packet, record and buffer
 pub step-adds-none : (c : Conversation) (s : Lent) (x : List ℕ) → CanBeInForce (nextAfter stepOn c s) x → CanBeInForce c x
@@ -79,6 +81,6 @@ step-adds-none c s x h = which (eqb (refusalAt stepOn c s) 0) refl
   where
     which : (t : Bool) → eqb (refusalAt stepOn c s) 0 ≡ t → CanBeInForce c x
     which true e =
-        let ok : refusalOf c (s .packet) (s .buffer) ≡ 0 = sym (number-step c (s .packet) (s .account) (s .buffer)) ∙ eqb-true (refusalAt stepOn c s) 0 e in
-        drawn-adds-none c (s .packet) (s .account) x (subst (λ (o : Outcome). CanBeInForce (o .answer .next) x) (judged-step c (s .packet) (s .account) (s .buffer) ok) h)
+        let ok : stepRefusal c (s .packet) (s .buffer) ≡ 0 = sym (number-step c (s .packet) (s .account) (s .buffer)) ∙ eqb-true (refusalAt stepOn c s) 0 e in
+        judge-adds-none c (s .packet) (s .account) x (subst (λ (o : Outcome). CanBeInForce (o .answer .next) x) (judged-step c (s .packet) (s .account) (s .buffer) ok) h)
     which false e = subst (λ (d : Conversation). CanBeInForce d x) (refused-same c s (eqb-false (refusalAt stepOn c s) 0 e)) h

@@ -1,12 +1,11 @@
+pub mod Admitted
 pub mod Steps
 pub mod Judged
-pub mod Accepted
+pub mod Judgements
 pub mod Padding
 pub mod Bound
 pub mod Spends
 pub mod Openings
 pub mod InForce
 pub mod Replies
-pub mod Cases
-pub mod NewHash
 pub mod Written

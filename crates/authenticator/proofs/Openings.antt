@@ -14,11 +14,11 @@ use Rattle.issued.specs.Issued.{Issued, places, listed, holds, Distinct, meets,
 use Rattle.issued.proofs.Listing.{Wide}
 use Rattle.issued.proofs.Spending.{accepted, accepts, empty-accepts, same-issued, spent-added, spent-listed, spent-holds, spent-keeps, spent-true, spent-sound}
 use Rattle.packets.specs.Frame.{headed}
-use Rattle.packets.specs.Reply.{challengePacket}
+use Rattle.packets.specs.Reply.{challengePacket, badReplyBuffer}
 use Rattle.challenges.proofs.Laid.{length-challenges-from}
 use Rattle.packets.proofs.Writing.{taken}
 use Rattle.authenticator.specs.Conversation.{closed}
-use Rattle.authenticator.specs.Opening.{Opening, retriesOf, badRoom, spends, openRefusal, openedIssued, firstConversation, openingPacket, openedBy, opened, openedBuffer, Opens}
+use Rattle.authenticator.specs.Opening.{Opening, retriesOf, spends, openRefusal, openedIssued, firstConversation, openingPacket, openedBy, opened, openedBuffer, Opens}
 use Rattle.authenticator.specs.declared.Opened.{Opened}
 use Rattle.authenticator.proofs.Spends.{challenges-wide, challenges-distinct}
 
@@ -49,9 +49,9 @@ module _ (o : Opening) where
     pub opened-first : opened o .conversation ≡ firstConversation o
     opened-first = ap (λ (x : Opened). x .conversation) good
 
-    passed : (ltb 7 (retriesOf (o .retries)) ≡ false) × (badRoom (o .buffer) ≡ false) × (spendRefusal 8 (spends o) (o .issued) ≡ 0)
+    passed : (ltb 7 (retriesOf (o .retries)) ≡ false) × (badReplyBuffer (o .buffer) ≡ false) × (spendRefusal 8 (spends o) (o .issued) ≡ 0)
     unfolding openRefusal
-    passed = none (ltb 7 (retriesOf (o .retries))) (badRoom (o .buffer)) (spendRefusal 8 (spends o) (o .issued)) not-refused
+    passed = none (ltb 7 (retriesOf (o .retries))) (badReplyBuffer (o .buffer)) (spendRefusal 8 (spends o) (o .issued)) not-refused
 
     roomy : 17 ≤ length (o .buffer)
     roomy = ltb-false (length (o .buffer)) 17 (passed .1)

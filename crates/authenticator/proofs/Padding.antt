@@ -14,15 +14,16 @@ use Rattle.packets.specs.Frame.{lengthOf, badFrame}
 use Rattle.packets.specs.Response.{badResponseSize, badResponseFlag, responseRefusal}
 use Rattle.packets.specs.Change.{badChangeSize, badChangeFlags, changeRefusal}
 use Rattle.packets.proofs.Padding.{SamePacket, cut-at-length, same-code, same-id, same-response-refusal, same-response, same-change-refusal, same-change}
-use Rattle.authenticator.specs.Change.{changeDrawn}
-use Rattle.authenticator.specs.Refusal.{bodyRefusal, refusalOf}
-use Rattle.authenticator.specs.Response.{Drawn, responseDrawn}
-use Rattle.authenticator.specs.Step.{drawnIn, drawn, judgedAs, refusedAs, step}
+use Rattle.authenticator.specs.Judge.{judgeChange, judgeResponse, judgeIn, judge}
+use Rattle.authenticator.specs.Admit.{bodyRefusal, stepRefusal}
+use Rattle.authenticator.specs.declared.Judgement.{Judgement}
+use Rattle.authenticator.specs.Step.{judgedAs, refusedAs, step}
+use Rattle.accounts.specs.declared.Lookup.{Lookup}
+use Rattle.authenticator.proofs.Steps.{judged-step, refused-step}
+use Rattle.authenticator.proofs.Admitted.{passed}
 use Rattle.authenticator.specs.declared.Conversation.{Conversation}
-use Rattle.authenticator.specs.declared.Lookup.{Lookup}
 use Rattle.authenticator.specs.declared.Phase.{Phase}
 use Rattle.authenticator.specs.declared.Phase.the-variants.{Response, Change, Ended}
-use Rattle.authenticator.proofs.Steps.{judged-step, refused-step, body-passed}
 
 -- neither 6 nor 7: the size is good
 size-good : (t u : Bool) → _≡_ {A = ℕ} (cond t 6 (cond u 7 0)) 0 → t ≡ false
@@ -35,30 +36,30 @@ module _ (p q : List ℕ) (s : SamePacket p q) where
   same-body Change = same-change-refusal p q s
   same-body Ended = refl
 
-  same-refusal : (c : Conversation) (b : List ℕ) → refusalOf c q b ≡ refusalOf c p b
-  unfolding refusalOf
+  same-refusal : (c : Conversation) (b : List ℕ) → stepRefusal c q b ≡ stepRefusal c p b
+  unfolding stepRefusal
   same-refusal c b = simp (s .frame, same-code p q s, same-id p q s, same-body (c .phase))
 
   -- where neither 6 nor 7 is due, the fields are the same
-  same-drawn : (ph : Phase) (c : Conversation) (l : Lookup) → bodyRefusal ph p ≡ 0 → drawnIn ph c q l ≡ drawnIn ph c p l
+  same-judged : (ph : Phase) (c : Conversation) (l : Lookup) → bodyRefusal ph p ≡ 0 → judgeIn ph c q l ≡ judgeIn ph c p l
   unfolding responseRefusal changeRefusal
-  same-drawn Response c l e =
-      ap (responseDrawn c l) (same-response p q s (size-good (badResponseSize p) (badResponseFlag p) e))
-  same-drawn Change c l e =
-      ap (changeDrawn c) (same-change p q s (size-good (badChangeSize p) (badChangeFlags p) e))
-  same-drawn Ended c l e = refl
+  same-judged Response c l e =
+      ap (judgeResponse c l) (same-response p q s (size-good (badResponseSize p) (badResponseFlag p) e))
+  same-judged Change c l e =
+      ap (judgeChange c) (same-change p q s (size-good (badChangeSize p) (badChangeFlags p) e))
+  same-judged Ended c l e = refl
 
   same-step : (c : Conversation) (l : Lookup) (b : List ℕ) → step c q l b ≡ step c p l b
-  unfolding drawn
-  same-step c l b = which (eqb (refusalOf c p b) 0) refl
+  unfolding judge
+  same-step c l b = which (eqb (stepRefusal c p b) 0) refl
     where
-      which : (t : Bool) → eqb (refusalOf c p b) 0 ≡ t → step c q l b ≡ step c p l b
+      which : (t : Bool) → eqb (stepRefusal c p b) 0 ≡ t → step c q l b ≡ step c p l b
       which true e =
-          let ok = eqb-true (refusalOf c p b) 0 e in
+          let ok = eqb-true (stepRefusal c p b) 0 e in
           judged-step c q l b (same-refusal c b ∙ ok)
-          ∙ ap (λ (d : Drawn). judgedAs d b) (same-drawn (c .phase) c l (body-passed c p b ok)) ∙ sym (judged-step c p l b ok)
+          ∙ ap (λ (j : Judgement). judgedAs c j b) (same-judged (c .phase) c l (passed c p b ok .body)) ∙ sym (judged-step c p l b ok)
       which false e =
-          let no = eqb-false (refusalOf c p b) 0 e in
+          let no = eqb-false (stepRefusal c p b) 0 e in
           refused-step c q l b (λ z. no (sym (same-refusal c b) ∙ z))
           ∙ ap (λ (n : ℕ). refusedAs n c b) (same-refusal c b) ∙ sym (refused-step c p l b no)
 

@@ -1,140 +1,138 @@
--- Every reply that the authenticator writes: its octets by the reason, the reasons there are, and what our peer's reader finds in it, whatever
--- padding follows.
+-- Every reply that the authenticator writes: that it is the one for its reason, and what our peer's
+-- reader finds in it, whatever padding follows.
 -- Assumes nothing.
-use mathlib.Core.Bool.{Bool, true, false, cond, not}
+use mathlib.Core.Bool.{Bool, true, false, cond}
 use mathlib.Core.List.{List, _++_}
 use mathlib.Core.Option.{Option, none, some}
 use mathlib.Core.Path.{_≡_, refl, sym, ap, _∙_, subst}
 use Prim.Native.Nat.{ℕ, _<_}
 use native.Mathlib.Omega.{arith}
+use borrow.Author.Tests.{eqb-true}
 use lib.Dec.{eqb}
-use Rattle.message.specs.Message.{textOf, failedWith, noC, succeeded}
+use Rattle.accounts.specs.declared.Lookup.{Lookup}
+use Rattle.message.specs.Message.{failedWith, noC, succeeded}
+use Rattle.message.specs.Reasons.{noReason}
 use Rattle.message.specs.declared.Reading.{Reading}
 use Rattle.packets.specs.Response.{responseIn}
-use Rattle.packets.specs.Reply.{successPacket, failurePacket, readReply}
-use Rattle.packets.specs.declared.Response as fields
+use Rattle.packets.specs.Change.{changeIn}
+use Rattle.packets.specs.Reply.{readReply}
+use Rattle.packets.specs.declared.Response as responses
 use Rattle.packets.specs.declared.Change as changes
 use Rattle.packets.proofs.ReadBack.{success-back, failure-read}
-use Rattle.authenticator.specs.Conversation.{isEnded}
-use Rattle.authenticator.specs.Refusal.{refusalOf}
-use Rattle.authenticator.specs.Response.{version, Drawn, firstReason, reasonOf, mayRetry, replyFor, responseDrawn}
-use Rattle.authenticator.specs.Change.{newHash, drawnBy, changeDrawn}
-use Rattle.authenticator.specs.Step.{reasonIn, drawnIn, drawn, Outcome, judgedAs}
+use Rattle.verify.specs.Response.{responseReason}
+use Rattle.verify.specs.Change.{newHash}
+use Rattle.verify.proofs.Reasons.{Reason, success, change, three-digits, response-reason}
+use Rattle.authenticator.specs.Admit.{stepRefusal}
+use Rattle.authenticator.specs.Judge.{
+  reasonOf,
+  mayRetry,
+  replyFor,
+  judgementFor,
+  judgeResponse,
+  changeJudgement,
+  judgeChange,
+  judgeIn,
+  judge,
+}
+use Rattle.authenticator.specs.Encode.{version, retryDigit, replyPacket}
+use Rattle.authenticator.specs.Step.{reasonIn, Outcome, judgedAs}
 use Rattle.authenticator.specs.Steps.{Lent, stepOn, refusalAt, replyOf}
-use Rattle.authenticator.specs.declared.Account.{Account}
-use Rattle.authenticator.specs.declared.Lookup.{Lookup}
 use Rattle.authenticator.specs.declared.Conversation.{Conversation}
+use Rattle.authenticator.specs.declared.Judgement.{Judgement}
 use Rattle.authenticator.specs.declared.Phase.{Phase}
 use Rattle.authenticator.specs.declared.Phase.the-variants.{Response, Change, Ended}
-use Rattle.authenticator.proofs.Steps.{judged-step, number-step, live-and-roomy, drawn-fits, reply-of}
+use Rattle.authenticator.specs.declared.Reply.{Reply}
+use Rattle.authenticator.specs.declared.Reply.the-variants.{Success, Failure}
+use Rattle.authenticator.proofs.Admitted.{passed}
+use Rattle.authenticator.proofs.Steps.{judged-step, number-step, reply-of}
 
--- document 01's reasons; 0 is Success
-pub data Reason : ℕ → Type 0 where
-  success : Reason 0
-  barred : Reason 646
-  disabled : Reason 647
-  expired : Reason 648
-  nodialin : Reason 649
-  invalid : Reason 691
-  change : Reason 709
+-- ---- the reply is the one for its reason
 
-three-digits : {e : ℕ} → Reason e → e < 1000
-three-digits success = omega arith
-three-digits barred = omega arith
-three-digits disabled = omega arith
-three-digits expired = omega arith
-three-digits nodialin = omega arith
-three-digits invalid = omega arith
-three-digits change = omega arith
-
-first-reason : (v : Bool) (a : Account) → Reason (firstReason v a)
-unfolding firstReason
-first-reason v a = which v (a .disabled) (a .barred) (a .nodialin) (a .expired)
+reason-of-reply : (c : Conversation) (e : ℕ) → reasonOf (replyFor c e) ≡ e
+reason-of-reply c e = which (eqb e noReason) refl
   where
-    which : (v d h n x : Bool) → Reason (cond (not v) 691 (cond d 647 (cond h 646 (cond n 649 (cond x 648 0)))))
-    which false d h n x = invalid
-    which true true h n x = disabled
-    which true false true n x = barred
-    which true false false true x = nodialin
-    which true false false false true = expired
-    which true false false false false = success
+    which : (t : Bool) → eqb e noReason ≡ t → reasonOf (cond t Success (Failure e (mayRetry c e))) ≡ e
+    which true z = sym (eqb-true e noReason z)
+    which false z = refl
 
-response-reason : (c : Conversation) (l : Lookup) (f : fields.Response) → Reason (reasonOf c l f)
-unfolding reasonOf
-response-reason c l f = first-reason _ _
+-- a reason of RFC 2433's or Success, and the reply for it
+abbrev pub Fitting : Conversation → Judgement → Type 0
+Fitting c j = Reason (reasonOf (j .reply)) × (j .reply ≡ replyFor c (reasonOf (j .reply)))
 
--- what a judged packet draws: a reason, and its reply
-abbrev pub Fitting : Conversation → Drawn → Type 0
-Fitting c d = Reason (d .reason) × (d .reply ≡ replyFor c (d .reason))
+response-fitting : (c : Conversation) (l : Lookup) (f : responses.Response)
+    → Fitting c (judgeResponse c l f)
+unfolding judgeResponse
+response-fitting c l f =
+    let e = responseReason (c .terms) (c .challenge) l f in
+    let same = sym (reason-of-reply c e) in
+    (subst Reason same (response-reason (c .terms) (c .challenge) f l), ap (replyFor c) same)
 
-response-fitting : (c : Conversation) (l : Lookup) (f : fields.Response) → Fitting c (responseDrawn c l f)
-unfolding responseDrawn
-response-fitting c l f = (response-reason c l f, refl)
-
--- by the identifier alone
-change-fitting : (c d : Conversation) (f : changes.Change) → d .id ≡ c .id → Fitting c (changeDrawn d f)
-unfolding changeDrawn
-change-fitting c d f e = which (newHash d f)
+change-fitting : (c : Conversation) (f : changes.Change) → Fitting c (judgeChange c f)
+unfolding judgeChange
+change-fitting c f = which (newHash (c .kept) (c .challenge) f)
   where
-    which : (o : Option (List ℕ)) → Fitting c (drawnBy d o)
-    which none = (change, ap (λ (n : ℕ). failurePacket n (textOf 709 0 version)) e)
-    which (some h) = (success, ap successPacket e)
+    which : (o : Option (List ℕ)) → Fitting c (changeJudgement c o)
+    which none = (change, refl)
+    which (some h) = (success, refl)
 
-phase-fitting : (ph : Phase) (c : Conversation) (p : List ℕ) (l : Lookup) → isEnded ph ≡ false → Fitting c (drawnIn ph c p l)
-phase-fitting Response c p l e = response-fitting c l (responseIn p)
-phase-fitting Change c p l e = change-fitting c _ _ refl
-phase-fitting Ended c p l e = let z : _≡_ {A = ℕ} 0 1 = cc in absurd (omega arith)
+judge-in-fitting : (ph : Phase) (c : Conversation) (p : List ℕ) (l : Lookup)
+    → Fitting c (judgeIn ph c p l)
+judge-in-fitting Response c p l = response-fitting c l (responseIn p)
+judge-in-fitting Change c p l = change-fitting c (changeIn p)
+judge-in-fitting Ended c p l = (success, refl)
 
-pub drawn-fitting : (c : Conversation) (p : List ℕ) (l : Lookup) → isEnded (c .phase) ≡ false → Fitting c (drawn c p l)
-unfolding drawn
-drawn-fitting c p l live = phase-fitting (c .phase) c p l live
+pub judge-fitting : (c : Conversation) (p : List ℕ) (l : Lookup) → Fitting c (judge c p l)
+unfolding judge
+judge-fitting c p l = judge-in-fitting (c .phase) c p l
 
--- what our peer reads for a reason
-abbrev pub readFor : Conversation → ℕ → Reading
-readFor c e = cond (eqb e 0) succeeded (failedWith e (cond (mayRetry c e) 1 0) version noC)
+-- ---- what our peer reads of it
 
-read-reply : (c : Conversation) (e : ℕ) (behind : List ℕ) → e < 1000 → readReply (c .id) (replyFor c e ++ behind) ≡ readFor c e
-read-reply c e behind small = which (eqb e 0) (mayRetry c e)
-  where
-    which : (t r : Bool)
-        → readReply (c .id) (cond t (successPacket (c .id)) (failurePacket (c .id) (textOf e (cond r 1 0) version)) ++ behind)
-        ≡ cond t succeeded (failedWith e (cond r 1 0) version noC)
-    which true r = success-back (c .id) behind
-    which false true = failure-read (c .id) e 1 version behind small (omega arith) (omega arith)
-    which false false = failure-read (c .id) e 0 version behind small (omega arith) (omega arith)
+abbrev pub readingFor : Reply → Reading
+readingFor Success = succeeded
+readingFor (Failure e retry) = failedWith e (retryDigit retry) version noC
+
+pub read-reply : (id : ℕ) (reply : Reply) (behind : List ℕ) → reasonOf reply < 1000
+    → readReply id (replyPacket id reply ++ behind) ≡ readingFor reply
+read-reply id Success behind small = success-back id behind
+read-reply id (Failure e true) behind small =
+    failure-read id e 1 version behind small (omega arith) (omega arith)
+read-reply id (Failure e false) behind small =
+    failure-read id e 0 version behind small (omega arith) (omega arith)
 
 module _ (c : Conversation) (s : Lent) (ok : refusalAt stepOn c s ≡ 0) where
   abbrev reason : ℕ
   reason = reasonIn (stepOn c s .answer .kind)
 
-  abbrev d : Drawn
-  d = drawn c (s .packet) (s .account)
+  abbrev judgement : Judgement
+  judgement = judge c (s .packet) (s .account)
 
-  none-refused : refusalOf c (s .packet) (s .buffer) ≡ 0
+  none-refused : stepRefusal c (s .packet) (s .buffer) ≡ 0
   none-refused = sym (number-step c (s .packet) (s .account) (s .buffer)) ∙ ok
 
-  took : stepOn c s ≡ judgedAs d (s .buffer)
+  took : stepOn c s ≡ judgedAs c judgement (s .buffer)
   took = judged-step c (s .packet) (s .account) (s .buffer) none-refused
 
-  same-reason : reason ≡ d .reason
+  same-reason : reason ≡ reasonOf (judgement .reply)
   same-reason = ap (λ (o : Outcome). reasonIn (o .answer .kind)) took
-
-  live : isEnded (c .phase) ≡ false
-  live = live-and-roomy c (s .packet) (s .buffer) none-refused .0
 
   -- the reason of a judged packet is one of document 01's
   pub judged-reason : Reason reason
-  judged-reason = subst Reason (sym same-reason) (drawn-fitting c (s .packet) (s .account) live .0)
+  judged-reason = subst Reason (sym same-reason) (judge-fitting c (s .packet) (s .account) .0)
+
+  same-reply : judgement .reply ≡ replyFor c reason
+  same-reply = judge-fitting c (s .packet) (s .account) .1 ∙ ap (replyFor c) (sym same-reason)
 
   -- its reply is the one for the reason
-  pub judged-reply : replyOf (stepOn c s) ≡ replyFor c reason
+  pub judged-reply : replyOf (stepOn c s) ≡ replyPacket (c .id) (replyFor c reason)
   judged-reply =
-      let room = live-and-roomy c (s .packet) (s .buffer) none-refused .1 in
       ap replyOf took
-      ∙ reply-of d (s .buffer) (omega (arith, drawn-fits c (s .packet) (s .account) live .1))
-      ∙ drawn-fitting c (s .packet) (s .account) live .1 ∙ ap (replyFor c) (sym same-reason)
+      ∙ reply-of c judgement (s .buffer) (passed c (s .packet) (s .buffer) none-refused .room)
+      ∙ ap (replyPacket (c .id)) same-reply
 
   -- and it reads as the reason, R and V=2
-  pub judged-read : (behind : List ℕ) → readReply (c .id) (replyOf (stepOn c s) ++ behind) ≡ readFor c reason
+  pub judged-read : (behind : List ℕ)
+      → readReply (c .id) (replyOf (stepOn c s) ++ behind) ≡ readingFor (replyFor c reason)
   judged-read behind =
-      ap (λ (x : List ℕ). readReply (c .id) (x ++ behind)) judged-reply ∙ read-reply c reason behind (three-digits judged-reason)
+      ap (λ (x : List ℕ). readReply (c .id) (x ++ behind)) judged-reply
+      ∙ read-reply (c .id) (replyFor c reason) behind
+      (subst (λ (e : ℕ). e < 1000) (sym (reason-of-reply c reason)) (three-digits judged-reason))

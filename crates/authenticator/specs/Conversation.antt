@@ -5,8 +5,8 @@ use mathlib.Core.List.{List}
 use Prim.Native.Nat.{ℕ, _-_}
 use lib.ListN.{replicate}
 use Rattle.challenges.specs.Challenges.{nextId, incremented}
-use Rattle.authenticator.specs.Account.{blank}
-use Rattle.authenticator.specs.declared.Account.{Account}
+use Rattle.accounts.specs.Account.{blankAccount}
+use Rattle.accounts.specs.declared.Account.{Account}
 use Rattle.authenticator.specs.declared.Conversation.{Conversation}
 use Rattle.authenticator.specs.declared.Phase.{Phase}
 use Rattle.authenticator.specs.declared.Phase.the-variants.{Response, Change, Ended}
@@ -29,17 +29,17 @@ successor c id challenge retries phase kept =
 
 -- the end: the kept record is dropped
 abbrev pub ended : Conversation → Conversation
-ended c = successor c (c .id) (c .challenge) (c .retries) Ended blank
+ended c = successor c (c .id) (c .challenge) (c .retries) Ended blankAccount
 
 -- another Response is awaited
 abbrev pub retried : Conversation → Conversation
 retried c = successor c (nextId (c .id)) (incremented (c .challenge)) (c .retries - 1) (c .phase) (c .kept)
 
 -- a change is awaited, and the record is kept; the challenge stays
-abbrev pub keeping : Conversation → Account → Conversation
-keeping c a = successor c (nextId (c .id)) (c .challenge) (c .retries) Change a
+abbrev pub awaitingChange : Conversation → Account → Conversation
+awaitingChange c a = successor c (nextId (c .id)) (c .challenge) (c .retries) Change a
 
 -- what a refused opening hands out
 abbrev pub closed : Conversation
 closed =
-    record { terms = record { lm = false }; id = 0; challenge = replicate 8 0; retries = 0; phase = Ended; kept = blank }
+    record { terms = record { lm = false }; id = 0; challenge = replicate 8 0; retries = 0; phase = Ended; kept = blankAccount }

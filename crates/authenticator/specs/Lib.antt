@@ -1,10 +1,7 @@
-pub mod Account
 pub mod Conversation
 pub mod Opening
-pub mod Refusal
-pub mod Response
-pub mod Change
-pub mod Accepted
+pub mod Admit
+pub mod Judge
+pub mod Encode
 pub mod Step
 pub mod Steps
-pub mod Code

@@ -10,8 +10,8 @@ use lib.ListN.{length}
 use Rattle.issued.specs.Issued.{Issued, spendRefusal, added}
 use Rattle.packets.specs.Frame.{headed}
 use Rattle.challenges.specs.Challenges.{challengesFrom}
-use Rattle.packets.specs.Reply.{challengePacket}
-use Rattle.authenticator.specs.Account.{blank}
+use Rattle.packets.specs.Reply.{challengePacket, badReplyBuffer}
+use Rattle.accounts.specs.Account.{blankAccount}
 use Rattle.authenticator.specs.Conversation.{closed}
 use Rattle.authenticator.specs.declared.Retries.{Retries}
 use Rattle.authenticator.specs.declared.Retries.the-variants.{Default, Count}
@@ -41,17 +41,13 @@ lmAllowed Silent = true
 lmAllowed Allowed = true
 lmAllowed Disallowed = false
 
--- refusal 2: under the 17 octets of the longest reply
-abbrev pub badRoom : List ℕ → Bool
-badRoom buffer = ltb (length buffer) 17
-
 -- "the challenge and its r successors by the 23 rule"
 abbrev pub spends : Opening → List (List ℕ)
 spends o = challengesFrom (suc (retriesOf (o .retries))) (o .challenge)
 
 -- 13, 2, and then 24, 16, 17 of the list, whose entries have 8 octets; 0 is none
 unfoldable pub openRefusal : Opening → ℕ
-openRefusal o = cond (ltb 7 (retriesOf (o .retries))) 13 (cond (badRoom (o .buffer)) 2 (spendRefusal 8 (spends o) (o .issued)))
+openRefusal o = cond (ltb 7 (retriesOf (o .retries))) 13 (cond (badReplyBuffer (o .buffer)) 2 (spendRefusal 8 (spends o) (o .issued)))
 
 -- the list afterwards: "all are added", or it is as it was
 unfoldable pub openedIssued : Opening → Issued
@@ -65,7 +61,7 @@ firstConversation o =
       challenge = o .challenge;
       retries = retriesOf (o .retries);
       phase = Response;
-      kept = blank;
+      kept = blankAccount;
     }
 
 abbrev pub openingPacket : Opening → List ℕ

@@ -1,6 +1,6 @@
 -- The authenticator's steps, one after the other. Words in quotes are document 01's, "The series in demand 3".
 -- Assumes nothing: these are definitions.
-use mathlib.Core.Bool.{Bool, true, false, cond, not, _||_}
+use mathlib.Core.Bool.{Bool, false, cond, not, _||_}
 use mathlib.Core.List.{List}
 use mathlib.Core.Logic.{_≢_, _⊎_}
 use mathlib.Core.Path.{_≡_}
@@ -8,10 +8,9 @@ use Prim.Native.Nat.{ℕ}
 use lib.Dec.{ltb}
 use lib.ListN.{take}
 use Rattle.octets.specs.Parts.{agrees}
-use Rattle.authenticator.specs.Refusal.{refusalOf}
-use Rattle.authenticator.specs.Step.{Outcome, step, numberOf}
-use Rattle.authenticator.specs.declared.Account.{Account}
-use Rattle.authenticator.specs.declared.Lookup.{Lookup}
+use Rattle.authenticator.specs.Admit.{stepRefusal}
+use Rattle.authenticator.specs.Step.{Outcome, step, refusalIn}
+use Rattle.accounts.specs.declared.Lookup.{Lookup}
 use Rattle.authenticator.specs.declared.Conversation.{Conversation}
 
 -- "Each step is lent a packet, a record or none, and a reply buffer."
@@ -44,7 +43,7 @@ module _ (box : Box) where
 
   -- the number that the box itself gives
   abbrev pub refusalAt : Conversation → Lent → ℕ
-  refusalAt c s = numberOf (box c s .answer .kind)
+  refusalAt c s = refusalIn (box c s .answer .kind)
 
   -- "a packet is judged exactly when it draws a reply": 1 for a packet that does
   abbrev pub judged : Conversation → Lent → ℕ
@@ -54,17 +53,10 @@ module _ (box : Box) where
   -- So the box's own word for what it did counts for nothing, and a box that judges what it should
   -- refuse is held to the claim too.
   abbrev pub Refused : Conversation → Lent → Type 0
-  Refused c s = (judged c s ≡ 0) ⊎ (refusalOf c (s .packet) (s .buffer) ≢ 0)
+  Refused c s = (judged c s ≡ 0) ⊎ (stepRefusal c (s .packet) (s .buffer) ≢ 0)
 
   -- "A refused packet leaves conversation, account record and reply buffer as they were" (demand
   -- 1): a step that draws no reply, which leaves the buffer, leaves the conversation too and hands
   -- out no record.
   abbrev pub Leaves : Conversation → Lent → Type 0
-  Leaves c s = judged c s ≡ 0 → (nextAfter c s ≡ c) × (box c s .answer .handed .found ≡ false)
-
--- the rightful user's record: with an NT hash, and neither disabled, barred by hours nor without dial-in
-pub record Rightful (a : Account) : Type 0 where
-  pub nt : a .nt .present ≡ true
-  pub enabled : a .disabled ≡ false
-  pub barred : a .barred ≡ false
-  pub dialin : a .nodialin ≡ false
+  Leaves c s = judged c s ≡ 0 → (nextAfter c s ≡ c) × (box c s .answer .updated .found ≡ false)

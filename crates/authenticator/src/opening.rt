@@ -4,16 +4,16 @@ ghost use Prim.Native.Nat.{suc, _≤_};
 ghost use Rattle.issued.specs.Issued.{spendRefusal, spent};
 ghost use Rattle.challenges.specs.Challenges.{challengesFrom};
 ghost use Rattle.authenticator.specs.Conversation.{closed};
-ghost use Rattle.authenticator.specs.Opening.{retriesOf, lmAllowed, badRoom, Opens};
+ghost use Rattle.authenticator.specs.Opening.{retriesOf, lmAllowed, Opens};
 use crate::Conversation;
 use crate::LmChoice;
 use crate::Opened;
 use crate::Phase;
 use crate::Retries;
-use crate::Terms;
-use crate::accounts::blank_account;
 use crate::successors::closed_conversation;
+use accounts::blank_account;
 use issued::Spent;
+use verify::Terms;
 
 fn retries_of(retries: Retries) -> u8
     ensures { λ r. ⌜ r ≡ retriesOf retries ⌝ }
@@ -32,13 +32,6 @@ fn is_lm_allowed(lm: LmChoice) -> bool
         LmChoice::Allowed => true,
         LmChoice::Disallowed => false,
     }
-}
-
-// Whether a reply buffer is too small for the longest reply.
-pub fn is_bad_room(reply: &[u8]) -> bool
-    ensures { λ r. ⌜ r ≡ badRoom (now (reply .entry)) ⌝ }
-{
-    reply.len() < 17
 }
 
 fn refused_opening(refusal: u8, used: usize) -> Opened
@@ -84,7 +77,7 @@ impl Conversation {
         if 7 < r {
             return refused_opening(13, used);
         }
-        if is_bad_room(reply) {
+        if packets::is_bad_reply_buffer(reply) {
             return refused_opening(2, used);
         }
         let spent = spend(challenge, r, list, used, counts);

@@ -1,12 +1,12 @@
 // The conversations that a step can lead to. Every successor is made in one place and keeps the terms.
 ghost use mathlib.Core.Path.{_≡_};
 ghost use Prim.Native.Nat.{_-_};
-ghost use Rattle.authenticator.specs.Conversation.{successor, ended, retried, keeping, closed};
-use crate::Account;
+ghost use Rattle.authenticator.specs.Conversation.{successor, ended, retried, awaitingChange, closed};
 use crate::Conversation;
 use crate::Phase;
-use crate::Terms;
-use crate::accounts::blank_account;
+use accounts::Account;
+use accounts::blank_account;
+use verify::Terms;
 
 // 0 stays 0.
 fn one_less(n: u8) -> u8
@@ -69,7 +69,7 @@ impl Conversation {
 
     // A change is awaited, and the record is kept.
     pub(crate) fn to_change(self, account: Account) -> Conversation
-        ensures { λ r. ⌜ r ≡ keeping self account ⌝ }
+        ensures { λ r. ⌜ r ≡ awaitingChange self account ⌝ }
     {
         let challenge = self.challenge;
         self.successor(

@@ -4,7 +4,7 @@ ghost use mathlib.Core.Bool.{cond};
 ghost use mathlib.Core.List.{_∷_};
 ghost use Prim.Native.Nat.{_-_};
 ghost use Rattle.octets.specs.Numbers.{toBe};
-ghost use Rattle.packets.specs.Frame.{octet, lengthOf, badFrame};
+ghost use Rattle.packets.specs.Frame.{octet, lengthOf, badFrame, badId};
 
 // The octet at the place i, 0 where the packet does not reach it.
 pub fn octet(packet: &[u8], i: usize) -> u8
@@ -26,6 +26,13 @@ pub fn bad_frame(packet: &[u8]) -> bool
 {
     let n = length(packet);
     packet.len() < 4 || (n < 4 || packet.len() < n)
+}
+
+// Its identifier is another one than this.
+pub fn bad_id(id: u8, packet: &[u8]) -> bool
+    ensures { λ r. ⌜ r ≡ badId id (now (packet .entry)) ⌝ }
+{
+    octet(packet, 1) != id
 }
 
 // Refusal 3, or 0.

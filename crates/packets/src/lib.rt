@@ -8,6 +8,8 @@ mod responses;
 pub use changes::change_refusal;
 pub use changes::read_change;
 pub use changes::write_change;
+pub use frames::bad_frame;
+pub use frames::bad_id;
 pub use frames::frame_refusal;
 pub use frames::length;
 pub use frames::octet;

@@ -13,7 +13,13 @@ use lib.ListN.{length}
 use Rattle.octets.specs.Parts.{agrees}
 use Rattle.octets.proofs.Parts.{agrees-refl, agrees-equal}
 use Rattle.credentials.specs.Credentials.{
-    ntHashOf, responseOf, oldUnderNew, sealedBlock, contentFor, unsealedAs, passwordIn
+  ntHashOf,
+  responseOf,
+  oldUnderNew,
+  sealedBlock,
+  contentFor,
+  unsealedAs,
+  passwordIn,
 }
 use Rattle.credentials.specs.declared.Unsealed.{Unsealed}
 use Rattle.credentials.specs.declared.Content.{Content}

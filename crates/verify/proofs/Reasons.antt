@@ -10,7 +10,13 @@ use Rattle.accounts.specs.Account.{found, Rightful}
 use Rattle.accounts.specs.declared.Account.{Account}
 use Rattle.accounts.specs.declared.Lookup.{Lookup}
 use Rattle.message.specs.Reasons.{
-    authenticationFailure, accountDisabled, restrictedLogonHours, noDialinPermission, passwordExpired, changingPassword, noReason
+  authenticationFailure,
+  accountDisabled,
+  restrictedLogonHours,
+  noDialinPermission,
+  passwordExpired,
+  changingPassword,
+  noReason,
 }
 use Rattle.packets.specs.declared.Response.{Response}
 use Rattle.verify.specs.Response.{valid, foundValid, firstReason, responseReason}

@@ -9,7 +9,12 @@ use mathlib.Core.List.{List}
 use mathlib.Core.Path.{_≡_}
 use Prim.Native.Nat.{ℕ, _%_, _≤_}
 use Rattle.credentials.specs.Credentials.{
-    ntHashOf, responseOf, oldUnderNew, lengthUnder, unsealedAs, passwordIn
+  ntHashOf,
+  responseOf,
+  oldUnderNew,
+  lengthUnder,
+  unsealedAs,
+  passwordIn,
 }
 use Rattle.accounts.specs.declared.Account.{Account}
 use Rattle.packets.specs.declared.Change.{Change}

@@ -9,7 +9,11 @@ use Prim.Native.Nat.{ℕ, _%_}
 use lib.Dec.{eqb}
 use Rattle.octets.specs.Parts.{agrees}
 use Rattle.credentials.specs.Credentials.{
-    ntHashOf, responseOf, oldUnderNew, unsealedAs, passwordIn
+  ntHashOf,
+  responseOf,
+  oldUnderNew,
+  unsealedAs,
+  passwordIn,
 }
 use Rattle.credentials.specs.declared.Unsealed.{Unsealed}
 use Rattle.credentials.specs.declared.Content.{Content}

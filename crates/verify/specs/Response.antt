@@ -10,7 +10,12 @@ use Rattle.accounts.specs.declared.Hash.{Hash}
 use Rattle.accounts.specs.declared.Account.{Account}
 use Rattle.accounts.specs.declared.Lookup.{Lookup}
 use Rattle.message.specs.Reasons.{
-    authenticationFailure, accountDisabled, restrictedLogonHours, noDialinPermission, passwordExpired, noReason
+  authenticationFailure,
+  accountDisabled,
+  restrictedLogonHours,
+  noDialinPermission,
+  passwordExpired,
+  noReason,
 }
 use Rattle.packets.specs.declared.Response.{Response}
 use Rattle.verify.specs.declared.Terms.{Terms}

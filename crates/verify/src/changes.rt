@@ -54,12 +54,7 @@ fn is_same_response(a: [u8; 24], b: [u8; 24]) -> bool
 }
 
 // Whether the old hash under the new one and the new hash's response are those that were sent.
-fn is_proven(
-    kept: Account,
-    challenge: [u8; 8],
-    fields: packets::Change,
-    hash: [u8; 16],
-) -> bool
+fn is_proven(kept: Account, challenge: [u8; 8], fields: packets::Change, hash: [u8; 16]) -> bool
     ensures { λ r. ⌜ r ≡ proves kept challenge fields hash ⌝ }
 {
     let nt = kept.nt;
@@ -67,8 +62,10 @@ fn is_proven(
     let verifier = fields.verifier;
     let response = fields.nt;
     let same_hash = is_same_hash(verifier, credentials::old_under_new(old, hash));
-    let same_response =
-        is_same_response(response, credentials::challenge_response(hash, challenge));
+    let same_response = is_same_response(
+        response,
+        credentials::challenge_response(hash, challenge),
+    );
     same_hash & same_response
 }
 

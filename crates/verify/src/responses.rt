@@ -63,9 +63,21 @@ fn reason_if(test: bool, reason: u16, rest: u16) -> u16
 fn first_reason(valid: bool, account: Account) -> u16
     ensures { λ r. ⌜ r ≡ firstReason valid account ⌝ }
 {
-    let expired = reason_if(account.expired, reasons::PASSWORD_EXPIRED, reasons::NO_REASON);
-    let dialin = reason_if(account.dialin_denied, reasons::NO_DIALIN_PERMISSION, expired);
-    let hours = reason_if(account.hours_denied, reasons::RESTRICTED_LOGON_HOURS, dialin);
+    let expired = reason_if(
+        account.expired,
+        reasons::PASSWORD_EXPIRED,
+        reasons::NO_REASON,
+    );
+    let dialin = reason_if(
+        account.dialin_denied,
+        reasons::NO_DIALIN_PERMISSION,
+        expired,
+    );
+    let hours = reason_if(
+        account.hours_denied,
+        reasons::RESTRICTED_LOGON_HOURS,
+        dialin,
+    );
     let disabled = reason_if(account.disabled, reasons::ACCOUNT_DISABLED, hours);
     reason_if(!valid, reasons::AUTHENTICATION_FAILURE, disabled)
 }

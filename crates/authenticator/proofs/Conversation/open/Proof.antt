@@ -12,8 +12,8 @@ use lib.ListN.{length}
 use Rattle.issued.specs.Issued.{Issued, spendRefusal, spent}
 use Rattle.issued.proofs.Spending.{spent-refused}
 use Rattle.challenges.specs.Challenges.{challengesFrom}
-use Rattle.packets.specs.Reply.{challengePacket}
-use Rattle.authenticator.specs.Opening.{Opening, retriesOf, badRoom, spends, openRefusal}
+use Rattle.packets.specs.Reply.{challengePacket, badReplyBuffer}
+use Rattle.authenticator.specs.Opening.{Opening, retriesOf, spends, openRefusal}
 use Rattle.authenticator.proofs.Openings.{refused-promise, accepted-promise}
 use Rattle.authenticator.proofs.Written.{written-whole, challenge-fits}
 use Rattle.authenticator.proofs.Conversation.open.Statement.{statement}
@@ -56,15 +56,15 @@ unfolding openRefusal
 returns-2 c =
     let k = c .before .before in
     let e = k .before .before in
-    refused-promise (given (e .before)) 2 (simp (few e, sym (k .is-bad-room .ensures) ∙ c .before .if2 .taken)) (λ f. omega arith) (c .refused-opening2 .ensures) refl refl refl
+    refused-promise (given (e .before)) 2 (simp (few e, sym (k .is-bad-reply-buffer .ensures) ∙ c .before .if2 .taken)) (λ f. omega arith) (c .refused-opening2 .ensures) refl refl refl
 
 -- ---- behind the second
 
 abbrev first : tie.Else2 → tie.Else1
 first c = c .before .before .before
 
-roomy : (c : tie.Else2) → badRoom (given (first c .before) .buffer) ≡ false
-roomy c = sym (c .before .is-bad-room .ensures) ∙ c .if2 .left
+roomy : (c : tie.Else2) → badReplyBuffer (given (first c .before) .buffer) ≡ false
+roomy c = sym (c .before .is-bad-reply-buffer .ensures) ∙ c .if2 .left
 
 -- ---- behind the third: what was told of the list
 

@@ -6,7 +6,10 @@ use mathlib.Core.Bool.{cond, not}
 use mathlib.Core.Path.{ap, _∙_}
 use Prim.Native.Nat.{ℕ}
 use Rattle.message.specs.Reasons.{
-    authenticationFailure, accountDisabled, restrictedLogonHours, noDialinPermission
+  authenticationFailure,
+  accountDisabled,
+  restrictedLogonHours,
+  noDialinPermission,
 }
 use Rattle.verify.specs.Response.{firstReason}
 use Rattle.verify.proofs.responses.first_reason.Statement.{statement}

@@ -1,0 +1,47 @@
+-- `authenticator::encode::write_reply` meets its contract, by the kind of reply.
+-- Assumes nothing.
+use borrow.Author.Needs.{needs}
+use mathlib.Core.List.{List}
+use mathlib.Core.Path.{_≡_, sym, ap, _∙_}
+use Prim.Native.Nat.{ℕ}
+use lib.ListN.{length}
+use Rattle.message.specs.Message.{textOf}
+use Rattle.packets.specs.Frame.{headed, headedLength}
+use Rattle.packets.specs.Reply.{failurePacket}
+use Rattle.authenticator.specs.Encode.{version, replyPacket}
+use Rattle.authenticator.specs.declared.Reply.{Reply}
+use Rattle.authenticator.proofs.encode.write_reply.Statement.{statement}
+use Rattle.authenticator.proofs.encode.write_reply.Tie as tie
+
+-- what was written is the packet of the reply
+same : (out : List ℕ) {n : ℕ} {packet reply after : List ℕ} → packet ≡ reply
+    → (n ≡ headedLength packet out) × (after ≡ headed packet out)
+    → (n ≡ headedLength reply out) × (after ≡ headed reply out)
+same out e w =
+    (w .0 ∙ ap (λ (x : List ℕ). headedLength x out) e, w .1 ∙ ap (λ (x : List ℕ). headed x out) e)
+
+returns : tie.Need-returns
+returns c =
+    let w = c .before .before in
+    let m = w .before .before in
+    let a = m .before .before .before .args in
+    same (a .out .now) (ap (replyPacket (a .id)) (sym (m .enum-told .given .1)))
+    (w .write-success .ensures)
+
+returns-2 : tie.Need-returns-2
+returns-2 c =
+    let w = c .before .before in
+    let d = w .before .before in
+    let m = d .before .before in
+    let a = m .before .before .before .args in
+    same (a .out .now)
+    (ap (λ (r : ℕ). failurePacket (a .id) (textOf (m .reply .given .0 .0) r version)) (d .retry-digit .ensures)
+    ∙ ap (replyPacket (a .id)) (sym (m .reply .given .1)))
+    (w .write-failure .ensures)
+
+pub write-reply-spec : {M : Type 1} → statement M
+write-reply-spec =
+    tie.close
+    (tie.spec
+    (λ c. search needs) (λ c κs. search needs) (λ c. search needs) (λ c κs. search needs) (λ c κs. search needs)
+    (λ c. search needs) returns (λ c. search needs) returns-2)

@@ -1,0 +1,81 @@
+-- The second part of a step: how an awaited packet is judged (document 01, "How the box judges").
+-- Whether a Response is valid and a change accepted is defined in `verify`; here is what follows:
+-- the reply, the next conversation and the updated record.
+-- Assumes nothing: these are definitions.
+use mathlib.Core.Bool.{Bool, false, cond, _&&_}
+use mathlib.Core.List.{List}
+use mathlib.Core.Option.{Option, none, some}
+use Prim.Native.Nat.{ℕ}
+use lib.Dec.{eqb, ltb}
+use Rattle.accounts.specs.Account.{notFound, found, changed}
+use Rattle.accounts.specs.declared.Account.{Account}
+use Rattle.accounts.specs.declared.Lookup.{Lookup}
+use Rattle.message.specs.Reasons.{
+  authenticationFailure,
+  passwordExpired,
+  changingPassword,
+  noReason,
+}
+use Rattle.packets.specs.Response.{responseIn}
+use Rattle.packets.specs.Change.{changeIn}
+use Rattle.packets.specs.declared.Response as responses
+use Rattle.packets.specs.declared.Change as changes
+use Rattle.verify.specs.Response.{responseReason}
+use Rattle.verify.specs.Change.{newHash}
+use Rattle.authenticator.specs.Conversation.{ended, retried, awaitingChange}
+use Rattle.authenticator.specs.declared.Conversation.{Conversation}
+use Rattle.authenticator.specs.declared.Phase.{Phase}
+use Rattle.authenticator.specs.declared.Phase.the-variants.{Response, Change, Ended}
+use Rattle.authenticator.specs.declared.Reply.{Reply}
+use Rattle.authenticator.specs.declared.Reply.the-variants.{Success, Failure}
+use Rattle.authenticator.specs.declared.Judgement.{Judgement}
+
+-- the reason that a reply gives; 0 is Success
+abbrev pub reasonOf : Reply → ℕ
+reasonOf Success = noReason
+reasonOf (Failure e retry) = e
+
+-- ---- a Response
+
+-- R: an authentication failure with retries left may be retried
+abbrev pub mayRetry : Conversation → ℕ → Bool
+mayRetry c e = eqb e authenticationFailure && ltb 0 (c .retries)
+
+abbrev pub replyFor : Conversation → ℕ → Reply
+replyFor c e = cond (eqb e noReason) Success (Failure e (mayRetry c e))
+
+-- a retry keeps the conversation going, an expired password awaits a change, all else ends it
+abbrev pub afterReason : Conversation → Account → ℕ → Conversation
+afterReason c a e =
+    cond (mayRetry c e) (retried c) (cond (eqb e passwordExpired) (awaitingChange c a) (ended c))
+
+abbrev pub judgementFor : Conversation → Account → ℕ → Judgement
+judgementFor c a e = record { reply = replyFor c e; next = afterReason c a e; updated = notFound }
+
+unfoldable pub judgeResponse : Conversation → Lookup → responses.Response → Judgement
+judgeResponse c l f =
+    judgementFor c (l .account) (responseReason (c .terms) (c .challenge) l f)
+
+-- ---- a change
+
+-- Success and the updated record, or a Failure; either ends the conversation
+abbrev pub changeJudgement : Conversation → Option (List ℕ) → Judgement
+changeJudgement c none =
+    record { reply = Failure changingPassword false; next = ended c; updated = notFound }
+changeJudgement c (some h) =
+    record { reply = Success; next = ended c; updated = found (changed (c .kept) h) }
+
+-- the record that was kept decides, whatever record is passed with the change
+unfoldable pub judgeChange : Conversation → changes.Change → Judgement
+judgeChange c f = changeJudgement c (newHash (c .kept) (c .challenge) f)
+
+-- ---- by the phase
+
+-- an ended conversation has no packet to judge: what stands there has no effect
+abbrev pub judgeIn : Phase → Conversation → List ℕ → Lookup → Judgement
+judgeIn Response c p l = judgeResponse c l (responseIn p)
+judgeIn Change c p l = judgeChange c (changeIn p)
+judgeIn Ended c p l = record { reply = Success; next = c; updated = notFound }
+
+unfoldable pub judge : Conversation → List ℕ → Lookup → Judgement
+judge c p l = judgeIn (c .phase) c p l

@@ -1,0 +1,61 @@
+// The first part of a step: whether the conversation takes a packet, or with which number it refuses
+// it.
+ghost use mathlib.Core.Path.{_≡_};
+ghost use Rattle.packets.specs.Frame.{badId};
+ghost use Rattle.authenticator.specs.Conversation.{awaitedCode, isEnded};
+ghost use Rattle.authenticator.specs.Admit.{badCode, bodyRefusal, stepRefusal};
+use crate::Conversation;
+use crate::Phase;
+use refusals::refuse_if;
+
+// The code of the packet that a phase awaits; 0 is none.
+pub fn awaited_code(phase: Phase) -> u8
+    ensures { λ r. ⌜ r ≡ awaitedCode phase ⌝ }
+{
+    match phase {
+        Phase::Response => 2,
+        Phase::Change => 6,
+        Phase::Ended => 0,
+    }
+}
+
+fn is_ended(phase: Phase) -> bool
+    ensures { λ r. ⌜ r ≡ isEnded phase ⌝ }
+{
+    match phase {
+        Phase::Response => false,
+        Phase::Change => false,
+        Phase::Ended => true,
+    }
+}
+
+fn is_bad_code(phase: Phase, packet: &[u8]) -> bool
+    ensures { λ r. ⌜ r ≡ badCode phase (now (packet .entry)) ⌝ }
+{
+    packets::octet(packet, 0) != awaited_code(phase)
+}
+
+fn body_refusal(phase: Phase, packet: &[u8]) -> u8
+    ensures { λ r. ⌜ r ≡ bodyRefusal phase (now (packet .entry)) ⌝ }
+{
+    match phase {
+        Phase::Response => packets::response_refusal(packet),
+        Phase::Change => packets::change_refusal(packet),
+        Phase::Ended => 0,
+    }
+}
+
+impl Conversation {
+    // The refusals 1 to 7 in that order; 0 is none.
+    pub(crate) fn refusal(self, packet: &[u8], reply: &[u8]) -> u8
+        ensures { λ r. ⌜ r ≡ stepRefusal self (now (packet .entry)) (now (reply .entry)) ⌝ }
+    {
+        let phase = self.phase;
+        let body = body_refusal(phase, packet);
+        let id = refuse_if(packets::bad_id(self.id, packet), 5, body);
+        let code = refuse_if(is_bad_code(phase, packet), 4, id);
+        let frame = refuse_if(packets::bad_frame(packet), 3, code);
+        let buffer = refuse_if(packets::is_bad_reply_buffer(reply), 2, frame);
+        refuse_if(is_ended(phase), 1, buffer)
+    }
+}

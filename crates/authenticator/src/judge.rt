@@ -1,0 +1,117 @@
+// The second part of a step: how an awaited packet is judged. Whether a Response is valid and a
+// change accepted is found out by `verify`.
+ghost use mathlib.Core.Path.{_≡_};
+ghost use Rattle.packets.specs.Response.{responseIn};
+ghost use Rattle.packets.specs.Change.{changeIn};
+ghost use Rattle.authenticator.specs.Judge.{
+  mayRetry,
+  replyFor,
+  afterReason,
+  judgeResponse,
+  judgeChange,
+  judge,
+};
+use crate::Conversation;
+use crate::Judgement;
+use crate::Phase;
+use crate::Reply;
+use accounts::Account;
+use accounts::Lookup;
+use accounts::changed;
+use accounts::found;
+use accounts::not_found;
+use message::reasons;
+
+impl Conversation {
+    fn may_retry(self, reason: u16) -> bool
+        ensures { λ r. ⌜ r ≡ mayRetry self reason ⌝ }
+    {
+        (reason == reasons::AUTHENTICATION_FAILURE) & (0 < self.retries)
+    }
+
+    fn reply_for(self, reason: u16) -> Reply
+        ensures { λ r. ⌜ r ≡ replyFor self reason ⌝ }
+    {
+        let retry = self.may_retry(reason);
+        if reason == reasons::NO_REASON {
+            Reply::Success
+        } else {
+            Reply::Failure(reason, retry)
+        }
+    }
+
+    fn after(self, account: Account, reason: u16) -> Conversation
+        ensures { λ r. ⌜ r ≡ afterReason self account reason ⌝ }
+    {
+        if self.may_retry(reason) {
+            return self.to_retry();
+        }
+        if reason == reasons::PASSWORD_EXPIRED {
+            return self.to_change(account);
+        }
+        self.to_end()
+    }
+
+    // A Response that is not refused.
+    fn response(self, packet: &[u8], lookup: Lookup) -> Judgement
+        ensures { λ r. ⌜ r ≡ judgeResponse self lookup (responseIn (now (packet .entry))) ⌝ }
+    {
+        let terms = self.terms;
+        let challenge = self.challenge;
+        let account = lookup.account;
+        let fields = packets::read_response(packet);
+        let reason = verify::response_reason(terms, challenge, lookup, fields);
+        let reply = self.reply_for(reason);
+        let next = self.after(account, reason);
+        let updated = not_found();
+        Judgement {
+            reply,
+            next,
+            updated,
+        }
+    }
+
+    // A change that is not refused.
+    fn change(self, packet: &[u8]) -> Judgement
+        ensures { λ r. ⌜ r ≡ judgeChange self (changeIn (now (packet .entry))) ⌝ }
+    {
+        let challenge = self.challenge;
+        let kept = self.kept;
+        let hash = verify::new_hash(kept, challenge, packets::read_change(packet));
+        let octets = hash.octets;
+        let next = self.to_end();
+        if hash.present {
+            let updated = found(changed(kept, octets));
+            return Judgement {
+                reply: Reply::Success,
+                next,
+                updated,
+            };
+        }
+        let updated = not_found();
+        Judgement {
+            reply: Reply::Failure(reasons::CHANGING_PASSWORD, false),
+            next,
+            updated,
+        }
+    }
+
+    // How a packet that is not refused is judged, by the phase.
+    pub(crate) fn judge(self, packet: &[u8], lookup: Lookup) -> Judgement
+        ensures { λ r. ⌜ r ≡ judge self (now (packet .entry)) lookup ⌝ }
+    {
+        let phase = self.phase;
+        match phase {
+            Phase::Response => self.response(packet, lookup),
+            Phase::Change => self.change(packet),
+            Phase::Ended => {
+                let updated = not_found();
+                Judgement {
+                    reply: Reply::Success,
+                    next: self,
+                    updated,
+                }
+            }
+        }
+    }
+}
