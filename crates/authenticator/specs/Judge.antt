@@ -20,7 +20,7 @@ use Rattle.packets.specs.Response.{responseIn}
 use Rattle.packets.specs.Change.{changeIn}
 use Rattle.packets.specs.declared.Response as responses
 use Rattle.packets.specs.declared.Change as changes
-use Rattle.verify.specs.Response.{responseReason}
+use Rattle.verify.specs.Response.{valid, responseReason}
 use Rattle.verify.specs.Change.{newHash}
 use Rattle.authenticator.specs.Conversation.{ended, retried, awaitingChange}
 use Rattle.authenticator.specs.declared.Conversation.{Conversation}
@@ -36,6 +36,10 @@ reasonOf Success = noReason
 reasonOf (Failure e retry) = e
 
 -- ---- a Response
+
+-- valid by the conversation's terms and challenge
+abbrev pub validIn : Conversation → Account → responses.Response → Bool
+validIn c a f = valid (c .terms) (c .challenge) a f
 
 -- R: an authentication failure with retries left may be retried
 abbrev pub mayRetry : Conversation → ℕ → Bool
@@ -65,9 +69,13 @@ changeJudgement c none =
 changeJudgement c (some h) =
     record { reply = Success; next = ended c; updated = found (changed (c .kept) h) }
 
+-- the new hash of a change that is accepted by the record that was kept and the challenge in force
+abbrev pub newHashIn : Conversation → changes.Change → Option (List ℕ)
+newHashIn c f = newHash (c .kept) (c .challenge) f
+
 -- the record that was kept decides, whatever record is passed with the change
 unfoldable pub judgeChange : Conversation → changes.Change → Judgement
-judgeChange c f = changeJudgement c (newHash (c .kept) (c .challenge) f)
+judgeChange c f = changeJudgement c (newHashIn c f)
 
 -- ---- by the phase
 

@@ -7,23 +7,22 @@ use Prim.Native.Nat.{ℕ, _+_, _≤_, _<_}
 use native.Mathlib.Omega.{arith}
 use lib.ListN.{length, replicate, length-append, length-replicate}
 use Rattle.credentials.specs.Credentials.{ntHashOf}
-use Rattle.message.specs.Message.{textOf, failedWith, noC, succeeded}
-use Rattle.message.specs.declared.Reading.{Reading}
+use Rattle.message.specs.Reasons.{authenticationFailure, passwordExpired}
 use Rattle.packets.specs.Response.{responseIn}
-use Rattle.packets.specs.Reply.{successPacket, failurePacket, readReply}
-use Rattle.packets.proofs.ReadBack.{success-back, failure-read}
-use Rattle.authenticator.specs.Account.{blank, found, renewed}
+use Rattle.packets.specs.Reply.{successPacket}
+use Rattle.authenticator.specs.Encode.{replyPacket}
+use Rattle.accounts.specs.Account.{blankAccount, found, changed, Rightful}
+use Rattle.authenticator.specs.Judge.{validIn}
 use Rattle.authenticator.specs.Opening.{retriesOf, opened}
-use Rattle.authenticator.specs.Response.{valid}
 use Rattle.authenticator.specs.Step.{Outcome, judgedAs, step}
-use Rattle.authenticator.specs.Steps.{Lent, stepOn, nextAfter, Refused, Leaves, judged, Rightful}
-use Rattle.authenticator.specs.declared.Account.{Account}
-use Rattle.authenticator.specs.declared.Lookup.{Lookup}
+use Rattle.authenticator.specs.Steps.{Lent, stepOn, nextAfter, Refused, Leaves, judged}
+use Rattle.accounts.specs.declared.Account.{Account}
+use Rattle.accounts.specs.declared.Lookup.{Lookup}
+use Rattle.authenticator.proofs.Steps.{refused-same, judged-none, refused-number, leaves}
+use Rattle.authenticator.proofs.Replies.{readingFor}
+use Rattle.authenticator.proofs.Judged.{tryAgain, changedTo, changed-rightful}
 use Rattle.authenticator.specs.declared.Conversation.{Conversation}
 use Rattle.authenticator.specs.declared.Phase.the-variants.{Response, Change}
-use Rattle.authenticator.proofs.Steps.{refused-same, judged-none, refused-number, leaves}
-use Rattle.authenticator.proofs.Written.{success-fits, failure-fits}
-use Rattle.authenticator.proofs.Judged.{again, changed, renewed-rightful}
 use Rattle.authenticator.proofs.Openings.{opened-first}
 use Rattle.authenticator.proofs.Bound.{leftIn, left-first, judged-less}
 use Rattle.peer.specs.Write.{Wrote, responseFor, writeResponse, writeChange}
@@ -37,7 +36,7 @@ use Rattle.series.proofs.RoundTrips.{challenge-read}
 use Rattle.series.proofs.Invariant.{Invariant, whole, within, along-any}
 use Rattle.series.proofs.Exchanged.{Exchanged, exchanged}
 use Rattle.series.proofs.Taken.{InStep, invalid-taken, right-taken, change-taken}
-use Rattle.series.proofs.Ready.{FitIn, fit-plan, opened-in-step, retried-in-step, ended-in-step, drawnRight, readRight, right-fits, right-in-step, right-fit}
+use Rattle.series.proofs.Ready.{FitIn, fit-plan, opened-in-step, retried-in-step, ended-in-step, drawnRight, right-small, right-in-step, right-fit}
 
 -- no record, or one for which the try is invalid
 not-valid : (f v : Bool) → (f ≡ true → v ≡ false) → (f && v) ≡ false
@@ -49,18 +48,6 @@ not-valid false v h = refl
 module _ (p : State) (h : InStep (p .conversation) (p .peer .turn)) where
   abbrev turn : Turn
   turn = p .peer .turn
-
-  -- what the reply reads as, by the identifier that both have
-  read-by : (reply behind : List ℕ) (r : Reading) → readReply (p .conversation .id) (reply ++ behind) ≡ r → readReply (turn .id) (reply ++ behind) ≡ r
-  read-by reply behind r e = ap (λ (i : ℕ). readReply i (reply ++ behind)) (sym (h .id)) ∙ e
-
-  read-failure : (e r : ℕ) (behind : List ℕ) → e < 1000 → r < 2
-      → readReply (turn .id) (failurePacket (p .conversation .id) (textOf e r 2) ++ behind) ≡ failedWith e r 2 noC
-  read-failure e r behind small bit =
-      read-by (failurePacket (p .conversation .id) (textOf e r 2)) behind (failedWith e r 2 noC) (failure-read (p .conversation .id) e r 2 behind small bit (omega arith))
-
-  read-success : (behind : List ℕ) → readReply (turn .id) (successPacket (p .conversation .id) ++ behind) ≡ succeeded
-  read-success behind = read-by (successPacket (p .conversation .id)) behind succeeded (success-back (p .conversation .id) behind)
 
   -- a try
   module _ (password name : List ℕ) (l : Lending) (kept : TryWithin password name l) (ph : p .conversation .phase ≡ Response) where
@@ -76,26 +63,21 @@ module _ (p : State) (h : InStep (p .conversation) (p .peer .turn)) where
     try-name : (1 ≤ length name) × (length name ≤ 256)
     try-name = name-fits turn password name (l .out) try-written
 
-    invalid-exchanged : (l .account .found && valid (p .conversation) (l .account .account) (responseIn (reaching wrote l .packet))) ≡ false → 0 < p .conversation .retries
-        → Exchanged p wrote l (again (p .conversation)) (failedWith 691 1 2 noC)
+    invalid-exchanged : (l .account .found && validIn (p .conversation) (l .account .account) (responseIn (reaching wrote l .packet))) ≡ false → 0 < p .conversation .retries
+        → Exchanged p wrote l (tryAgain (p .conversation))
     invalid-exchanged v pos =
-        exchanged p wrote l (again (p .conversation)) (failedWith 691 1 2 noC) try-written (kept .not2) (failure-fits (p .conversation .id) 691 1 2)
+        exchanged p wrote l (tryAgain (p .conversation)) (h .id) try-written (kept .not2) (omega arith)
         (ap (λ (x : List ℕ). step (p .conversation) x (l .account) (l .buffer)) try-left
         ∙ invalid-taken (p .conversation) turn h ph password name (l .packetPadding) (l .buffer) (kept .not2) try-name (l .account)
-        (ap (λ (x : List ℕ). l .account .found && valid (p .conversation) (l .account .account) (responseIn x)) (sym try-left) ∙ v) pos)
-        (read-failure 691 1 (l .replyPadding) (omega arith) (omega arith))
+        (ap (λ (x : List ℕ). l .account .found && validIn (p .conversation) (l .account .account) (responseIn x)) (sym try-left) ∙ v) pos)
 
     right-exchanged : (a : Account) → Rightful a → ntHashOf password ≡ a .nt .octets → l .account ≡ found a
-        → Exchanged p wrote l (drawnRight (a .expired) (p .conversation) a) (readRight (a .expired))
+        → Exchanged p wrote l (drawnRight (a .expired) (p .conversation) a)
     right-exchanged a g hash lent =
-        exchanged p wrote l (drawnRight (a .expired) (p .conversation) a) (readRight (a .expired)) try-written (kept .not2) (right-fits (a .expired) (p .conversation) a)
+        exchanged p wrote l (drawnRight (a .expired) (p .conversation) a) (h .id) try-written (kept .not2)
+        (right-small (a .expired) (p .conversation) a)
         (ap₂ (λ (x : List ℕ) (y : Lookup). step (p .conversation) x y (l .buffer)) try-left lent
         ∙ right-taken (p .conversation) turn h ph password name (l .packetPadding) (l .buffer) (kept .not2) try-name a g hash)
-        (heard (a .expired))
-      where
-        heard : (x : Bool) → readReply (turn .id) (drawnRight x (p .conversation) a .reply ++ l .replyPadding) ≡ readRight x
-        heard true = read-failure 648 0 (l .replyPadding) (omega arith) (omega arith)
-        heard false = read-success (l .replyPadding)
 
   -- the change
   module _ (old new filler : List ℕ) (l : Lending) (kept : ChangeWithin old new filler l) (ph : p .conversation .phase ≡ Change) where
@@ -106,16 +88,16 @@ module _ (p : State) (h : InStep (p .conversation) (p .peer .turn)) where
     renewal-written = change-written turn old new filler (l .out) (kept .oldNot8) (kept .newNot8) (kept .not12) (kept .not9)
 
     module _ (there : p .conversation .kept .nt .present ≡ true) (hash : ntHashOf old ≡ p .conversation .kept .nt .octets) where
-      change-outcome : stepOn (p .conversation) (reaching changeWrote l) ≡ judgedAs (changed (p .conversation) (ntHashOf new)) (l .buffer)
+      change-outcome : stepOn (p .conversation) (reaching changeWrote l) ≡ judgedAs (p .conversation) (changedTo (p .conversation) (ntHashOf new)) (l .buffer)
       change-outcome =
           ap (λ (x : List ℕ). step (p .conversation) (x ++ l .packetPadding) (l .account) (l .buffer)) (change-left turn old new filler (l .out) renewal-written)
           ∙ change-taken (p .conversation) turn h ph old new filler (l .packetPadding) (l .buffer) (kept .not2)
           (filler-full turn old new filler (l .out) renewal-written) (new-fits turn old new filler (l .out) renewal-written) there hash (l .account)
 
-      change-exchanged : Exchanged p changeWrote l (changed (p .conversation) (ntHashOf new)) succeeded
+      change-exchanged : Exchanged p changeWrote l (changedTo (p .conversation) (ntHashOf new))
       change-exchanged =
-          exchanged p changeWrote l (changed (p .conversation) (ntHashOf new)) succeeded renewal-written (kept .not2) (success-fits (p .conversation .id)) change-outcome
-          (read-success (l .replyPadding))
+          exchanged p changeWrote l (changedTo (p .conversation) (ntHashOf new)) (h .id) renewal-written (kept .not2)
+          (omega arith) change-outcome
 
 -- ---- a later conversation
 
@@ -132,15 +114,16 @@ lets-in a password g fresh hash o behind name ss l ok eight quiet lent kept =
     let ph : p .conversation .phase ≡ Response = ap (λ (c : Conversation). c .phase) (back ∙ opened-first o ok) in
     let d = right-exchanged p i password name l kept ph a g hash lent .draws in
     let id : p .conversation .id ≡ o .id = ap (λ (c : Conversation). c .id) (back ∙ opened-first o ok) in
-    (d .0 ∙ ap (λ (x : Bool). drawnRight x (p .conversation) a .reply) fresh ∙ ap successPacket id, d .1 ∙ ap readRight fresh)
+    let reply = ap (λ (x : Bool). drawnRight x (p .conversation) a .reply) fresh in
+    (d .0 ∙ ap (replyPacket (p .conversation .id)) reply ∙ ap successPacket id, d .1 ∙ ap readingFor reply)
 
 -- ---- each step
 
 abbrev Ready : Account → List Kind → State → Type 0
 Ready a due p = FitIn a due (p .conversation) × InStep (p .conversation) (p .peer .turn)
 
-right-answered : (x : Bool) (e : Exchange) (c : Conversation) (a : Account) → Draws e (drawnRight x c a .reply) (readRight x)
-    → cond x (DrawsFailure e (c .id) 648 0) (DrawsSuccess e (c .id))
+right-answered : (x : Bool) (e : Exchange) (c : Conversation) (a : Account) → Draws e (replyPacket (c .id) (drawnRight x c a .reply)) (readingFor (drawnRight x c a .reply))
+    → cond x (DrawsFailure e (c .id) passwordExpired 0) (DrawsSuccess e (c .id))
 right-answered true e c a h = h
 right-answered false e c a h = h
 
@@ -156,7 +139,7 @@ module _ (a : Account) (g : Rightful a) where
   law due p (ours (invalid password name) l) (f, i) h =
       let x = invalid-exchanged p i password name l (h .0) (f .0) (not-valid (l .account .found) _ (h .1)) (f .1) in (
         (
-          subst (λ (n : ℕ). DrawsFailure (exchange stepOn ourWriter p (invalid password name) l) n 691 1) (i .id) (x .draws),
+          subst (λ (n : ℕ). DrawsFailure (exchange stepOn ourWriter p (invalid password name) l) n authenticationFailure 1) (i .id) (x .draws),
           try-written p i password name l (h .0) (f .0),
         ),
         x .judges,
@@ -176,14 +159,14 @@ module _ (a : Account) (g : Rightful a) where
       let kept : Rightful (p .conversation .kept) = subst Rightful (sym (f .1)) g in
       let hash : ntHashOf old ≡ p .conversation .kept .nt .octets = h .1 ∙ sym (ap (λ (b : Account). b .nt .octets) (f .1)) in
       let x = change-exchanged p i old new filler l (h .0) (f .0) (kept .nt) hash in
-      let handed = ap (λ (o : Outcome). o .answer .handed) (change-outcome p i old new filler l (h .0) (f .0) (kept .nt) hash) in
-      let n = renewed-rightful (p .conversation .kept) (ntHashOf new) kept in (
+      let updated = ap (λ (o : Outcome). o .answer .updated) (change-outcome p i old new filler l (h .0) (f .0) (kept .nt) hash) in
+      let n = changed-rightful (p .conversation .kept) (ntHashOf new) kept in (
         (
           (
             subst (λ (n : ℕ). DrawsSuccess (exchange stepOn ourWriter p (renewal old new filler) l) n) (i .id) (x .draws),
-            ap (λ (b : Lookup). b .found) handed,
-            subst (λ (b : Lookup). LetsIn stepOn ourWriter (b .account) new) (sym handed)
-                (lets-in (renewed (p .conversation .kept) (ntHashOf new)) new (n .0) (n .1) (sym (n .2))),
+            ap (λ (b : Lookup). b .found) updated,
+            subst (λ (b : Lookup). LetsIn stepOn ourWriter (b .account) new) (sym updated)
+                (lets-in (changed (p .conversation .kept) (ntHashOf new)) new (n .0) (n .1) (sym (n .2))),
           ),
           renewal-written p i old new filler l (h .0) (f .0),
         ),
@@ -210,7 +193,7 @@ unfolding invariant
 demand3 o ok eight = (
   (λ behind. challenge-read o ok eight behind),
   (λ a k behind ms g few due h.
-      let fit = subst (FitIn a (plan k (a .expired))) (sym (opened-first o ok)) (fit-plan k a (retriesOf (o .retries)) blank few) in
+      let fit = subst (FitIn a (plan k (a .expired))) (sym (opened-first o ok)) (fit-plan k a (retriesOf (o .retries)) blankAccount few) in
       let ready = subst (λ (ks : List Kind). Ready a ks (start o behind)) (sym due) (fit, opened-in-step o ok eight behind) in
       let all = whole (invariant a g) (start o behind) ms ready h in
       (all .0, all .1 ∙ ap length due ∙ count k (a .expired), all .2 .0)),

@@ -2,18 +2,19 @@
 -- Assumes nothing.
 use mathlib.Core.Bool.{cond}
 use mathlib.Core.List.{List, _++_}
-use mathlib.Core.Path.{_≡_, ap, ap₂, _∙_}
-use Prim.Native.Nat.{ℕ, _≤_}
-use native.Mathlib.Omega.{arith}
+use mathlib.Core.Path.{_≡_, sym, ap, ap₂, _∙_}
+use Prim.Native.Nat.{ℕ, _≤_, _<_}
 use lib.ListN.{length}
 use Rattle.message.specs.declared.Reading.{Reading}
-use Rattle.packets.specs.Reply.{readReply}
-use Rattle.authenticator.specs.Response.{Drawn}
+use Rattle.packets.specs.Reply.{longestReply, readReply}
+use Rattle.authenticator.specs.Judge.{reasonOf}
+use Rattle.authenticator.proofs.Replies.{readingFor, read-reply}
+use Rattle.authenticator.specs.Encode.{replyPacket}
+use Rattle.authenticator.specs.declared.Judgement.{Judgement}
 use Rattle.authenticator.specs.Step.{Outcome, judgedAs}
 use Rattle.authenticator.specs.Steps.{stepOn, replyOf, drewReply, judged}
-use Rattle.authenticator.specs.declared.Conversation.{Conversation}
 use Rattle.authenticator.proofs.Steps.{reply-of, judged-as}
-use Rattle.authenticator.proofs.Written.{Fits}
+use Rattle.authenticator.specs.declared.Conversation.{Conversation}
 use Rattle.peer.specs.Turn.{sentFor, nextTurn}
 use Rattle.peer.specs.Write.{Wrote}
 use Rattle.peer.specs.Peer.{sending, reads, receiving}
@@ -30,30 +31,40 @@ place-same : {b b' : Conversation} {q q' : Peer} {r r' : Reading} → b ≡ b' �
     (record { conversation = b'; peer = record { sent = q' .sent; turn = nextTurn q' r' } })
 place-same e f g = cc
 
-pub record Exchanged (p : State) (w : Wrote) (l : Lending) (d : Drawn) (reading : Reading) : Type 0 where
-  pub draws : Draws (carried stepOn p w l) (d .reply) reading
+-- the judgement d is drawn, and our peer reads its reply
+pub record Exchanged (p : State) (w : Wrote) (l : Lending) (d : Judgement) : Type 0 where
+  pub draws : Draws (carried stepOn p w l) (replyPacket (p .conversation .id) (d .reply))
+      (readingFor (d .reply))
   pub judges : judged stepOn (p .conversation) (reaching w l) ≡ 1
   pub leads : _≡_ {A = State}
       (record { conversation = carried stepOn p w l .outcome .answer .next; peer = receiving (carried stepOn p w l .peer) (carried stepOn p w l .reply) })
-      (record { conversation = d .next; peer = record { sent = sentFor (p .peer .turn); turn = nextTurn (sentBy (p .peer .turn)) reading } })
+      (record { conversation = d .next; peer = record { sent = sentFor (p .peer .turn); turn = nextTurn (sentBy (p .peer .turn)) (readingFor (d .reply)) } })
 
-module _ (p : State) (w : Wrote) (l : Lending) (d : Drawn) (reading : Reading) (zero : w .answer .refusal ≡ 0) (room : 17 ≤ length (l .buffer))
-    (fits : Fits (d .reply)) (took : stepOn (p .conversation) (reaching w l) ≡ judgedAs d (l .buffer))
-    (heard : readReply (p .peer .turn .id) (d .reply ++ l .replyPadding) ≡ reading) where
-  sent-same : sending (p .peer) (w .answer) ≡ sentBy (p .peer .turn)
-  sent-same = rw zero
+module _ (p : State) (w : Wrote) (l : Lending) (d : Judgement) (same-id : p .conversation .id ≡ p .peer .turn .id)
+    (zero : w .answer .refusal ≡ 0) (room : longestReply ≤ length (l .buffer)) (small : reasonOf (d .reply) < 1000)
+    (took : stepOn (p .conversation) (reaching w l) ≡ judgedAs (p .conversation) d (l .buffer))
+  where
+    heard : readReply (p .peer .turn .id) (replyPacket (p .conversation .id) (d .reply) ++ l .replyPadding)
+        ≡ readingFor (d .reply)
+    heard =
+        ap (λ (i : ℕ). readReply i (replyPacket (p .conversation .id) (d .reply) ++ l .replyPadding))
+        (sym same-id)
+        ∙ read-reply (p .conversation .id) (d .reply) (l .replyPadding) small
 
-  reply-same : replyOf (stepOn (p .conversation) (reaching w l)) ≡ d .reply
-  reply-same = ap replyOf took ∙ reply-of d (l .buffer) (omega arith)
+    sent-same : sending (p .peer) (w .answer) ≡ sentBy (p .peer .turn)
+    sent-same = rw zero
 
-  read-same : reads (sending (p .peer) (w .answer)) (replyOf (stepOn (p .conversation) (reaching w l)) ++ l .replyPadding) ≡ reading
-  read-same = ap₂ (λ (q : Peer) (r : List ℕ). reads q (r ++ l .replyPadding)) sent-same reply-same ∙ heard
+    reply-same : replyOf (stepOn (p .conversation) (reaching w l)) ≡ replyPacket (p .conversation .id) (d .reply)
+    reply-same = ap replyOf took ∙ reply-of (p .conversation) d (l .buffer) room
 
-  pub exchanged : Exchanged p w l d reading
-  exchanged =
-      record {
-        draws = (reply-same, read-same);
-        judges =
-            ap (λ (o : Outcome). cond {A = ℕ} (drewReply o (l .buffer)) 1 0) took ∙ judged-as (p .conversation) (reaching w l) d fits;
-        leads = place-same (ap (λ (o : Outcome). o .answer .next) took) sent-same read-same;
-      }
+    read-same : reads (sending (p .peer) (w .answer)) (replyOf (stepOn (p .conversation) (reaching w l)) ++ l .replyPadding) ≡ readingFor (d .reply)
+    read-same = ap₂ (λ (q : Peer) (r : List ℕ). reads q (r ++ l .replyPadding)) sent-same reply-same ∙ heard
+
+    pub exchanged : Exchanged p w l d
+    exchanged =
+        record {
+          draws = (reply-same, read-same);
+          judges =
+              ap (λ (o : Outcome). cond {A = ℕ} (drewReply o (l .buffer)) 1 0) took ∙ judged-as (p .conversation) (reaching w l) d;
+          leads = place-same (ap (λ (o : Outcome). o .answer .next) took) sent-same read-same;
+        }

@@ -19,17 +19,16 @@ use Rattle.credentials.specs.Credentials.{ntHashOf, responseOf, lengthUnder, un
 use Rattle.credentials.proofs.Laws.{response-tells}
 use Rattle.packets.specs.declared.Change.{Change}
 use Rattle.packets.specs.declared.Response.{Response}
-use Rattle.authenticator.specs.Account.{answers}
-use Rattle.authenticator.specs.Change.{newHash}
+use Rattle.verify.specs.Response.{answers, valid}
+use Rattle.authenticator.specs.Judge.{validIn, newHashIn}
 use Rattle.authenticator.specs.Conversation.{isEnded}
 use Rattle.authenticator.specs.Opening.{Opening, spends, opened, openedIssued}
-use Rattle.authenticator.specs.Response.{valid}
 use Rattle.authenticator.specs.Steps.{Lent, stepOn, nextAfter}
-use Rattle.authenticator.specs.declared.Account.{Account}
+use Rattle.accounts.specs.declared.Account.{Account}
+use Rattle.accounts.specs.declared.Hash.{Hash}
+use Rattle.verify.proofs.Accepted.{accepted-only}
 use Rattle.authenticator.specs.declared.Conversation.{Conversation}
-use Rattle.authenticator.specs.declared.Hash.{Hash}
 use Rattle.authenticator.specs.declared.Opened.{Opened}
-use Rattle.authenticator.proofs.Accepted.{accepted-only}
 use Rattle.authenticator.proofs.Spends.{challenges-octets}
 use Rattle.authenticator.proofs.Openings.{opened-first, opened-written, opened-fresh, opened-not, opened-holds, opened-keeps, may-open}
 use Rattle.authenticator.proofs.InForce.{CanBeInForce, now-in-force, step-adds-none}
@@ -120,7 +119,7 @@ module _ (i : Issued) (first second : Opening) (two : Two spendsAll i first seco
         which true p q = responses-apart (h .octets) r (agrees-equal r _ p) (agrees-equal r _ q)
         which false p q = false≢true p
 
-    valid-both : (a : Account) (f : Response) → valid inFirst a f ≡ true → valid inSecond a f ≡ true → ⊥
+    valid-both : (a : Account) (f : Response) → validIn inFirst a f ≡ true → validIn inSecond a f ≡ true → ⊥
     unfolding valid
     valid-both a f p q = which (eqb (f .flag) 1 && a .nt .present) (inFirst .terms .lm) (inSecond .terms .lm) p q
       where
@@ -133,22 +132,22 @@ module _ (i : Issued) (first second : Opening) (two : Two spendsAll i first seco
 
     -- ---- a recorded change
 
-    changed-both : (f : Change) (h : List ℕ) → newHash inFirst f ≡ some h → newHash inSecond f ≡ some h → ⊥
+    changed-both : (f : Change) (h : List ℕ) → newHashIn inFirst f ≡ some h → newHashIn inSecond f ≡ some h → ⊥
     changed-both f h p q =
-        let a = accepted-only inFirst f h p in
-        let b = accepted-only inSecond f h q in
+        let a = accepted-only (inFirst .kept) (inFirst .challenge) f h p in
+        let b = accepted-only (inSecond .kept) (inSecond .challenge) f h q in
         responses-apart h (f .nt) (a .0 .response ∙ ap (λ (x : List ℕ). responseOf x (inFirst .challenge)) (sym (a .1)))
         (b .0 .response ∙ ap (λ (x : List ℕ). responseOf x (inSecond .challenge)) (sym (b .1)))
 
     -- under the same NT hash the block holds the same password
-    unchanged : (f : Change) (h : List ℕ) → newHash inFirst f ≡ some h → inSecond .kept .nt .octets ≡ inFirst .kept .nt .octets → newHash inSecond f ≡ none
-    unchanged f h p e = which (newHash inSecond f) refl
+    unchanged : (f : Change) (h : List ℕ) → newHashIn inFirst f ≡ some h → inSecond .kept .nt .octets ≡ inFirst .kept .nt .octets → newHashIn inSecond f ≡ none
+    unchanged f h p e = which (newHashIn inSecond f) refl
       where
-        which : (o : Option (List ℕ)) → newHash inSecond f ≡ o → newHash inSecond f ≡ none
+        which : (o : Option (List ℕ)) → newHashIn inSecond f ≡ o → newHashIn inSecond f ≡ none
         which none q = q
         which (some k) q =
-            let same : k ≡ h = accepted-only inSecond f k q .1
-            ∙ ap (λ (x : List ℕ). ntHashOf (passwordIn (unsealedAs x (f .block)) (lengthUnder x (f .block)))) e ∙ sym (accepted-only inFirst f h p .1) in
+            let same : k ≡ h = accepted-only (inSecond .kept) (inSecond .challenge) f k q .1
+            ∙ ap (λ (x : List ℕ). ntHashOf (passwordIn (unsealedAs x (f .block)) (lengthUnder x (f .block)))) e ∙ sym (accepted-only (inFirst .kept) (inFirst .challenge) f h p .1) in
             absurd (changed-both f h p (q ∙ ap some same))
 
 -- what is not true is false
@@ -164,7 +163,7 @@ none-answered-twice i first second two ss ts h r p =
     refuted (answers h (reached ourOpener second ts .challenge) r) (answered-both i first second two ss ts h r p)
 
 pub none-valid-twice : NoneValidTwice ourOpener
-none-valid-twice i first second two ss ts a f p = refuted (valid (reached ourOpener second ts) a f) (valid-both i first second two ss ts a f p)
+none-valid-twice i first second two ss ts a f p = refuted (validIn (reached ourOpener second ts) a f) (valid-both i first second two ss ts a f p)
 
 pub none-changed-twice : NoneChangedTwice ourOpener
 none-changed-twice i first second two ss ts f h p = (changed-both i first second two ss ts f h p, unchanged i first second two ss ts f h p)

@@ -7,20 +7,20 @@ use mathlib.Core.Path.{_≡_, refl, sym, ap, _∙_}
 use Prim.Native.Nat.{ℕ, zero, suc, _-_, _≤_, _<_}
 use native.Mathlib.Omega.{arith}
 use lib.ListN.{length}
-use Rattle.message.specs.Message.{failedWith, noC, calledFor, succeeded}
-use Rattle.message.specs.declared.Reading.{Reading}
+use Rattle.message.specs.Message.{calledFor, succeeded}
 use Rattle.challenges.specs.Challenges.{nextId, incremented}
 use Rattle.packets.specs.declared.Asked.{Asked}
-use Rattle.authenticator.specs.Account.{blank}
-use Rattle.authenticator.specs.Conversation.{ended, retried, keeping}
+use Rattle.accounts.specs.Account.{blankAccount}
+use Rattle.authenticator.specs.Conversation.{ended, retried, awaitingChange}
 use Rattle.authenticator.specs.Opening.{Opening, opened}
-use Rattle.authenticator.specs.Response.{Drawn}
-use Rattle.authenticator.specs.declared.Account.{Account}
+use Rattle.authenticator.specs.declared.Judgement.{Judgement}
+use Rattle.accounts.specs.declared.Account.{Account}
+use Rattle.authenticator.specs.Judge.{reasonOf}
+use Rattle.authenticator.proofs.Judged.{tryAgain, expiredFor, accepted}
+use Rattle.authenticator.proofs.Replies.{readingFor}
 use Rattle.authenticator.specs.declared.Conversation.{Conversation}
 use Rattle.authenticator.specs.declared.Phase.{Phase}
 use Rattle.authenticator.specs.declared.Phase.the-variants.{Response, Change, Ended}
-use Rattle.authenticator.proofs.Written.{Fits, success-fits, failure-fits}
-use Rattle.authenticator.proofs.Judged.{expiry, accepted}
 use Rattle.authenticator.proofs.Openings.{opened-first}
 use Rattle.peer.specs.Turn.{nextTurn}
 use Rattle.peer.specs.declared.Turn.{Turn}
@@ -34,13 +34,13 @@ use Rattle.series.proofs.Exchanged.{sentBy}
 abbrev pub Fit : Account → List Kind → Phase → ℕ → Account → Type 0
 Fit a [] ph r kept = ph ≡ Ended
 Fit a (Invalid ∷ ks) ph r kept = (ph ≡ Response) × (0 < r) × Fit a ks ph (r - 1) kept
-Fit a (Right ∷ ks) ph r kept = (ph ≡ Response) × Fit a ks (cond (a .expired) Change Ended) r (cond (a .expired) a blank)
-Fit a (Renewal ∷ ks) ph r kept = (ph ≡ Change) × (kept ≡ a) × Fit a ks Ended r blank
+Fit a (Right ∷ ks) ph r kept = (ph ≡ Response) × Fit a ks (cond (a .expired) Change Ended) r (cond (a .expired) a blankAccount)
+Fit a (Renewal ∷ ks) ph r kept = (ph ≡ Change) × (kept ≡ a) × Fit a ks Ended r blankAccount
 
 abbrev pub FitIn : Account → List Kind → Conversation → Type 0
 FitIn a due c = Fit a due (c .phase) (c .retries) (c .kept)
 
-fit-last : (x : Bool) (a : Account) (r : ℕ) → Fit a (cond x (Renewal ∷ []) []) (cond x Change Ended) r (cond x a blank)
+fit-last : (x : Bool) (a : Account) (r : ℕ) → Fit a (cond x (Renewal ∷ []) []) (cond x Change Ended) r (cond x a blankAccount)
 fit-last true a r = (refl, refl, refl)
 fit-last false a r = refl
 
@@ -60,25 +60,23 @@ module _ (o : Opening) (ok : opened o .refusal ≡ 0) (eight : length (o .challe
         challenge = ap (λ (x : Conversation). x .challenge) c ∙ sym (ap (λ (x : Asked). x .challenge) q);
       }
 
--- the right password, by whether the record is expired: what it draws, and what our peer reads
-abbrev pub drawnRight : Bool → Conversation → Account → Drawn
-drawnRight x c a = cond x (expiry c a) (accepted c)
+-- the right password, by whether the record is expired: what it draws
+abbrev pub drawnRight : Bool → Conversation → Account → Judgement
+drawnRight x c a = cond x (expiredFor c a) (accepted c)
 
-abbrev pub readRight : Bool → Reading
-readRight x = cond x (failedWith 648 0 2 noC) succeeded
-
-pub right-fits : (x : Bool) (c : Conversation) (a : Account) → Fits (drawnRight x c a .reply)
-right-fits true c a = failure-fits (c .id) 648 0 2
-right-fits false c a = success-fits (c .id)
+pub right-small : (x : Bool) (c : Conversation) (a : Account)
+    → reasonOf (drawnRight x c a .reply) < 1000
+right-small true c a = omega arith
+right-small false c a = omega arith
 
 module _ (c : Conversation) (t : Turn) (h : InStep c t) where
   -- after 691, R=1
-  pub retried-in-step : InStep (retried c) (nextTurn (sentBy t) (failedWith 691 1 2 noC))
+  pub retried-in-step : InStep (retried c) (nextTurn (sentBy t) (readingFor (tryAgain c .reply)))
   unfolding nextTurn calledFor
   retried-in-step = record { id = ap nextId (h .id); challenge = ap incremented (h .challenge) }
 
   -- after 648
-  kept-in-step : (a : Account) → InStep (keeping c a) (nextTurn (sentBy t) (failedWith 648 0 2 noC))
+  kept-in-step : (a : Account) → InStep (awaitingChange c a) (nextTurn (sentBy t) (readingFor (expiredFor c a .reply)))
   unfolding nextTurn calledFor
   kept-in-step a = record { id = ap nextId (h .id); challenge = h .challenge }
 
@@ -86,11 +84,11 @@ module _ (c : Conversation) (t : Turn) (h : InStep c t) where
   unfolding nextTurn
   ended-in-step = record { id = h .id; challenge = h .challenge }
 
-  pub right-in-step : (x : Bool) (a : Account) → InStep (drawnRight x c a .next) (nextTurn (sentBy t) (readRight x))
+  pub right-in-step : (x : Bool) (a : Account) → InStep (drawnRight x c a .next) (nextTurn (sentBy t) (readingFor (drawnRight x c a .reply)))
   right-in-step true a = kept-in-step a
   right-in-step false a = ended-in-step
 
-pub right-fit : (x : Bool) (c : Conversation) (a b : Account) (due : List Kind) → Fit b due (cond x Change Ended) (c .retries) (cond x a blank)
+pub right-fit : (x : Bool) (c : Conversation) (a b : Account) (due : List Kind) → Fit b due (cond x Change Ended) (c .retries) (cond x a blankAccount)
     → FitIn b due (drawnRight x c a .next)
 right-fit true c a b due f = f
 right-fit false c a b due f = f

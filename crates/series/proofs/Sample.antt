@@ -12,12 +12,13 @@ use Rattle.issued.specs.Issued.{emptyList, badBuffer}
 use Rattle.credentials.specs.Credentials.{ntHashOf, badNtPassword}
 use Rattle.packets.specs.Response.{responseIn}
 use Rattle.packets.specs.declared.Response as fields
-use Rattle.authenticator.specs.Account.{noHash, blank, noRecord, found, answers}
+use Rattle.accounts.specs.Account.{noHash, blankAccount, notFound, found, Rightful}
+use Rattle.verify.specs.Response.{answers, valid}
+use Rattle.authenticator.specs.Judge.{validIn}
 use Rattle.authenticator.specs.Opening.{Opening, opened}
-use Rattle.authenticator.specs.Response.{valid}
-use Rattle.authenticator.specs.Steps.{Box, Rightful}
-use Rattle.authenticator.specs.declared.Account.{Account}
-use Rattle.authenticator.specs.declared.Lookup.{Lookup}
+use Rattle.authenticator.specs.Steps.{Box}
+use Rattle.accounts.specs.declared.Account.{Account}
+use Rattle.accounts.specs.declared.Lookup.{Lookup}
 use Rattle.authenticator.specs.declared.Conversation.{Conversation}
 use Rattle.authenticator.specs.declared.Retries.{Retries}
 use Rattle.authenticator.specs.declared.Retries.the-variants.{Default, Count}
@@ -71,13 +72,13 @@ account expired =
       nt = record { present = true; octets = ntHashOf old };
       lm = noHash;
       disabled = false;
-      barred = false;
-      nodialin = false;
+      «hours_denied» = false;
+      «dialin_denied» = false;
       expired = expired;
     }
 
 pub rightful : (expired : Bool) → Rightful (account expired)
-rightful expired = record { nt = refl; enabled = refl; barred = refl; dialin = refl }
+rightful expired = record { nt = refl; enabled = refl; hours = refl; dialin = refl }
 
 -- ---- our peer's packets
 
@@ -100,7 +101,7 @@ change l = ours newPassword (line 1118 l)
 -- ---- the premises
 
 -- no Response is valid for a record with no hash
-no-hash : (c : Conversation) (f : fields.Response) → valid c blank f ≡ false
+no-hash : (c : Conversation) (f : fields.Response) → validIn c blankAccount f ≡ false
 unfolding valid answers
 no-hash c f = which (eqb (f .flag) 1) (c .terms .lm)
   where
@@ -124,13 +125,13 @@ new-within l = try-within new (line 55 l) refl (omega arith) (omega arith)
 -- at any place, with any box and writer
 module _ (box : Box) (writer : Writer) (p : State) where
   -- lent no record, or one with no hash
-  pub bad-allowed : (a : Account) → Allowed box writer a p (badTry noRecord)
-  bad-allowed a = (try-within bad (line 60 noRecord) refl (omega arith) (omega arith), λ e. absurd (false≢true e))
+  pub bad-allowed : (a : Account) → Allowed box writer a p (badTry notFound)
+  bad-allowed a = (try-within bad (line 60 notFound) refl (omega arith) (omega arith), λ e. absurd (false≢true e))
 
-  pub blank-allowed : (a : Account) → Allowed box writer a p (badTry (found blank))
+  pub blank-allowed : (a : Account) → Allowed box writer a p (badTry (found blankAccount))
   blank-allowed a = (
-    try-within bad (line 60 (found blank)) refl (omega arith) (omega arith),
-    λ e. no-hash (p .conversation) (responseIn (exchange box writer p (invalid bad user) (line 60 (found blank)) .lent .packet)),
+    try-within bad (line 60 (found blankAccount)) refl (omega arith) (omega arith),
+    λ e. no-hash (p .conversation) (responseIn (exchange box writer p (invalid bad user) (line 60 (found blankAccount)) .lent .packet)),
   )
 
   pub right-allowed : (expired : Bool) → Allowed box writer (account expired) p (rightTry expired)

@@ -14,20 +14,21 @@ use Rattle.octets.proofs.Parts.{agrees-refl}
 use Rattle.credentials.specs.Credentials.{ntHashOf, responseOf, oldUnderNew, unsealedAs}
 use Rattle.packets.specs.Response.{responseIn}
 use Rattle.packets.specs.Change.{changeIn}
-use Rattle.authenticator.specs.Account.{found, answers}
+use Rattle.accounts.specs.Account.{found, Rightful}
+use Rattle.verify.specs.Response.{answers, valid}
+use Rattle.authenticator.specs.Judge.{validIn, newHashIn}
 use Rattle.authenticator.specs.Conversation.{awaitedCode, isEnded}
-use Rattle.authenticator.specs.Refusal.{bodyRefusal, refusalOf}
-use Rattle.authenticator.specs.Response.{valid}
-use Rattle.authenticator.specs.Change.{hashIn, newHash}
+use Rattle.authenticator.specs.Admit.{bodyRefusal, stepRefusal}
+use Rattle.verify.specs.Change.{unsealedHash}
 use Rattle.authenticator.specs.Step.{judgedAs, step}
-use Rattle.authenticator.specs.Steps.{Rightful}
-use Rattle.authenticator.specs.declared.Account.{Account}
-use Rattle.authenticator.specs.declared.Lookup.{Lookup}
+use Rattle.accounts.specs.declared.Account.{Account}
+use Rattle.accounts.specs.declared.Lookup.{Lookup}
+use Rattle.authenticator.proofs.Admitted.{passes}
+use Rattle.authenticator.proofs.Judged.{tryAgain, expiredFor, accepted, changedTo, invalid-law, valid-law, change-law}
+use Rattle.verify.proofs.Accepted.{hash-sealed, new-hash}
 use Rattle.authenticator.specs.declared.Conversation.{Conversation}
 use Rattle.authenticator.specs.declared.Phase.{Phase}
 use Rattle.authenticator.specs.declared.Phase.the-variants.{Response, Change}
-use Rattle.authenticator.proofs.Steps.{passes}
-use Rattle.authenticator.proofs.Judged.{again, expiry, accepted, changed, invalid-law, valid-law, change-law, hash-sealed, new-hash}
 use Rattle.peer.specs.Write.{responseFields, changeFields, responseFor, changeFor}
 use Rattle.peer.specs.declared.Turn.{Turn}
 use Rattle.packets.proofs.ReadBack.{ResponseBack, ChangeBack}
@@ -54,7 +55,7 @@ module _ (c : Conversation) (t : Turn) (h : InStep c t) (ph : c .phase ≡ Respo
   try-found : ResponseBack (t .id) (responseFields (t .challenge) password) name try
   try-found = response-found t password name after (named .0) (named .1)
 
-  try-passes : refusalOf c try b ≡ 0
+  try-passes : stepRefusal c try b ≡ 0
   try-passes =
       let f = try-found in
       passes c try b
@@ -67,8 +68,8 @@ module _ (c : Conversation) (t : Turn) (h : InStep c t) (ph : c .phase ≡ Respo
         body = ap (λ (x : Phase). bodyRefusal x try) ph ∙ f .fit (omega arith);
       })
 
-  pub invalid-taken : (l : Lookup) → (l .found && valid c (l .account) (responseIn try)) ≡ false → 0 < c .retries
-      → step c try l b ≡ judgedAs (again c) b
+  pub invalid-taken : (l : Lookup) → (l .found && validIn c (l .account) (responseIn try)) ≡ false → 0 < c .retries
+      → step c try l b ≡ judgedAs c (tryAgain c) b
   invalid-taken l v pos = invalid-law c try b try-passes l ph v pos
 
   module _ (a : Account) (g : Rightful a) (right : ntHashOf password ≡ a .nt .octets) where
@@ -79,15 +80,15 @@ module _ (c : Conversation) (t : Turn) (h : InStep c t) (ph : c .phase ≡ Respo
         (ap₂ (λ (x y : List ℕ). agrees (responseOf (ntHashOf password) (t .challenge)) (responseOf x y)) (sym right) (h .challenge)
         ∙ agrees-refl (responseOf (ntHashOf password) (t .challenge)))
 
-    right-valid : valid c a (responseIn try) ≡ true
+    right-valid : validIn c a (responseIn try) ≡ true
     unfolding valid
     right-valid =
         let f = responseFields (t .challenge) password in
-        ap (valid c a) (try-found .fields)
+        ap (validIn c a) (try-found .fields)
         ∙ valid-nt (eqb (f .flag) 1) (a .nt .present) (answers (a .nt) (c .challenge) (f .nt)) (c .terms .lm && answers (a .lm) (c .challenge) (f .lm))
         (eq-eqb (f .flag) 1 (response-flag (t .challenge) password)) (g .nt) right-answers
 
-    pub right-taken : step c try (found a) b ≡ judgedAs (cond (a .expired) (expiry c a) (accepted c)) b
+    pub right-taken : step c try (found a) b ≡ judgedAs c (cond (a .expired) (expiredFor c a) (accepted c)) b
     right-taken = valid-law c try b try-passes a ph g right-valid
 
 -- ---- the change
@@ -100,7 +101,7 @@ module _ (c : Conversation) (t : Turn) (h : InStep c t) (ph : c .phase ≡ Chang
   change-there : ChangeBack (t .id) (changeFields (t .challenge) old new filler) change
   change-there = change-found t old new filler full (fits .0) after
 
-  change-passes : refusalOf c change b ≡ 0
+  change-passes : stepRefusal c change b ≡ 0
   change-passes =
       let f = change-there in
       passes c change b
@@ -114,19 +115,19 @@ module _ (c : Conversation) (t : Turn) (h : InStep c t) (ph : c .phase ≡ Chang
       })
 
   module _ (there : c .kept .nt .present ≡ true) (right : ntHashOf old ≡ c .kept .nt .octets) where
-    change-hash : newHash c (changeIn change) ≡ some (ntHashOf new)
+    change-hash : newHashIn c (changeIn change) ≡ some (ntHashOf new)
     change-hash =
         let f = changeFields (t .challenge) old new filler in
-        let inside : hashIn (unsealedAs (c .kept .nt .octets) (f .block)) ≡ some (ntHashOf new) =
-        ap (λ (x : List ℕ). hashIn (unsealedAs x (f .block))) (sym right) ∙ hash-sealed (ntHashOf old) filler new full (fits .0) (fits .1) in
+        let inside : unsealedHash (unsealedAs (c .kept .nt .octets) (f .block)) ≡ some (ntHashOf new) =
+        ap (λ (x : List ℕ). unsealedHash (unsealedAs x (f .block))) (sym right) ∙ hash-sealed (ntHashOf old) filler new full (fits .0) (fits .1) in
         let verifier : agrees (f .verifier) (oldUnderNew (c .kept .nt .octets) (ntHashOf new)) ≡ true =
         ap (λ (x : List ℕ). agrees (f .verifier) (oldUnderNew x (ntHashOf new))) (sym right) ∙ agrees-refl (f .verifier) in
         let nt : agrees (f .nt) (responseOf (ntHashOf new) (c .challenge)) ≡ true =
         ap (λ (x : List ℕ). agrees (f .nt) (responseOf (ntHashOf new) x)) (h .challenge) ∙ agrees-refl (f .nt) in
-        ap (newHash c) (change-there .fields)
-        ∙ new-hash c f (ntHashOf new) there
+        ap (newHashIn c) (change-there .fields)
+        ∙ new-hash (c .kept) (c .challenge) f (ntHashOf new) there
         (ap (λ (n : ℕ). eqb (n % 2) 1) (change-flags (t .challenge) old new filler)) inside
         (both (agrees (f .verifier) (oldUnderNew (c .kept .nt .octets) (ntHashOf new))) (agrees (f .nt) (responseOf (ntHashOf new) (c .challenge))) verifier nt)
 
-    pub change-taken : (l : Lookup) → step c change l b ≡ judgedAs (changed c (ntHashOf new)) b
+    pub change-taken : (l : Lookup) → step c change l b ≡ judgedAs c (changedTo c (ntHashOf new)) b
     change-taken l = change-law c change b change-passes l (ntHashOf new) ph change-hash

@@ -9,12 +9,12 @@ use Prim.Native.Nat.{ℕ, _<_}
 use native.Mathlib.Omega.{arith}
 use lib.ListN.{take, replicate}
 use Rattle.issued.specs.Issued.{emptyList}
-use Rattle.authenticator.specs.Account.{blank, noRecord, found}
+use Rattle.accounts.specs.Account.{blankAccount, notFound, found}
 use Rattle.authenticator.specs.Conversation.{isEnded}
 use Rattle.authenticator.specs.Opening.{Opening, opened}
-use Rattle.authenticator.specs.Refusal.{refusalOf}
+use Rattle.authenticator.specs.Admit.{stepRefusal}
 use Rattle.authenticator.specs.Steps.{Lent, stepOn, Refused}
-use Rattle.authenticator.specs.declared.Account.{Account}
+use Rattle.accounts.specs.declared.Account.{Account}
 use Rattle.authenticator.specs.declared.Conversation.{Conversation}
 use Rattle.authenticator.specs.declared.Phase.the-variants.{Ended}
 use Rattle.authenticator.specs.declared.Retries.the-variants.{Default, Count}
@@ -31,18 +31,18 @@ use Rattle.series.proofs.Demand3.{demand3}
 
 -- a packet that is too short, and a buffer that is
 abbrev short : Lent
-short = record { packet = 1 ∷ 2 ∷ 3 ∷ []; account = noRecord; buffer = replicate 20 0 }
+short = record { packet = 1 ∷ 2 ∷ 3 ∷ []; account = notFound; buffer = replicate 20 0 }
 
 abbrev narrow : Lent
 narrow = record { packet = replicate 60 2; account = found (account true); buffer = replicate 16 0 }
 
 abbrev pub steps : List Step
-steps = other short ∷ badTry (found blank) ∷ other narrow ∷ rightTry true ∷ other short ∷ change noRecord ∷ other narrow ∷ []
+steps = other short ∷ badTry (found blankAccount) ∷ other narrow ∷ rightTry true ∷ other short ∷ change notFound ∷ other narrow ∷ []
 
 -- ---- the premises
 
 -- a short packet and a narrow buffer are refused in any conversation, with 1 where it has ended and else with n
-refused : (c : Conversation) (s : Lent) (n : ℕ) → 0 < n → refusalOf c (s .packet) (s .buffer) ≡ cond (isEnded (c .phase)) 1 n → Refused stepOn c s
+refused : (c : Conversation) (s : Lent) (n : ℕ) → 0 < n → stepRefusal c (s .packet) (s .buffer) ≡ cond (isEnded (c .phase)) 1 n → Refused stepOn c s
 refused c s n pos e = inr (λ z. which (isEnded (c .phase)) (sym e ∙ z))
   where
     which : (t : Bool) → cond t 1 n ≡ 0 → ⊥
@@ -50,11 +50,11 @@ refused c s n pos e = inr (λ z. which (isEnded (c .phase)) (sym e ∙ z))
     which false h = omega arith
 
 short-refused : (c : Conversation) → Refused stepOn c short
-unfolding refusalOf
+unfolding stepRefusal
 short-refused c = refused c short 3 (omega arith) refl
 
 narrow-refused : (c : Conversation) → Refused stepOn c narrow
-unfolding refusalOf
+unfolding stepRefusal
 narrow-refused c = refused c narrow 2 (omega arith) refl
 
 -- what is allowed at any place is allowed along any course
@@ -77,7 +77,7 @@ allowed =
           tight,
           (
             (λ p. right-allowed ourBox ourWriter p true),
-            (noise, ((λ p. change-allowed ourBox ourWriter p true noRecord), (tight, tt))),
+            (noise, ((λ p. change-allowed ourBox ourWriter p true notFound), (tight, tt))),
           ),
         ),
       ),
@@ -101,7 +101,7 @@ abbrev place : State
 place = end (next ourBox ourWriter) (start (opening (Count 1)) []) (take 5 steps)
 
 abbrev handed : Account
-handed = exchange ourBox ourWriter place newPassword (line 1118 noRecord) .outcome .answer .handed .account
+handed = exchange ourBox ourWriter place newPassword (line 1118 notFound) .outcome .answer .updated .account
 
 lets-in : LetsIn ourBox ourWriter handed new
 lets-in = claimed .0 .1 .1 .1 .1 .1 .0 .0 .2

@@ -14,19 +14,25 @@ use Rattle.message.specs.Message.{textOf}
 use Rattle.packets.specs.Frame.{octet}
 use Rattle.packets.specs.Response.{responseIn, responseRefusal}
 use Rattle.packets.specs.Reply.{successPacket, failurePacket}
-use Rattle.authenticator.specs.Account.{noRecord, found}
+use Rattle.accounts.specs.Account.{notFound, found}
+use Rattle.authenticator.specs.Encode.{replyPacket}
+use Rattle.authenticator.specs.declared.Reply.{Reply}
+use Rattle.authenticator.specs.declared.Reply.the-variants.{Failure}
+use Rattle.message.specs.Reasons.{authenticationFailure}
 use Rattle.authenticator.specs.Opening.{firstConversation, opened}
-use Rattle.authenticator.specs.Refusal.{refusalOf}
-use Rattle.authenticator.specs.Response.{version, valid, firstReason, reasonOf, afterReason, replyFor, responseDrawn}
-use Rattle.authenticator.specs.Step.{Outcome, judgedAs, drawn, step}
+use Rattle.authenticator.specs.Admit.{stepRefusal}
+use Rattle.authenticator.specs.Encode.{version}
+use Rattle.verify.specs.Response.{firstReason, responseReason}
+use Rattle.authenticator.specs.Judge.{afterReason, replyFor, judgeResponse, judge, validIn}
+use Rattle.authenticator.specs.Step.{Outcome, judgedAs, step}
 use Rattle.authenticator.specs.Steps.{Lent, stepOn, replyOf, refusalAt, judged, nextAfter}
-use Rattle.authenticator.specs.declared.Account.{Account}
+use Rattle.accounts.specs.declared.Account.{Account}
+use Rattle.accounts.specs.declared.Lookup.{Lookup}
+use Rattle.authenticator.proofs.Steps.{refused-whole, reply-of}
+use Rattle.authenticator.proofs.Written.{Fits, reply-fits}
 use Rattle.authenticator.specs.declared.Conversation.{Conversation}
-use Rattle.authenticator.specs.declared.Lookup.{Lookup}
 use Rattle.authenticator.specs.declared.Retries.the-variants.{Default, Count}
 use Rattle.authenticator.proofs.Openings.{opened-first}
-use Rattle.authenticator.proofs.Steps.{refused-whole, reply-of}
-use Rattle.authenticator.proofs.Written.{Fits, success-fits, failure-fits}
 use Rattle.series.specs.Course.{total}
 use Rattle.series.specs.Series.{invalid, right, start, exchange, next, later, LetsIn, Demand3}
 use Rattle.series.specs.Boxes.{refusing, Judge, judging, findsNone, accepts, leavesRecord, pretends, neverCounts}
@@ -55,21 +61,21 @@ not-refusing n h =
 
 module _ (d : Judge) where
   -- a packet that draws a reply was judged
-  drew : (c : Conversation) (s : Lent) {n : ℕ} → octet 0 (replyOf (judging d c s)) ≡ n → 0 < n → judging d c s ≡ judgedAs (d c s) (s .buffer)
+  drew : (c : Conversation) (s : Lent) {n : ℕ} → octet 0 (replyOf (judging d c s)) ≡ n → 0 < n → judging d c s ≡ judgedAs c (d c s) (s .buffer)
   drew c s {n} e pos = which (eqb (refusalAt stepOn c s) 0) refl e
     where
-      which : (t : Bool) → eqb (refusalAt stepOn c s) 0 ≡ t → octet 0 (replyOf (cond t (judgedAs (d c s) (s .buffer)) (stepOn c s))) ≡ n
-          → cond t (judgedAs (d c s) (s .buffer)) (stepOn c s) ≡ judgedAs (d c s) (s .buffer)
+      which : (t : Bool) → eqb (refusalAt stepOn c s) 0 ≡ t → octet 0 (replyOf (cond t (judgedAs c (d c s) (s .buffer)) (stepOn c s))) ≡ n
+          → cond t (judgedAs c (d c s) (s .buffer)) (stepOn c s) ≡ judgedAs c (d c s) (s .buffer)
       which true h e = refl
       which false h e =
           let none = ap (λ (o : Outcome). octet 0 (replyOf o)) (refused-whole c s (eqb-false (refusalAt stepOn c s) 0 h)) in
           absurd (omega arith)
 
   -- and the reply is the one that it draws
-  code-drawn : (c : Conversation) (s : Lent) {n : ℕ} → Fits (d c s .reply) → 17 ≤ length (s .buffer) → octet 0 (replyOf (judging d c s)) ≡ n → 0 < n
-      → octet 0 (d c s .reply) ≡ n
-  code-drawn c s fits room e pos =
-      ap (octet 0) (sym (reply-of (d c s) (s .buffer) (omega (arith, fits .1))))
+  code-drawn : (c : Conversation) (s : Lent) {n : ℕ} → 17 ≤ length (s .buffer) → octet 0 (replyOf (judging d c s)) ≡ n → 0 < n
+      → octet 0 (replyPacket (c .id) (d c s .reply)) ≡ n
+  code-drawn c s room e pos =
+      ap (octet 0) (sym (reply-of c (d c s) (s .buffer) room))
       ∙ ap (λ (o : Outcome). octet 0 (replyOf o)) (sym (drew c s e pos)) ∙ e
 
 -- the sample's opening is not refused
@@ -79,12 +85,12 @@ first-default = opened-first (opening Default) opens-default
 -- ---- 691 always
 
 -- for a Response that a first conversation judges with no record
-none-first : (p : List ℕ) → drawn (firstConversation (opening Default)) p noRecord .reply ≡ failurePacket 255 (textOf 691 1 version)
-unfolding drawn responseDrawn reasonOf firstReason
+none-first : (p : List ℕ) → judge (firstConversation (opening Default)) p notFound .reply ≡ Failure authenticationFailure true
+unfolding judge judgeResponse responseReason firstReason
 none-first p = refl
 
-none-drawn : (p : List ℕ) → drawn (opened (opening Default) .conversation) p noRecord .reply ≡ failurePacket 255 (textOf 691 1 version)
-none-drawn p = ap (λ (c : Conversation). drawn c p noRecord .reply) first-default ∙ none-first p
+none-drawn : (p : List ℕ) → judge (opened (opening Default) .conversation) p notFound .reply ≡ Failure authenticationFailure true
+none-drawn p = ap (λ (c : Conversation). judge c p notFound .reply) first-default ∙ none-first p
 
 pub not-finding : Demand3 (judging findsNone) ourWriter → ⊥
 not-finding h =
@@ -92,10 +98,10 @@ not-finding h =
     let all = h (opening Default) opens-default refl .1 (account false) 0 [] (rightTry false ∷ []) (rightful false) (omega arith) refl
     (right-allowed (judging findsNone) ourWriter p false, tt) in
     let s = exchange (judging findsNone) ourWriter p (right old user) (line 55 (found (account false))) .lent in
-    let drawn = none-drawn (s .packet) in
-    let code = code-drawn findsNone (p .conversation) s (subst Fits (sym drawn) (failure-fits 255 691 1 version)) (omega arith)
+    let reply = none-drawn (s .packet) in
+    let code = code-drawn findsNone (p .conversation) s (omega arith)
     (ap (octet 0) (all .0 .0 .0 .0) ∙ success-code _) (omega arith) in
-    omega (arith, code, ap (octet 0) drawn ∙ failure-code 255 (textOf 691 1 version))
+    omega (arith, code, ap (λ (r : Reply). octet 0 (replyPacket (p .conversation .id) r)) reply ∙ failure-code _ (textOf 691 1 version))
 
 -- ---- accepts always
 
@@ -103,20 +109,20 @@ pub not-accepting : Demand3 (judging accepts) ourWriter → ⊥
 not-accepting h =
     let box = judging accepts in
     let p = start (opening Default) [] in
-    let all = h (opening Default) opens-default refl .1 (account false) 1 [] (badTry noRecord ∷ rightTry false ∷ []) (rightful false) (omega arith) refl
-    (bad-allowed box ourWriter p (account false), (right-allowed box ourWriter (next box ourWriter p (badTry noRecord)) false, tt)) in
-    let code = code-drawn accepts (p .conversation) (exchange box ourWriter p (invalid bad user) (line 60 noRecord) .lent) (success-fits _) (omega arith)
+    let all = h (opening Default) opens-default refl .1 (account false) 1 [] (badTry notFound ∷ rightTry false ∷ []) (rightful false) (omega arith) refl
+    (bad-allowed box ourWriter p (account false), (right-allowed box ourWriter (next box ourWriter p (badTry notFound)) false, tt)) in
+    let code = code-drawn accepts (p .conversation) (exchange box ourWriter p (invalid bad user) (line 60 notFound) .lent) (omega arith)
     (ap (octet 0) (all .0 .0 .0 .0) ∙ failure-code _ (textOf 691 1 version)) (omega arith) in
     omega (arith, code, success-code (p .conversation .id))
 
 -- ---- pretends on retries
 
 -- the first invalid try leaves one retry
-one-first : (s : Lent) → s .account ≡ noRecord → pretends 2 (firstConversation (opening Default)) s .next .retries ≡ 1
-unfolding drawn responseDrawn reasonOf firstReason
+one-first : (s : Lent) → s .account ≡ notFound → pretends 2 (firstConversation (opening Default)) s .next .retries ≡ 1
+unfolding judge judgeResponse responseReason firstReason
 one-first s e = rw e
 
-one-left : (s : Lent) → s .account ≡ noRecord → pretends 2 (opened (opening Default) .conversation) s .next .retries ≡ 1
+one-left : (s : Lent) → s .account ≡ notFound → pretends 2 (opened (opening Default) .conversation) s .next .retries ≡ 1
 one-left s e = ap (λ (c : Conversation). pretends 2 c s .next .retries) first-default ∙ one-first s e
 
 -- the second one draws Success
@@ -124,39 +130,41 @@ pub not-pretending : Demand3 (judging (pretends 2)) ourWriter → ⊥
 not-pretending h =
     let box = judging (pretends 2) in
     let p = start (opening Default) [] in
-    let q = next box ourWriter p (badTry noRecord) in
-    let all = h (opening Default) opens-default refl .1 (account false) 2 [] (badTry noRecord ∷ badTry noRecord ∷ rightTry false ∷ []) (rightful false) (omega arith) refl (
+    let q = next box ourWriter p (badTry notFound) in
+    let all = h (opening Default) opens-default refl .1 (account false) 2 [] (badTry notFound ∷ badTry notFound ∷ rightTry false ∷ []) (rightful false) (omega arith) refl (
       bad-allowed box ourWriter p (account false),
-      (bad-allowed box ourWriter q (account false), (right-allowed box ourWriter (next box ourWriter q (badTry noRecord)) false, tt)),
+      (bad-allowed box ourWriter q (account false), (right-allowed box ourWriter (next box ourWriter q (badTry notFound)) false, tt)),
     ) in
-    let s = exchange box ourWriter p (invalid bad user) (line 60 noRecord) .lent in
-    let t = exchange box ourWriter q (invalid bad user) (line 60 noRecord) .lent in
+    let s = exchange box ourWriter p (invalid bad user) (line 60 notFound) .lent in
+    let t = exchange box ourWriter q (invalid bad user) (line 60 notFound) .lent in
     let first = drew (pretends 2) (p .conversation) s (ap (octet 0) (all .0 .0 .0 .0) ∙ failure-code _ (textOf 691 1 version)) (omega arith) in
     let left = ap (λ (o : Outcome). o .answer .next .retries) first ∙ one-left s refl in
-    let pretended = ap (λ (n : ℕ). cond (ltb n 2) (accepts (q .conversation) t) (drawn (q .conversation) (t .packet) noRecord) .reply) left in
-    let code = code-drawn (pretends 2) (q .conversation) t (subst Fits (sym pretended) (success-fits (q .conversation .id))) (omega arith)
+    let pretended = ap (λ (n : ℕ). cond (ltb n 2) (accepts (q .conversation) t) (judge (q .conversation) (t .packet) notFound) .reply) left in
+    let code = code-drawn (pretends 2) (q .conversation) t (omega arith)
     (ap (octet 0) (all .0 .1 .0 .0 .0) ∙ failure-code _ (textOf 691 1 version)) (omega arith) in
-    omega (arith, code, ap (octet 0) pretended ∙ success-code (q .conversation .id))
+    omega (arith, code, ap (λ (r : Reply). octet 0 (replyPacket (q .conversation .id) r)) pretended ∙ success-code (q .conversation .id))
 
 -- ---- the change leaves the record
 
 -- what a first conversation draws for an expired record, valid or not: a Failure, and with 648 the record is kept
 abbrev Expired : Conversation → List ℕ → Type 0
 Expired c p =
-    let d = drawn c p (found (account true)) in
-    Fits (d .reply) × (octet 0 (d .reply) ≡ 4) × (octet 7 (d .reply) ≡ 52 → d .next .kept ≡ account true)
+    let d = judge c p (found (account true)) in
+    let reply = replyPacket (c .id) (d .reply) in
+    (octet 0 reply ≡ 4) × (octet 7 reply ≡ 52 → d .next .kept ≡ account true)
 
 expired-first : (p : List ℕ) → Expired (firstConversation (opening Default)) p
-unfolding drawn responseDrawn reasonOf firstReason failurePacket textOf hexOf
-expired-first p = which (valid (firstConversation (opening Default)) (account true) (responseIn p))
+unfolding judge judgeResponse responseReason firstReason failurePacket textOf hexOf
+expired-first p = which (validIn (firstConversation (opening Default)) (account true) (responseIn p))
   where
     c : Conversation
     c = firstConversation (opening Default)
 
     which : (v : Bool) → let e = firstReason v (account true) in
-        Fits (replyFor c e) × (octet 0 (replyFor c e) ≡ 4) × (octet 7 (replyFor c e) ≡ 52 → afterReason c (account true) e .kept ≡ account true)
-    which true = (failure-fits 255 648 0 version, refl, λ h. refl)
-    which false = (failure-fits 255 691 1 version, refl, λ h. absurd (omega arith))
+        let reply = replyPacket 255 (replyFor c e) in
+        (octet 0 reply ≡ 4) × (octet 7 reply ≡ 52 → afterReason c (account true) e .kept ≡ account true)
+    which true = (refl, λ h. refl)
+    which false = (refl, λ h. absurd (omega arith))
 
 expired-drawn : (p : List ℕ) → Expired (opened (opening Default) .conversation) p
 expired-drawn p = subst (λ (c : Conversation). Expired c p) (sym first-default) (expired-first p)
@@ -167,7 +175,7 @@ unfolding failurePacket textOf hexOf
 four-of id = refl
 
 -- a record that is handed out is the kept one
-kept-handed : (t : Bool) (a : Account) → cond t (found a) noRecord .found ≡ true → cond t (found a) noRecord .account ≡ a
+kept-handed : (t : Bool) (a : Account) → cond t (found a) notFound .found ≡ true → cond t (found a) notFound .account ≡ a
 kept-handed true a h = refl
 kept-handed false a h = absurd (false≢true h)
 
@@ -183,29 +191,29 @@ not-leaving-record h =
     let s = exchange box ourWriter p (right old user) (line 55 l) .lent in
     let first = drew leavesRecord (p .conversation) s (ap (octet 0) (all .0 .0 .0 .0) ∙ failure-code _ (textOf 648 0 version)) (omega arith) in
     let expired = expired-drawn (s .packet) in
-    let four = ap (octet 7) (sym (reply-of (leavesRecord (p .conversation) s) (s .buffer) (omega (arith, expired .0 .1)))
+    let four = ap (octet 7) (sym (reply-of (p .conversation) (leavesRecord (p .conversation) s) (s .buffer) (omega arith))
     ∙ ap replyOf (sym first) ∙ all .0 .0 .0 .0) ∙ four-of _ in
-    let kept = ap (λ (o : Outcome). o .answer .next .kept) first ∙ expired .2 four in
+    let kept = ap (λ (o : Outcome). o .answer .next .kept) first ∙ expired .1 four in
     let answered = all .0 .1 .0 .0 in
     let t = exchange box ourWriter q newPassword (line 1118 l) .lent in
-    let changed = ap (λ (o : Outcome). o .answer .handed) (drew leavesRecord (q .conversation) t (ap (octet 0) (answered .0 .0) ∙ success-code _)
+    let changed = ap (λ (o : Outcome). o .answer .updated) (drew leavesRecord (q .conversation) t (ap (octet 0) (answered .0 .0) ∙ success-code _)
     (omega arith)) in
-    let handed = ap (λ (b : Lookup). b .account) changed
-    ∙ kept-handed (drawn (q .conversation) (t .packet) (t .account) .handed .found) (q .conversation .kept)
+    let updated = ap (λ (b : Lookup). b .account) changed
+    ∙ kept-handed (judge (q .conversation) (t .packet) (t .account) .updated .found) (q .conversation .kept)
     (sym (ap (λ (b : Lookup). b .found) changed) ∙ answered .1) ∙ kept in
-    let lets = subst (λ (b : Account). LetsIn box ourWriter b new) handed (answered .2) in
+    let lets = subst (λ (b : Account). LetsIn box ourWriter b new) updated (answered .2) in
     let r = later box ourWriter (opening Default) [] [] in
     let u = exchange box ourWriter r (right new user) (line 55 l) .lent in
     let draws = lets (opening Default) [] user [] (line 55 l) opens-default refl tt refl (new-within l) in
     let again = expired-drawn (u .packet) in
-    let code = code-drawn leavesRecord (r .conversation) u (again .0) (omega arith) (ap (octet 0) (draws .0) ∙ success-code 255) (omega arith) in
-    omega (arith, code, again .1)
+    let code = code-drawn leavesRecord (r .conversation) u (omega arith) (ap (octet 0) (draws .0) ∙ success-code 255) (omega arith) in
+    omega (arith, code, again .0)
 
 -- ---- retries do not fall
 
 -- a Response that is lent no record, with an identifier
 abbrev pub try : ℕ → Lent
-try id = record { packet = 2 ∷ id ∷ 0 ∷ 55 ∷ 49 ∷ (replicate 48 0 ++ (1 ∷ 117 ∷ [])); account = noRecord; buffer = replicate 17 0 }
+try id = record { packet = 2 ∷ id ∷ 0 ∷ 55 ∷ 49 ∷ (replicate 48 0 ++ (1 ∷ 117 ∷ [])); account = notFound; buffer = replicate 17 0 }
 
 abbrev tries : List Lent
 tries = try 255 ∷ try 0 ∷ try 1 ∷ try 2 ∷ []
@@ -215,7 +223,7 @@ abbrev judgedOf : Conversation → ℕ
 judgedOf c = total (nextAfter (judging neverCounts)) (judged (judging neverCounts)) c tries
 
 four : judgedOf (firstConversation (opening (Count 1))) ≡ 4
-unfolding refusalOf responseRefusal step drawn responseDrawn reasonOf firstReason failurePacket textOf
+unfolding stepRefusal responseRefusal step judge judgeResponse responseReason firstReason failurePacket textOf
 four = refl
 
 pub not-counting : Demand3 (judging neverCounts) ourWriter → ⊥

@@ -12,12 +12,13 @@ use Rattle.octets.specs.Parts.{over, agrees}
 use Rattle.issued.specs.Issued.{holds, meets, ending, endings, emptyList, badBuffer, spendRefusal}
 use Rattle.challenges.specs.Challenges.{incremented, challengesFrom}
 use Rattle.packets.specs.Response.{responseRefusal}
-use Rattle.authenticator.specs.Account.{noRecord}
+use Rattle.accounts.specs.Account.{notFound}
 use Rattle.authenticator.specs.Conversation.{isEnded}
 use Rattle.authenticator.specs.Opening.{Opening, openRefusal, firstConversation, opened, openedIssued}
-use Rattle.authenticator.specs.Refusal.{refusalOf}
-use Rattle.authenticator.specs.Response.{firstReason, reasonOf, responseDrawn}
-use Rattle.authenticator.specs.Step.{drawn, step}
+use Rattle.authenticator.specs.Admit.{stepRefusal}
+use Rattle.verify.specs.Response.{firstReason, responseReason}
+use Rattle.authenticator.specs.Judge.{judgeResponse, judge}
+use Rattle.authenticator.specs.Step.{step}
 use Rattle.authenticator.specs.Steps.{Lent, nextAfter}
 use Rattle.authenticator.specs.declared.Conversation.{Conversation}
 use Rattle.authenticator.specs.declared.Retries.the-variants.{Default, Count}
@@ -103,13 +104,13 @@ following-opens = refl
 
 -- a Response that is lent no record: it draws 691 with R=1
 abbrev try : Lent
-try = record { packet = 2 ∷ 7 ∷ 0 ∷ 55 ∷ 49 ∷ (replicate 48 0 ++ (1 ∷ 117 ∷ [])); account = noRecord; buffer = replicate 17 0 }
+try = record { packet = 2 ∷ 7 ∷ 0 ∷ 55 ∷ 49 ∷ (replicate 48 0 ++ (1 ∷ 117 ∷ [])); account = notFound; buffer = replicate 17 0 }
 
 abbrev afterTry : Conversation → List ℕ
 afterTry c = nextAfter ourBox (withRetries 1 c) try .challenge
 
 retry-grows : afterTry (firstConversation (noRetries retrying)) ≡ incremented challenge
-unfolding refusalOf responseRefusal step drawn responseDrawn reasonOf firstReason
+unfolding stepRefusal responseRefusal step judge judgeResponse responseReason firstReason
 retry-grows = refl
 
 -- the retry of the first puts the second's challenge in force

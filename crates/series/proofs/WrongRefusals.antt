@@ -15,12 +15,13 @@ use Rattle.message.specs.Message.{textOf}
 use Rattle.packets.specs.Frame.{octet, headed}
 use Rattle.packets.specs.Response.{responseRefusal}
 use Rattle.packets.specs.Reply.{successPacket, failurePacket}
-use Rattle.authenticator.specs.Account.{found}
+use Rattle.accounts.specs.Account.{found}
 use Rattle.authenticator.specs.Conversation.{isEnded}
 use Rattle.authenticator.specs.Opening.{firstConversation, opened}
-use Rattle.authenticator.specs.Refusal.{refusalOf}
-use Rattle.authenticator.specs.Response.{firstReason, reasonOf, responseDrawn}
-use Rattle.authenticator.specs.Step.{Outcome, drawn, step}
+use Rattle.authenticator.specs.Admit.{stepRefusal}
+use Rattle.verify.specs.Response.{firstReason, responseReason}
+use Rattle.authenticator.specs.Judge.{judgeResponse, judge}
+use Rattle.authenticator.specs.Step.{Outcome, step}
 use Rattle.authenticator.specs.Steps.{Lent, Box, replyOf, drewReply, nextAfter, judged, Leaves}
 use Rattle.authenticator.specs.declared.Conversation.{Conversation}
 use Rattle.authenticator.specs.declared.Retries.the-variants.{Count}
@@ -50,7 +51,7 @@ abbrev strays : Box → Conversation → ℕ
 strays box c = total (nextAfter box) (judged box) c (stray ∷ stray ∷ stray ∷ stray ∷ [])
 
 four-laid : strays (answeringRefused laysReply) first ≡ 4
-unfolding refusalOf responseRefusal step drawn responseDrawn reasonOf firstReason failurePacket textOf headed agrees
+unfolding stepRefusal responseRefusal step judge judgeResponse responseReason firstReason failurePacket textOf headed agrees
 four-laid = refl
 
 pub not-laying-replies : Demand3 (answeringRefused laysReply) ourWriter → ⊥
@@ -69,16 +70,16 @@ abbrev lentRecord : Lent
 lentRecord = record { packet = stray .packet; account = found (account true); buffer = stray .buffer }
 
 pub not-handing-out : Demand3 (answeringRefused handsOutRecord) ourWriter → ⊥
-unfolding refusalOf step agrees
+unfolding stepRefusal step agrees
 not-handing-out h = true≢false (left-by (answeringRefused handsOutRecord) h lentRecord refl .1)
 
 pub not-allowing-lm : Demand3 (answeringRefused allowsLm) ourWriter → ⊥
-unfolding refusalOf step agrees
+unfolding stepRefusal step agrees
 not-allowing-lm h =
     true≢false (ap (λ (c : Conversation). c .terms .lm) (left-by (answeringRefused allowsLm) h stray refl .0))
 
 pub not-ending-unseen : Demand3 (answeringRefused endsUnseen) ourWriter → ⊥
-unfolding refusalOf step agrees
+unfolding stepRefusal step agrees
 not-ending-unseen h =
     true≢false (ap (λ (c : Conversation). isEnded (c .phase)) (left-by (answeringRefused endsUnseen) h stray refl .0))
 
@@ -88,12 +89,12 @@ abbrev box : Box
 box = answeringRefused judgesStrays
 
 -- document 01's table refuses the packet, and this box draws a reply to it
-stray-refused : refusalOf first (stray .packet) (stray .buffer) ≡ 5
-unfolding refusalOf
+stray-refused : stepRefusal first (stray .packet) (stray .buffer) ≡ 5
+unfolding stepRefusal
 stray-refused = refl
 
 stray-judged : judged box first stray ≡ 1
-unfolding refusalOf responseRefusal step drawn responseDrawn reasonOf firstReason failurePacket textOf
+unfolding stepRefusal responseRefusal step judge judgeResponse responseReason firstReason failurePacket textOf
 stray-judged = refl
 
 -- a Success was drawn
@@ -111,7 +112,7 @@ pub not-judging-strays : Demand3 box ourWriter → ⊥
 not-judging-strays h =
     let p = start (opening (Count 1)) [] in
     let q = next box ourWriter p (other stray) in
-    let five = ap (λ (c : Conversation). refusalOf c (stray .packet) (stray .buffer)) first-once ∙ stray-refused in
+    let five = ap (λ (c : Conversation). stepRefusal c (stray .packet) (stray .buffer)) first-once ∙ stray-refused in
     let all = h (opening (Count 1)) opens-once refl .1 (account false) 0 [] (other stray ∷ rightTry false ∷ []) (rightful false) (omega arith) refl
     (inr (λ z. omega (arith, five, z)), (right-allowed box ourWriter q false, tt)) in
     let x = exchange box ourWriter q (right old user) (line 55 (found (account false))) in

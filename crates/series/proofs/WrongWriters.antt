@@ -18,18 +18,22 @@ use Rattle.packets.specs.Reply.{failurePacket}
 use Rattle.packets.specs.declared.Response as fields
 use Rattle.packets.proofs.ReadBack.{response-back}
 use Rattle.packets.proofs.Writing as writing
-use Rattle.authenticator.specs.Account.{found}
+use Rattle.accounts.specs.Account.{found}
+use Rattle.authenticator.specs.declared.Reply.the-variants.{Failure}
+use Rattle.message.specs.Reasons.{authenticationFailure}
 use Rattle.authenticator.specs.Opening.{firstConversation}
-use Rattle.authenticator.specs.Refusal.{refusalOf}
-use Rattle.authenticator.specs.Response.{version, valid, firstReason, reasonOf, mayRetry, replyFor, responseDrawn}
-use Rattle.authenticator.specs.Step.{Outcome, drawnIn, drawn, step}
+use Rattle.authenticator.specs.Admit.{stepRefusal}
+use Rattle.authenticator.specs.Encode.{version, replyPacket}
+use Rattle.verify.specs.Response.{valid, firstReason, responseReason}
+use Rattle.authenticator.specs.Judge.{mayRetry, replyFor, judgeResponse, judgeIn, judge, validIn}
+use Rattle.authenticator.specs.Step.{Outcome, step}
 use Rattle.authenticator.specs.Steps.{Lent, stepOn, replyOf, refusalAt}
+use Rattle.authenticator.proofs.Steps.{number-step, judged-step, refused-whole, reply-of}
+use Rattle.authenticator.proofs.Written.{reply-fits}
 use Rattle.authenticator.specs.declared.Conversation.{Conversation}
 use Rattle.authenticator.specs.declared.Phase.{Phase}
 use Rattle.authenticator.specs.declared.Phase.the-variants.{Response}
 use Rattle.authenticator.specs.declared.Retries.the-variants.{Default}
-use Rattle.authenticator.proofs.Steps.{number-step, judged-step, refused-whole, reply-of}
-use Rattle.authenticator.proofs.Written.{failure-fits}
 use Rattle.peer.specs.Write.{responseFields, writeResponseRefusal}
 use Rattle.peer.proofs.Left.{left-good}
 use Rattle.series.specs.Series.{right, start, exchange, Demand3}
@@ -45,7 +49,7 @@ abbrev codeFor : Conversation → ℕ
 codeFor c = octet 0 (replyOf (ourBox c (record { packet = 9 ∷ []; account = found (account false); buffer = replicate 17 0 })))
 
 padding-draws-nothing : codeFor (firstConversation (opening Default)) ≡ 0
-unfolding refusalOf step
+unfolding stepRefusal step
 padding-draws-nothing = refl
 
 -- with any number, 0 too
@@ -64,18 +68,19 @@ not-refusing-to-write n h =
 -- Failure
 module _ (c : Conversation) (lm : c .terms .lm ≡ false) (ph : c .phase ≡ Response) (s : Lent) (flag : responseIn (s .packet) .flag ≡ 0)
     (room : 17 ≤ length (s .buffer)) where
-  not-valid : valid c (s .account .account) (responseIn (s .packet)) ≡ false
+  not-valid : validIn c (s .account .account) (responseIn (s .packet)) ≡ false
   unfolding valid
   not-valid = simp (flag, lm)
 
-  found-not : (f : Bool) → (f && valid c (s .account .account) (responseIn (s .packet))) ≡ false
+  found-not : (f : Bool) → (f && validIn c (s .account .account) (responseIn (s .packet))) ≡ false
   found-not true = not-valid
   found-not false = refl
 
-  fails : drawn c (s .packet) (s .account) .reply ≡ failurePacket (c .id) (textOf 691 (cond (mayRetry c 691) 1 0) version)
-  unfolding drawn responseDrawn reasonOf firstReason
+  fails : judge c (s .packet) (s .account) .reply
+      ≡ Failure authenticationFailure (mayRetry c authenticationFailure)
+  unfolding judge judgeResponse responseReason firstReason
   fails =
-      ap (λ (x : Phase). drawnIn x c (s .packet) (s .account) .reply) ph
+      ap (λ (x : Phase). judgeIn x c (s .packet) (s .account) .reply) ph
       ∙ ap (λ (v : Bool). replyFor c (firstReason v (s .account .account))) (found-not (s .account .found))
 
   no-success : octet 0 (replyOf (stepOn c s)) ≡ 3 → ⊥
@@ -84,10 +89,9 @@ module _ (c : Conversation) (lm : c .terms .lm ≡ false) (ph : c .phase ≡ Res
       which : (t : Bool) → eqb (refusalAt stepOn c s) 0 ≡ t → ⊥
       which true z =
           let ok = sym (number-step c (s .packet) (s .account) (s .buffer)) ∙ eqb-true (refusalAt stepOn c s) 0 z in
-          let d = drawn c (s .packet) (s .account) in
-          let short = failure-fits (c .id) 691 (cond (mayRetry c 691) 1 0) version .1 in
+          let d = judge c (s .packet) (s .account) in
           let code = ap (λ (o : Outcome). octet 0 (replyOf o)) (judged-step c (s .packet) (s .account) (s .buffer) ok)
-          ∙ ap (octet 0) (reply-of d (s .buffer) (omega (arith, short, ap length fails)) ∙ fails) ∙ failure-code (c .id) _ in
+          ∙ ap (octet 0) (reply-of c d (s .buffer) room ∙ ap (replyPacket (c .id)) fails) ∙ failure-code (c .id) _ in
           omega arith
       which false z =
           let none = ap (λ (o : Outcome). octet 0 (replyOf o)) (refused-whole c s (eqb-false (refusalAt stepOn c s) 0 z)) in

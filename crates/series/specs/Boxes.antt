@@ -5,11 +5,14 @@
 use mathlib.Core.Bool.{true, cond}
 use Prim.Native.Nat.{ℕ}
 use lib.Dec.{eqb, ltb}
+use Rattle.message.specs.Reasons.{noReason}
 use Rattle.packets.specs.Frame.{octet, headed}
-use Rattle.authenticator.specs.Account.{noRecord, found}
+use Rattle.authenticator.specs.Encode.{replyPacket}
+use Rattle.accounts.specs.Account.{notFound, found}
 use Rattle.authenticator.specs.Conversation.{ended}
-use Rattle.authenticator.specs.Response.{Drawn, drawnFor}
-use Rattle.authenticator.specs.Step.{drawn, judgedAs, refusedAs}
+use Rattle.authenticator.specs.declared.Judgement.{Judgement}
+use Rattle.authenticator.specs.Judge.{judgementFor, judge}
+use Rattle.authenticator.specs.Step.{judgedAs, refusedAs}
 use Rattle.authenticator.specs.Steps.{Lent, Box, stepOn, refusalAt}
 use Rattle.authenticator.specs.declared.Conversation.{Conversation}
 use Rattle.authenticator.specs.declared.Kind.the-variants.{Refused, Judged}
@@ -20,28 +23,28 @@ refusing n c s = refusedAs n c (s .buffer)
 
 -- what a judged packet draws, and a box that refuses what ours refuses and judges the rest so
 abbrev pub Judge : Type 0
-Judge = Conversation → Lent → Drawn
+Judge = Conversation → Lent → Judgement
 
 abbrev pub judging : Judge → Box
-judging d c s = cond (eqb (refusalAt stepOn c s) 0) (judgedAs (d c s) (s .buffer)) (stepOn c s)
+judging d c s = cond (eqb (refusalAt stepOn c s) 0) (judgedAs c (d c s) (s .buffer)) (stepOn c s)
 
 -- 691 always: no record is ever found
 abbrev pub findsNone : Judge
-findsNone c s = drawn c (s .packet) noRecord
+findsNone c s = judge c (s .packet) notFound
 
 -- accepts always
 abbrev pub accepts : Judge
-accepts c s = drawnFor c (s .account .account) 0
+accepts c s = judgementFor c (s .account .account) noReason
 
 -- the change does nothing to the record: the kept one is handed out
 abbrev pub leavesRecord : Judge
 leavesRecord c s =
-    let d = drawn c (s .packet) (s .account) in
-    record { reason = d .reason; reply = d .reply; next = d .next; handed = cond (d .handed .found) (found (c .kept)) noRecord }
+    let d = judge c (s .packet) (s .account) in
+    record { reply = d .reply; next = d .next; updated = cond (d .updated .found) (found (c .kept)) notFound }
 
 -- judges the first Response of a conversation that was opened with r retries, and pretends on retries
 abbrev pub pretends : ℕ → Judge
-pretends r c s = cond (ltb (c .retries) r) (accepts c s) (drawn c (s .packet) (s .account))
+pretends r c s = cond (ltb (c .retries) r) (accepts c s) (judge c (s .packet) (s .account))
 
 -- a conversation with another number of retries left
 abbrev pub withRetries : ℕ → Conversation → Conversation
@@ -54,8 +57,8 @@ withId id c = record { terms = c .terms; id = id; challenge = c .challenge; retr
 -- retries do not fall
 abbrev pub neverCounts : Judge
 neverCounts c s =
-    let d = drawn c (s .packet) (s .account) in
-    record { reason = d .reason; reply = d .reply; next = withRetries (c .retries) (d .next); handed = d .handed }
+    let d = judge c (s .packet) (s .account) in
+    record { reply = d .reply; next = withRetries (c .retries) (d .next); updated = d .updated }
 
 -- ---- boxes that judge as ours does, and answer otherwise what ours refuses
 
@@ -68,14 +71,14 @@ abbrev pub laysReply : Box
 laysReply c s =
     record {
       answer = refusedAs (refusalAt stepOn c s) c (s .buffer) .answer;
-      buffer = headed (drawn c (s .packet) (s .account) .reply) (s .buffer);
+      buffer = headed (replyPacket (c .id) (judge c (s .packet) (s .account) .reply)) (s .buffer);
     }
 
 -- hands out the record that was lent
 abbrev pub handsOutRecord : Box
 handsOutRecord c s =
     record {
-      answer = record { kind = Refused (refusalAt stepOn c s); next = c; written = 0; handed = s .account };
+      answer = record { kind = Refused (refusalAt stepOn c s); next = c; written = 0; updated = s .account };
       buffer = s .buffer;
     }
 
@@ -90,7 +93,7 @@ allowsLm c s = refusedAs (refusalAt stepOn c s) (withLm c) (s .buffer)
 -- ends the conversation without a reply, and calls the packet judged
 abbrev pub endsUnseen : Box
 endsUnseen c s =
-    record { answer = record { kind = Judged 0; next = ended c; written = 0; handed = noRecord }; buffer = s .buffer }
+    record { answer = record { kind = Judged 0; next = ended c; written = 0; updated = notFound }; buffer = s .buffer }
 
 -- judges it after all, under the identifier that the packet has
 abbrev pub judgesStrays : Box

@@ -11,15 +11,14 @@ use lib.ListN.{length, getD, take}
 use Rattle.issued.specs.Issued.{Issued, places, listed, holds, meets, countsOf, badBuffer}
 use Rattle.packets.specs.declared.Change.{Change}
 use Rattle.packets.specs.declared.Response.{Response}
-use Rattle.authenticator.specs.Account.{answers}
-use Rattle.authenticator.specs.Change.{newHash}
+use Rattle.verify.specs.Response.{answers}
+use Rattle.authenticator.specs.Judge.{validIn, newHashIn}
 use Rattle.authenticator.specs.Conversation.{isEnded}
 use Rattle.authenticator.specs.Opening.{Opening, retriesOf, spends, firstConversation, openingPacket}
-use Rattle.authenticator.specs.Response.{valid}
 use Rattle.authenticator.specs.Steps.{Lent, nextAfter}
-use Rattle.authenticator.specs.declared.Account.{Account}
+use Rattle.accounts.specs.declared.Account.{Account}
+use Rattle.accounts.specs.declared.Hash.{Hash}
 use Rattle.authenticator.specs.declared.Conversation.{Conversation}
-use Rattle.authenticator.specs.declared.Hash.{Hash}
 use Rattle.series.specs.Course.{end, Along}
 use Rattle.series.specs.Boxes.{ourBox}
 use Rattle.series.specs.Openers.{Opener}
@@ -83,7 +82,7 @@ module _ (opener : Opener) where
   abbrev pub NoneValidTwice : Type 0
   NoneValidTwice =
       (i : Issued) (first second : Opening) → Two i first second → (ss ts : List Lent) (a : Account) (f : Response)
-      → valid (reached first ss) a f ≡ true → valid (reached second ts) a f ≡ false
+      → validIn (reached first ss) a f ≡ true → validIn (reached second ts) a f ≡ false
 
   -- Nor does a recorded change: one that is accepted in one conversation gives that new hash in no
   -- other, whatever record was kept there, and is not accepted in another whose kept record has the
@@ -91,9 +90,9 @@ module _ (opener : Opener) where
   abbrev pub NoneChangedTwice : Type 0
   NoneChangedTwice =
       (i : Issued) (first second : Opening) → Two i first second → (ss ts : List Lent) (f : Change) (h : List ℕ)
-      → newHash (reached first ss) f ≡ some h
-      → (newHash (reached second ts) f ≢ some h)
-      × (reached second ts .kept .nt .octets ≡ reached first ss .kept .nt .octets → newHash (reached second ts) f ≡ none)
+      → newHashIn (reached first ss) f ≡ some h
+      → (newHashIn (reached second ts) f ≢ some h)
+      × (reached second ts .kept .nt .octets ≡ reached first ss .kept .nt .octets → newHashIn (reached second ts) f ≡ none)
 
   -- An opening that needs nothing more is not refused: it hands out the conversation, and writes
   -- the Challenge. Without it an opener that refuses everything would meet the rest.

@@ -6,18 +6,20 @@ use mathlib.Core.Path.{_≡_}
 use Prim.Native.Nat.{ℕ, _+_, _≤_}
 use lib.ListN.{length, take, replicate}
 use Rattle.credentials.specs.Credentials.{ntHashOf, badNtPassword, badFiller}
+use Rattle.message.specs.Reasons.{authenticationFailure, passwordExpired}
 use Rattle.message.specs.Message.{textOf, failedWith, noC, succeeded}
 use Rattle.message.specs.declared.Reading.{Reading}
 use Rattle.packets.specs.Response.{badName, responseIn}
 use Rattle.packets.specs.Reply.{successPacket, failurePacket, readChallenge}
 use Rattle.packets.specs.declared.Asked.{Asked}
-use Rattle.authenticator.specs.Account.{found}
+use Rattle.accounts.specs.Account.{found, Rightful}
+use Rattle.authenticator.specs.Judge.{validIn}
 use Rattle.authenticator.specs.Opening.{Opening, retriesOf, opened, openedBuffer}
-use Rattle.authenticator.specs.Response.{valid, version}
+use Rattle.authenticator.specs.Encode.{version}
 use Rattle.authenticator.specs.Step.{Outcome}
-use Rattle.authenticator.specs.Steps.{Lent, Box, replyOf, nextAfter, Refused, Leaves, judged, Rightful}
-use Rattle.authenticator.specs.declared.Account.{Account}
-use Rattle.authenticator.specs.declared.Lookup.{Lookup}
+use Rattle.authenticator.specs.Steps.{Lent, Box, replyOf, nextAfter, Refused, Leaves, judged}
+use Rattle.accounts.specs.declared.Account.{Account}
+use Rattle.accounts.specs.declared.Lookup.{Lookup}
 use Rattle.authenticator.specs.declared.Conversation.{Conversation}
 use Rattle.authenticator.specs.declared.Phase.the-variants.{Ended}
 use Rattle.peer.specs.Write.{Wrote}
@@ -167,7 +169,7 @@ module _ (box : Box) (writer : Writer) where
   -- is lent. The change is "written with the right password as the old one", and lent any record or none.
   abbrev pub Meant : Account → State → Packet → Lending → Type 0
   Meant a p (invalid w n) l =
-      l .account .found ≡ true → valid (p .conversation) (l .account .account) (responseIn (exchange p (invalid w n) l .lent .packet)) ≡ false
+      l .account .found ≡ true → validIn (p .conversation) (l .account .account) (responseIn (exchange p (invalid w n) l .lent .packet)) ≡ false
   Meant a p (right w n) l = (ntHashOf w ≡ a .nt .octets) × (l .account ≡ found a)
   Meant a p (renewal o n f) l = ntHashOf o ≡ a .nt .octets
 
@@ -191,10 +193,10 @@ module _ (box : Box) (writer : Writer) where
   -- An invalid try draws 691 with R=1; the right password Success or, expired, 648; the change Success, and a record is handed out that lets the
   -- new password in. (What a reading calls for is part of it: a retry, a version 2 change.)
   abbrev pub Answered : Account → ℕ → Packet → Exchange → Type 0
-  Answered a id (invalid w n) x = DrawsFailure x id 691 1
-  Answered a id (right w n) x = cond (a .expired) (DrawsFailure x id 648 0) (DrawsSuccess x id)
+  Answered a id (invalid w n) x = DrawsFailure x id authenticationFailure 1
+  Answered a id (right w n) x = cond (a .expired) (DrawsFailure x id passwordExpired 0) (DrawsSuccess x id)
   Answered a id (renewal o n f) x =
-      DrawsSuccess x id × (x .outcome .answer .handed .found ≡ true) × LetsIn (x .outcome .answer .handed .account) n
+      DrawsSuccess x id × (x .outcome .answer .updated .found ≡ true) × LetsIn (x .outcome .answer .updated .account) n
 
   -- each packet of our peer is written, not refused, and is answered
   abbrev pub Claimed : Account → State → Step → Type 0

@@ -15,7 +15,7 @@ use Rattle.message.specs.declared.Verdict.{Verdict}
 use Rattle.message.specs.declared.Verdict.the-variants.{Success, Failure, Refused}
 use Rattle.issued.specs.Issued.{emptyList}
 use Rattle.challenges.specs.Challenges.{nextId, incremented}
-use Rattle.authenticator.specs.Account.{noRecord}
+use Rattle.accounts.specs.Account.{notFound}
 use Rattle.authenticator.specs.Opening.{Opening, firstConversation, opened, openedBuffer}
 use Rattle.authenticator.specs.Step.{Outcome, step}
 use Rattle.authenticator.specs.Steps.{replyOf}
@@ -75,7 +75,7 @@ outputOf (identifier i) = number (nextId i)
 outputOf (challenge c) = octets (incremented c)
 outputOf (key k) = octets (expandKey k)
 outputOf (opening id c) = octets (take (opened (openingOf id c) .written) (openedBuffer (openingOf id c)))
-outputOf (response id p) = answered (step (firstConversation (openingOf id (replicate 8 0))) p noRecord (replicate 17 0))
+outputOf (response id p) = answered (step (firstConversation (openingOf id (replicate 8 0))) p notFound (replicate 17 0))
 outputOf (block b) = held (contentFor (lengthIn b))
 outputOf (message m) = readAs (readMessage m .verdict) (readMessage m .c)
 
