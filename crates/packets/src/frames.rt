@@ -1,10 +1,11 @@
 // The frame of every packet: code, identifier, Length, data.
+use refusals::refuse_if;
 ghost use mathlib.Core.Path.{_≡_};
 ghost use mathlib.Core.Bool.{cond};
 ghost use mathlib.Core.List.{_∷_};
 ghost use Prim.Native.Nat.{_-_};
 ghost use Rattle.octets.specs.Numbers.{toBe};
-ghost use Rattle.packets.specs.Frame.{octet, lengthOf, badFrame};
+ghost use Rattle.packets.specs.Frame.{octet, lengthOf, badFrame, badId};
 
 // The octet at the place i, 0 where the packet does not reach it.
 pub fn octet(packet: &[u8], i: usize) -> u8
@@ -28,11 +29,18 @@ pub fn bad_frame(packet: &[u8]) -> bool
     packet.len() < 4 || (n < 4 || packet.len() < n)
 }
 
+// Its identifier is another one than this.
+pub fn bad_id(id: u8, packet: &[u8]) -> bool
+    ensures { λ r. ⌜ r ≡ badId id (now (packet .entry)) ⌝ }
+{
+    octet(packet, 1) != id
+}
+
 // Refusal 3, or 0.
 pub fn frame_refusal(packet: &[u8]) -> u8
     ensures { λ r. ⌜ r ≡ cond (badFrame (now (packet .entry))) 3 0 ⌝ }
 {
-    if bad_frame(packet) { 3 } else { 0 }
+    refuse_if(bad_frame(packet), 3, 0)
 }
 
 // What Length leaves behind the first `front` octets.

@@ -1,0 +1,11 @@
+-- `packets::frames::bad_id` meets its contract.
+-- Assumes nothing.
+use borrow.Author.Needs.{needs}
+use Rattle.packets.proofs.frames.bad_id.Statement.{statement}
+use Rattle.packets.proofs.frames.bad_id.Tie as tie
+
+returns : tie.Need-returns
+returns c = simp (c .octet .ensures)
+
+pub bad-id-spec : {M : Type 1} → statement M
+bad-id-spec = tie.close (tie.spec (λ c κs. search needs) returns)
