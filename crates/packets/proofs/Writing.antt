@@ -11,6 +11,7 @@ use borrow.Author.Tests.{le-leb, lt-leb, ltb-false, ne-eqb}
 use lib.Dec.{ltb}
 use lib.ListN.{length, take, drop, length-append}
 use lib.Seq.{take-append-seam}
+use Rattle.refusals.proofs.Answers.{both-passed}
 use Rattle.octets.specs.Numbers.{toBe}
 use Rattle.octets.specs.Parts.{over}
 use Rattle.octets.proofs.Parts.{over-fits}
@@ -123,13 +124,9 @@ module _ (packet out : List ℕ) (n : ℕ) {r : ℕ} (e : r ≡ n) where
 -- what is known of a Response that is not refused
 pub response-fits : (name out : List ℕ) → responseWriteRefusal name out ≡ 0 → (length name ≤ 256) × (54 + length name ≤ length out)
 unfolding responseWriteRefusal
-response-fits name out = by (badName name) (shortForResponse name out) refl refl
-  where
-    by : (a b : Bool) → badName name ≡ a → shortForResponse name out ≡ b → _≡_ {A = ℕ} (cond a 10 (cond b 9 0)) 0
-        → (length name ≤ 256) × (54 + length name ≤ length out)
-    by true b p q z = absurd (omega (arith, z))
-    by false true p q z = absurd (omega (arith, z))
-    by false false p q z = (good-name name p .1, ltb-false (length out) (54 + length name) q)
+response-fits name out z =
+    let passed = both-passed 9 8 (badName name) (shortForResponse name out) z in
+    (good-name name (passed .0) .1, ltb-false (length out) (54 + length name) (passed .1))
 
 -- and of a change
 pub change-fits : (out : List ℕ) → changeWriteRefusal out ≡ 0 → 1118 ≤ length out

@@ -1,11 +1,17 @@
--- An answer that is made from the number that two tests choose: what each of them makes of its own
--- number, or the good answer where neither finds fault.
+-- The number that two tests choose, and an answer that is made from it: what each of them makes of
+-- its own number, or the good answer where neither finds fault.
 -- Assumes nothing.
 use mathlib.Core.Bool.{Bool, true, false, cond}
 use mathlib.Core.Logic.{_≢_}
-use mathlib.Core.Path.{_≡_, refl, sym, ap, _∙_}
+use mathlib.Core.Path.{_≡_, refl, ap}
 use Prim.Native.Nat.{ℕ, suc}
 use native.Mathlib.Omega.{arith}
+
+-- neither finds fault
+pub both-passed : (m n : ℕ) (a b : Bool) → cond a (suc m) (cond b (suc n) 0) ≡ 0 → (a ≡ false) × (b ≡ false)
+both-passed m n true b z = absurd (omega (arith, z))
+both-passed m n false true z = absurd (omega (arith, z))
+both-passed m n false false z = (refl, refl)
 
 module _ {A : Type 0} (make : ℕ → A) (good : A) (m n : ℕ) (a b : Bool) {k : ℕ} (e : k ≡ cond a (suc m) (cond b (suc n) 0)) where
   pub refused-two : k ≢ 0 → make k ≡ cond a (make (suc m)) (cond b (make (suc n)) good)
