@@ -1,8 +1,10 @@
--- The laws of hashes, responses and sealed passwords for other crates to cite: lengths, and that opening what was sealed gives the password back.
+-- The laws of hashes, responses and sealed passwords for other crates to cite: lengths, and that
+-- opening what was sealed gives the password back.
 -- Assumes nothing.
 use mathlib.Core.Path.{_≡_, refl, sym, ap, ap₂, _∙_}
 use mathlib.Core.Bool.{Bool, true, false, cond, not, _||_, true≢false}
 use mathlib.Core.List.{List, _++_, map}
+use mathlib.Core.Logic.{_≢_}
 use mathlib.Core.Option.{none, some}
 use Prim.Native.Nat.{ℕ, _+_, _-_, _%_, _≤_}
 use native.Mathlib.Nat.{mod-eq-of-lt}
@@ -11,6 +13,7 @@ use borrow.Author.Tests.{le-ltb, ne-eqb, ltb-false, eqb-false}
 use lib.Dec.{eqb, ltb}
 use lib.ListN.{length, take, drop, replicate, length-append}
 use lib.Seq.{take-all, drop-at, take-at}
+use Rattle.refusals.proofs.Answers.{both-passed}
 use Rattle.octets.specs.Parts.{part, fixed}
 use Rattle.octets.specs.Numbers.{fromLe, toLe}
 use Rattle.octets.proofs.Parts.{over-fills, length-fixed}
@@ -152,14 +155,16 @@ module _ (old password filler : List ℕ) where
   abbrev answer : ℕ → Sealed
   answer n = record { refusal = n; block = cond (eqb n 0) (sealedBlock old filler password) (replicate 516 0) }
 
-  pub sealed-bad : badNtPassword password ≡ true → sealedAs old password filler ≡ record { refusal = 8; block = replicate 516 0 }
-  unfolding sealedAs sealRefusal
-  sealed-bad e = ap (λ (b : Bool). answer (cond b 8 (cond (badFiller filler) 12 0))) e
+  pub sealed-refused : {k : ℕ} → k ≡ sealRefusal password filler → k ≢ 0 → record { refusal = k; block = replicate 516 0 } ≡ sealedAs old password filler
+  unfolding sealedAs
+  sealed-refused {k} e h =
+      ap (λ (b : Bool). record { refusal = k; block = cond b (sealedBlock old filler password) (replicate 516 0) }) (sym (ne-eqb k 0 h)) ∙ ap answer e
 
-  pub sealed-filler : badNtPassword password ≡ false → eqb (length filler) 512 ≡ false → sealedAs old password filler ≡ record { refusal = 12; block = replicate 516 0 }
+  pub sealed-good : badNtPassword password ≡ false → badFiller filler ≡ false → sealedAs old password filler ≡ record { refusal = 0; block = sealedBlock old filler password }
   unfolding sealedAs sealRefusal
-  sealed-filler e f = ap₂ (λ (a b : Bool). answer (cond a 8 (cond (not b) 12 0))) e f
+  sealed-good e f = ap₂ (λ (a b : Bool). answer (cond a 8 (cond b 12 0))) e f
 
-  pub sealed-good : badNtPassword password ≡ false → eqb (length filler) 512 ≡ true → sealedAs old password filler ≡ record { refusal = 0; block = sealedBlock old filler password }
-  unfolding sealedAs sealRefusal
-  sealed-good e f = ap₂ (λ (a b : Bool). answer (cond a 8 (cond (not b) 12 0))) e f
+  -- what is known where neither is refused
+  pub seal-fits : sealRefusal password filler ≡ 0 → (badNtPassword password ≡ false) × (badFiller filler ≡ false)
+  unfolding sealRefusal
+  seal-fits = both-passed 7 11 (badNtPassword password) (badFiller filler)

@@ -1,10 +1,11 @@
 // Hashes, responses and the sealed password of MS-CHAP (RFC 2433, appendix A).
+use refusals::refuse_if;
 ghost use mathlib.Core.Path.{_≡_};
 ghost use mathlib.Core.List.{_++_};
 ghost use Prim.Native.Nat.{_≤_};
 ghost use lib.ListN.{length};
 ghost use Rattle.rc4.specs.Rc4.{crypted};
-ghost use Rattle.credentials.specs.Credentials.{upper, badNtPassword, lmKeys, ntHashed, lmHashed, responseOf, oldUnderNew, plainBlock, sealedAs, lengthIn, contentFor, lengthTold, passwordLength, unsealedAs};
+ghost use Rattle.credentials.specs.Credentials.{upper, badNtPassword, lmKeys, ntHashed, lmHashed, responseOf, oldUnderNew, plainBlock, badFiller, sealRefusal, sealedAs, lengthIn, contentFor, lengthTold, passwordLength, unsealedAs};
 
 // A hash, or a refusal (8) with sixteen octets 0. 0 is no refusal.
 pub struct Hashed {
@@ -25,7 +26,8 @@ pub enum Content {
     Password(usize),
 }
 
-// An opened block: what it holds, and its octets, of which a password is the last. (An enum can hold no array.)
+// An opened block: what it holds, and its octets, of which a password is the last. (An enum can hold
+// no array.)
 pub struct Unsealed {
     pub content: Content,
     pub octets: [u8; 512],
@@ -33,13 +35,15 @@ pub struct Unsealed {
 
 // ---- hashes
 
-fn is_bad_nt_password(password: &[u8]) -> bool
+// The password is odd or over 512 octets: refusal 8.
+pub fn is_bad_nt_password(password: &[u8]) -> bool
     ensures { λ r. ⌜ r ≡ badNtPassword (now (password .entry)) ⌝ }
 {
     512 < password.len() || password.len() % 2 == 1
 }
 
-// A.6, NtPasswordHash(): the password's octets as lent, 0 to 512 of them, an even number; else refusal 8.
+// A.6, NtPasswordHash(): the password's octets as lent, 0 to 512 of them, an even number; else
+// refusal 8.
 pub fn nt_hash(password: &[u8]) -> Hashed
     ensures { λ r. ⌜ r ≡ ntHashed (now (password .entry)) ⌝ }
 {
@@ -156,19 +160,33 @@ fn plain_block(password: &[u8], filler: &[u8]) -> [u8; 516]
     block
 }
 
-// A.12, EncryptPwBlockWithPasswordHash(): the password under the old hash. Refusals 8 (password), then 12 (filler not 512 octets).
+// The filler has not 512 octets: refusal 12.
+pub fn is_bad_filler(filler: &[u8]) -> bool
+    ensures { λ r. ⌜ r ≡ badFiller (now (filler .entry)) ⌝ }
+{
+    filler.len() != 512
+}
+
+// 8, then 12; 0 is none.
+fn seal_refusal(password: &[u8], filler: &[u8]) -> u8
+    ensures { λ r. ⌜ r ≡ sealRefusal (now (password .entry)) (now (filler .entry)) ⌝ }
+{
+    refuse_if(
+        is_bad_nt_password(password),
+        8,
+        refuse_if(is_bad_filler(filler), 12, 0),
+    )
+}
+
+// A.12, EncryptPwBlockWithPasswordHash(): the password under the old hash. Refusals 8 (password),
+// then 12 (filler).
 pub fn seal(old: [u8; 16], password: &[u8], filler: &[u8]) -> Sealed
     ensures { λ r. ⌜ r ≡ sealedAs old (now (password .entry)) (now (filler .entry)) ⌝ }
 {
-    if is_bad_nt_password(password) {
+    let refusal = seal_refusal(password, filler);
+    if refusal != 0 {
         return Sealed {
-            refusal: 8,
-            block: [0; 516],
-        };
-    }
-    if filler.len() != 512 {
-        return Sealed {
-            refusal: 12,
+            refusal,
             block: [0; 516],
         };
     }

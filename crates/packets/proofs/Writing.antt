@@ -1,22 +1,24 @@
--- What the writers leave: the pieces of a packet, laid one behind the other over the front of the lent buffer, are the packet there. Lengths of
--- the packets.
+-- What the writers leave: the pieces of a packet, laid one behind the other over the front of the
+-- lent buffer, are the packet there. Lengths of the packets.
 -- Assumes nothing.
 use mathlib.Core.Path.{_≡_, refl, sym, ap, _∙_}
-use mathlib.Core.Bool.{Bool, true, false, _||_, false≢true}
+use mathlib.Core.Bool.{Bool, true, false, cond, _||_, false≢true}
+use mathlib.Core.Logic.{_≢_}
 use mathlib.Core.List.{List, [], _∷_, _++_, append-assoc}
 use Prim.Native.Nat.{ℕ, _+_, _≤_, _<_}
 use native.Mathlib.Omega.{arith}
-use borrow.Author.Tests.{le-leb, lt-leb, lt-ltb, le-ltb, ltb-false}
+use borrow.Author.Tests.{le-leb, lt-leb, ltb-false, ne-eqb}
 use lib.Dec.{ltb}
 use lib.ListN.{length, take, drop, length-append}
 use lib.Seq.{take-append-seam}
+use Rattle.refusals.proofs.Answers.{both-passed}
 use Rattle.octets.specs.Numbers.{toBe}
 use Rattle.octets.specs.Parts.{over}
 use Rattle.octets.proofs.Parts.{over-fits}
 use Rattle.octets.proofs.Laid.{Laid}
-use Rattle.packets.specs.Frame.{framed, headed, headedLength}
-use Rattle.packets.specs.Response.{responsePacket, badName, responseWriteRefusal, responseWritten, responseOut}
-use Rattle.packets.specs.Change.{changePacket, changeWriteRefusal, changeWritten, changeOut}
+use Rattle.packets.specs.Frame.{framed, headed, headedLength, answerBy, outBy}
+use Rattle.packets.specs.Response.{responsePacket, badName, shortForResponse, responseWriteRefusal}
+use Rattle.packets.specs.Change.{changePacket, shortForChange, changeWriteRefusal}
 use Rattle.packets.specs.Reply.{challengePacket, successPacket, failurePacket}
 use Rattle.packets.specs.declared.Response.{Response}
 use Rattle.packets.specs.declared.Change.{Change}
@@ -87,7 +89,8 @@ response-order h lm nt name x y = simp append-assoc
 pub change-order : (h a b c d e : List ℕ) → ((h ++ (a ++ b)) ++ (c ++ d)) ++ e ≡ h ++ (a ++ (b ++ (c ++ (d ++ e))))
 change-order h a b c d e = simp append-assoc
 
--- pieces that begin with the four octets of a frame are the packet, where the Length there is that of all of them and there is room
+-- pieces that begin with the four octets of a frame are the packet, where the Length there is that
+-- of all of them and there is room
 pub framed-laid : (code id : ℕ) (d : List ℕ) {l xs b head : List ℕ} {n : ℕ} → Laid l xs n b → head ≡ code ∷ id ∷ toBe 2 n → xs ≡ head ++ d → n ≤ length l
     → (length (framed code id d) ≡ n) × ((n ≡ headedLength (framed code id d) l) × (b ≡ headed (framed code id d) l))
 framed-laid code id d {l} {xs} {b} {head} {n} s e f h =
@@ -109,28 +112,27 @@ good-name name e = by (ltb (length name) 1) (ltb 256 (length name)) refl refl e
     by false true e f g = absurd (false≢true (sym g))
     by true b e f g = absurd (false≢true (sym g))
 
-module _ (id : ℕ) (f : Response) (name out : List ℕ) where
-  pub name-refused : badName name ≡ true → (record { refusal = 10; length = 0 } ≡ responseWritten id f name out) × (out ≡ responseOut id f name out)
-  unfolding responseWritten responseOut responseWriteRefusal
-  name-refused e = (simp e, simp e)
+-- by the refusal, which is n: nothing was written, or the packet
+module _ (packet out : List ℕ) (n : ℕ) {r : ℕ} (e : r ≡ n) where
+  pub nothing-written : r ≢ 0 → (record { refusal = r; length = 0 } ≡ answerBy n packet) × (out ≡ outBy n packet out)
+  nothing-written h = let t = ne-eqb n 0 (λ z. h (e ∙ z)) in (simp (t, e), simp t)
 
-  pub room-refused : badName name ≡ false → length out < 54 + length name
-      → (record { refusal = 9; length = 0 } ≡ responseWritten id f name out) × (out ≡ responseOut id f name out)
-  unfolding responseWritten responseOut responseWriteRefusal
-  room-refused e h = let t = lt-ltb (length out) (54 + length name) h in (simp (e, t), simp (e, t))
+  pub packet-written : r ≡ 0 → {k : ℕ} {b : List ℕ} → (k ≡ length packet) × (b ≡ headed packet out)
+      → (record { refusal = 0; length = k } ≡ answerBy n packet) × (b ≡ outBy n packet out)
+  packet-written z w = let t : n ≡ 0 = sym e ∙ z in (simp (t, w .0), simp t (w .1))
 
-  pub response-written : badName name ≡ false → 54 + length name ≤ length out → length (responsePacket id f name) ≡ 54 + length name → {b : List ℕ}
-      → b ≡ headed (responsePacket id f name) out
-      → (record { refusal = 0; length = 54 + length name } ≡ responseWritten id f name out) × (b ≡ responseOut id f name out)
-  unfolding responseWritten responseOut responseWriteRefusal
-  response-written e h n g = let t = le-ltb (length out) (54 + length name) h in (simp (e, t, n), simp (e, t) g)
+-- what is known of a Response that is not refused
+pub response-fits : (name out : List ℕ) → responseWriteRefusal name out ≡ 0 → (length name ≤ 256) × (54 + length name ≤ length out)
+unfolding responseWriteRefusal
+response-fits name out z =
+    let passed = both-passed 9 8 (badName name) (shortForResponse name out) z in
+    (good-name name (passed .0) .1, ltb-false (length out) (54 + length name) (passed .1))
 
-module _ (id : ℕ) (f : Change) (out : List ℕ) where
-  pub change-refused : length out < 1118 → (record { refusal = 9; length = 0 } ≡ changeWritten id f out) × (out ≡ changeOut id f out)
-  unfolding changeWritten changeOut changeWriteRefusal
-  change-refused h = let t = lt-ltb (length out) 1118 h in (simp t, simp t)
-
-  pub change-written : 1118 ≤ length out → length (changePacket id f) ≡ 1118 → {b : List ℕ} → b ≡ headed (changePacket id f) out
-      → (record { refusal = 0; length = 1118 } ≡ changeWritten id f out) × (b ≡ changeOut id f out)
-  unfolding changeWritten changeOut changeWriteRefusal
-  change-written h n g = let t = le-ltb (length out) 1118 h in (simp (t, n), simp t g)
+-- and of a change
+pub change-fits : (out : List ℕ) → changeWriteRefusal out ≡ 0 → 1118 ≤ length out
+unfolding changeWriteRefusal
+change-fits out = by (shortForChange out) refl
+  where
+    by : (a : Bool) → shortForChange out ≡ a → _≡_ {A = ℕ} (cond a 9 0) 0 → 1118 ≤ length out
+    by true p z = absurd (omega (arith, z))
+    by false p z = ltb-false (length out) 1118 p

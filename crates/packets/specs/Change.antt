@@ -43,8 +43,11 @@ changeRefusal p = cond (badChangeSize p) 6 (cond (badChangeFlags p) 7 0)
 
 -- ---- writing one: refusal 9 for too little room
 
+abbrev pub shortForChange : List ℕ → Bool
+shortForChange out = ltb (length out) 1118
+
 unfoldable pub changeWriteRefusal : List ℕ → ℕ
-changeWriteRefusal out = cond (ltb (length out) 1118) 9 0
+changeWriteRefusal out = cond (shortForChange out) 9 0
 
 unfoldable pub changeWritten : ℕ → Change → List ℕ → Written
 changeWritten id f out = answerBy (changeWriteRefusal out) (changePacket id f)

@@ -48,15 +48,16 @@ readChallenge p =
     (cond (badChallenge p) (notAsked 11)
     (record { refusal = 0; id = octet 1 p; challenge = fixed 8 (part 5 8 p) }))
 
+-- what a packet says, by its code
+abbrev pub bodyRead : List ℕ → Reading
+bodyRead p = cond (eqb (octet 0 p) 3) succeeded (cond (eqb (octet 0 p) 4) (readMessage (dataOf p)) (refusedWith 11))
+
 -- a reply to the last packet, which had the identifier last: 3, then 5, then 11 for another kind or
 -- by the message
 unfoldable pub readReply : ℕ → List ℕ → Reading
 readReply last p =
     cond (badFrame p) (refusedWith 3)
-    (cond (badId last p) (refusedWith 5)
-    (cond (eqb (octet 0 p) 3) succeeded
-    (cond (eqb (octet 0 p) 4) (readMessage (dataOf p))
-    (refusedWith 11))))
+    (cond (badId last p) (refusedWith 5) (bodyRead p))
 
 -- the number with which a reply is refused; 0 is none
 unfoldable pub replyRefusal : ℕ → List ℕ → ℕ

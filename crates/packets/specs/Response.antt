@@ -38,8 +38,11 @@ responseRefusal p = cond (badResponseSize p) 6 (cond (badResponseFlag p) 7 0)
 abbrev pub badName : List ℕ → Bool
 badName name = ltb (length name) 1 || ltb 256 (length name)
 
+abbrev pub shortForResponse : List ℕ → List ℕ → Bool
+shortForResponse name out = ltb (length out) (54 + length name)
+
 unfoldable pub responseWriteRefusal : List ℕ → List ℕ → ℕ
-responseWriteRefusal name out = cond (badName name) 10 (cond (ltb (length out) (54 + length name)) 9 0)
+responseWriteRefusal name out = cond (badName name) 10 (cond (shortForResponse name out) 9 0)
 
 unfoldable pub responseWritten : ℕ → Response → List ℕ → List ℕ → Written
 responseWritten id f name out = answerBy (responseWriteRefusal name out) (responsePacket id f name)

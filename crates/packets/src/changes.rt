@@ -5,14 +5,15 @@ use crate::frames::head;
 use crate::frames::length;
 use crate::frames::octet;
 use crate::responses::response_at;
+use refusals::refuse_if;
 ghost use mathlib.Core.Path.{_≡_};
 ghost use mathlib.Core.List.{[], _∷_, _++_};
-ghost use Prim.Native.Nat.{_<_};
+ghost use Prim.Native.Nat.{_≤_, _<_};
 ghost use lib.ListN.{length};
 ghost use Rattle.octets.specs.Parts.{part, fixed, overAt};
 ghost use Rattle.octets.specs.Numbers.{fromBe, toBe};
-ghost use Rattle.packets.specs.Frame.{octet};
-ghost use Rattle.packets.specs.Change.{changeRefusal, changeIn, changeWritten, changeOut};
+ghost use Rattle.packets.specs.Frame.{octet, headed};
+ghost use Rattle.packets.specs.Change.{changePacket, badChangeSize, badChangeFlags, shortForChange, changeRefusal, changeIn, changeWritten, changeOut};
 
 // The flags, the most significant octet first.
 fn flags(packet: &[u8]) -> u16
@@ -21,17 +22,24 @@ fn flags(packet: &[u8]) -> u16
     octets::u16_from_be(octet(packet, 1116), octet(packet, 1117))
 }
 
+fn bad_size(packet: &[u8]) -> bool
+    ensures { λ r. ⌜ r ≡ badChangeSize (now (packet .entry)) ⌝ }
+{
+    length(packet) != 1118
+}
+
+// One of the bits 2 to 15 is set.
+fn bad_flags(packet: &[u8]) -> bool
+    ensures { λ r. ⌜ r ≡ badChangeFlags (now (packet .entry)) ⌝ }
+{
+    3 < flags(packet)
+}
+
 // Refusal 6 or 7, or 0, of a packet whose frame is good and whose code is 6.
 pub fn change_refusal(packet: &[u8]) -> u8
     ensures { λ r. ⌜ r ≡ changeRefusal (now (packet .entry)) ⌝ }
 {
-    if length(packet) != 1118 {
-        return 6;
-    }
-    if 3 < flags(packet) {
-        return 7;
-    }
-    0
+    refuse_if(bad_size(packet), 6, refuse_if(bad_flags(packet), 7, 0))
 }
 
 // A sealed block, from the place at on; 0 where the packet does not reach.
@@ -83,16 +91,18 @@ fn put_rest(out: &mut [u8], lm: [u8; 24], nt: [u8; 24], flags: u16)
     octets::copy_at(out, 1116, &last);
 }
 
-// Writes a change at the front of out. Refusal 9: too little room.
-pub fn write_change(id: u8, fields: Change, out: &mut [u8]) -> Written
-    ensures { λ r. ⌜ (r ≡ changeWritten id fields (now (out .entry))) × (now (out .exit) ≡ changeOut id fields (now (out .entry))) ⌝ }
+// There is too little room for a change.
+fn is_short(out: &[u8]) -> bool
+    ensures { λ r. ⌜ r ≡ shortForChange (now (out .entry)) ⌝ }
 {
-    if out.len() < 1118 {
-        return Written {
-            refusal: 9,
-            length: 0,
-        };
-    }
+    out.len() < 1118
+}
+
+// Puts a change that is not refused at the front of out: how many octets it has.
+fn put_change(id: u8, fields: Change, out: &mut [u8]) -> usize
+    requires { ⌜ 1118 ≤ length (now out) ⌝ }
+    ensures { λ r. ⌜ (r ≡ length (changePacket id fields)) × (now (out .exit) ≡ headed (changePacket id fields) (now (out .entry))) ⌝ }
+{
     let first = head(6, id, 1118);
     octets::copy_at(out, 0, &first);
     let block = fields.block;
@@ -104,8 +114,17 @@ pub fn write_change(id: u8, fields: Change, out: &mut [u8]) -> Written
     let lm = fields.lm;
     let nt = fields.nt;
     put_rest(out, lm, nt, fields.flags);
-    Written {
-        refusal: 0,
-        length: 1118,
+    1118
+}
+
+// Writes a change at the front of out. Refusal 9: too little room.
+pub fn write_change(id: u8, fields: Change, out: &mut [u8]) -> Written
+    ensures { λ r. ⌜ (r ≡ changeWritten id fields (now (out .entry))) × (now (out .exit) ≡ changeOut id fields (now (out .entry))) ⌝ }
+{
+    let refusal = refuse_if(is_short(out), 9, 0);
+    if refusal != 0 {
+        return Written { refusal, length: 0 };
     }
+    let length = put_change(id, fields, out);
+    Written { refusal: 0, length }
 }

@@ -1,4 +1,5 @@
 // The frame of every packet: code, identifier, Length, data.
+use refusals::refuse_if;
 ghost use mathlib.Core.Path.{_≡_};
 ghost use mathlib.Core.Bool.{cond};
 ghost use mathlib.Core.List.{_∷_};
@@ -39,7 +40,7 @@ pub fn bad_id(id: u8, packet: &[u8]) -> bool
 pub fn frame_refusal(packet: &[u8]) -> u8
     ensures { λ r. ⌜ r ≡ cond (badFrame (now (packet .entry))) 3 0 ⌝ }
 {
-    if bad_frame(packet) { 3 } else { 0 }
+    refuse_if(bad_frame(packet), 3, 0)
 }
 
 // What Length leaves behind the first `front` octets.

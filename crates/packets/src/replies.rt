@@ -1,15 +1,17 @@
 // What the authenticator sends: Challenge, Success and Failure; and what the peer reads in them.
 use crate::Asked;
 use crate::frames::bad_frame;
+use crate::frames::bad_id;
 use crate::frames::behind;
 use crate::frames::head;
 use crate::frames::length;
 use crate::frames::octet;
 use message::Reading;
+use refusals::refuse_if;
 ghost use mathlib.Core.Path.{_≡_};
 ghost use Rattle.message.specs.Message.{textOf, numberOf, valuesOf};
 ghost use Rattle.packets.specs.Frame.{headed, headedLength};
-ghost use Rattle.packets.specs.Reply.{challengePacket, successPacket, failurePacket, badReplyBuffer, notAsked, badChallenge, readChallenge, readReply, replyRefusal, replyValues};
+ghost use Rattle.packets.specs.Reply.{challengePacket, successPacket, failurePacket, badReplyBuffer, notAsked, badChallenge, readChallenge, bodyRead, readReply, replyRefusal, replyValues};
 
 // Whether a reply buffer cannot hold the longest reply, a Failure.
 pub fn is_bad_reply_buffer(reply: &[u8]) -> bool
@@ -85,11 +87,13 @@ fn bad_challenge(packet: &[u8]) -> bool
 pub fn read_challenge(packet: &[u8]) -> Asked
     ensures { λ r. ⌜ r ≡ readChallenge (now (packet .entry)) ⌝ }
 {
-    if bad_frame(packet) {
-        return not_asked(3);
-    }
-    if bad_challenge(packet) {
-        return not_asked(11);
+    let refusal = refuse_if(
+        bad_frame(packet),
+        3,
+        refuse_if(bad_challenge(packet), 11, 0),
+    );
+    if refusal != 0 {
+        return not_asked(refusal);
     }
     let challenge = octets::eight_at(packet, 5);
     let id = octet(packet, 1);
@@ -100,16 +104,10 @@ pub fn read_challenge(packet: &[u8]) -> Asked
     }
 }
 
-// A reply to the last packet, which had the identifier last. Refusal 3: the frame; 5: another identifier; 11: another kind, or by the message.
-pub fn read_reply(last: u8, packet: &[u8]) -> Reading
-    ensures { λ r. ⌜ (r ≡ readReply last (now (packet .entry))) × (numberOf (r .verdict) ≡ replyRefusal last (now (packet .entry))) × (valuesOf (r .verdict) ≡ replyValues last (now (packet .entry))) ⌝ }
+// What a reply says, by its code: 11 for another kind, or by the message.
+fn read_body(packet: &[u8]) -> Reading
+    ensures { λ r. ⌜ r ≡ bodyRead (now (packet .entry)) ⌝ }
 {
-    if bad_frame(packet) {
-        return message::refused_with(3);
-    }
-    if octet(packet, 1) != last {
-        return message::refused_with(5);
-    }
     let code = octet(packet, 0);
     if code == 3 {
         return message::succeeded();
@@ -118,4 +116,16 @@ pub fn read_reply(last: u8, packet: &[u8]) -> Reading
         return message::read(octets::part_of(packet, 4, behind(packet, 4)));
     }
     message::refused_with(11)
+}
+
+// A reply to the last packet, which had the identifier last. Refusal 3: the frame; 5: another
+// identifier; 11: another kind, or by the message.
+pub fn read_reply(last: u8, packet: &[u8]) -> Reading
+    ensures { λ r. ⌜ (r ≡ readReply last (now (packet .entry))) × (numberOf (r .verdict) ≡ replyRefusal last (now (packet .entry))) × (valuesOf (r .verdict) ≡ replyValues last (now (packet .entry))) ⌝ }
+{
+    let refusal = refuse_if(bad_frame(packet), 3, refuse_if(bad_id(last, packet), 5, 0));
+    if refusal != 0 {
+        return message::refused_with(refusal);
+    }
+    read_body(packet)
 }

@@ -5,9 +5,13 @@ use crate::frames::behind;
 use crate::frames::head;
 use crate::frames::length;
 use crate::frames::octet;
+use refusals::refuse_if;
 ghost use mathlib.Core.Path.{_≡_};
+ghost use Prim.Native.Nat.{_+_, _≤_};
+ghost use lib.ListN.{length};
 ghost use Rattle.octets.specs.Parts.{part, fixed};
-ghost use Rattle.packets.specs.Response.{badResponseSize, badResponseFlag, responseRefusal, responseIn, nameIn, badName, responseWritten, responseOut};
+ghost use Rattle.packets.specs.Frame.{headed};
+ghost use Rattle.packets.specs.Response.{badResponseSize, badResponseFlag, responseRefusal, responseIn, nameIn, badName, shortForResponse, responseWriteRefusal, responsePacket, responseWritten, responseOut};
 
 // The name has not 1 to 256 octets, by the Length, or the size is not 49.
 pub fn bad_size(packet: &[u8]) -> bool
@@ -28,13 +32,7 @@ pub fn bad_flag(packet: &[u8]) -> bool
 pub fn response_refusal(packet: &[u8]) -> u8
     ensures { λ r. ⌜ r ≡ responseRefusal (now (packet .entry)) ⌝ }
 {
-    if bad_size(packet) {
-        return 6;
-    }
-    if bad_flag(packet) {
-        return 7;
-    }
-    0
+    refuse_if(bad_size(packet), 6, refuse_if(bad_flag(packet), 7, 0))
 }
 
 // An LM or NT response, from the place at on; 0 where the packet does not reach.
@@ -71,23 +69,26 @@ fn bad_name(name: &[u8]) -> bool
     name.len() < 1 || 256 < name.len()
 }
 
-// Writes a Response at the front of out. Refusal 10: the name is empty or over 256 octets. 9: too little room.
-pub fn write_response(id: u8, fields: Response, name: &[u8], out: &mut [u8]) -> Written
-    ensures { λ r. ⌜ (r ≡ responseWritten id fields (now (name .entry)) (now (out .entry))) × (now (out .exit) ≡ responseOut id fields (now (name .entry)) (now (out .entry))) ⌝ }
+// There is too little room for a Response with the name.
+fn is_short(out: &[u8], name: &[u8]) -> bool
+    ensures { λ r. ⌜ r ≡ shortForResponse (now (name .entry)) (now (out .entry)) ⌝ }
 {
-    if bad_name(name) {
-        return Written {
-            refusal: 10,
-            length: 0,
-        };
-    }
+    out.len() < 54 || out.len() - 54 < name.len()
+}
+
+// 10, then 9; 0 is none.
+fn write_refusal(name: &[u8], out: &[u8]) -> u8
+    ensures { λ r. ⌜ r ≡ responseWriteRefusal (now (name .entry)) (now (out .entry)) ⌝ }
+{
+    refuse_if(bad_name(name), 10, refuse_if(is_short(out, name), 9, 0))
+}
+
+// Puts a Response that is not refused at the front of out: how many octets it has.
+fn put_response(id: u8, fields: Response, name: &[u8], out: &mut [u8]) -> usize
+    requires { ⌜ (length (now name) ≤ 256) × (54 + length (now name) ≤ length (now out)) ⌝ }
+    ensures { λ r. ⌜ (r ≡ length (responsePacket id fields (now (name .entry)))) × (now (out .exit) ≡ headed (responsePacket id fields (now (name .entry))) (now (out .entry))) ⌝ }
+{
     let n = 54 + name.len();
-    if out.len() < n {
-        return Written {
-            refusal: 9,
-            length: 0,
-        };
-    }
     let first = head(2, id, n as u16);
     let size = [49u8];
     let lm = fields.lm;
@@ -99,8 +100,18 @@ pub fn write_response(id: u8, fields: Response, name: &[u8], out: &mut [u8]) -> 
     octets::copy_at(out, 29, &nt);
     octets::copy_at(out, 53, &flag);
     octets::copy_at(out, 54, name);
-    Written {
-        refusal: 0,
-        length: n,
+    n
+}
+
+// Writes a Response at the front of out. Refusal 10: the name is empty or over 256 octets. 9: too
+// little room.
+pub fn write_response(id: u8, fields: Response, name: &[u8], out: &mut [u8]) -> Written
+    ensures { λ r. ⌜ (r ≡ responseWritten id fields (now (name .entry)) (now (out .entry))) × (now (out .exit) ≡ responseOut id fields (now (name .entry)) (now (out .entry))) ⌝ }
+{
+    let refusal = write_refusal(name, out);
+    if refusal != 0 {
+        return Written { refusal, length: 0 };
     }
+    let length = put_response(id, fields, name, out);
+    Written { refusal: 0, length }
 }

@@ -1,88 +1,84 @@
--- What the writers below answer is what the definitions of the peer's packets say: by the refusals of the hashes and of the seal, and then by the
--- refusal of the packet's own writer.
+-- What the peer's writers answer, by their own refusal, and by that of the packet's writer where they
+-- have none.
 -- Assumes nothing.
-use mathlib.Core.Path.{_≡_, refl, ap, ap₂, _∙_}
-use mathlib.Core.Bool.{Bool, true, false, cond, not, _||_}
+use mathlib.Core.Path.{_≡_, sym, ap, _∙_}
+use mathlib.Core.Bool.{Bool, true, false, cond}
 use mathlib.Core.List.{List}
+use mathlib.Core.Logic.{_≢_}
 use Prim.Native.Nat.{ℕ}
 use native.Mathlib.Omega.{arith}
-use lib.Dec.{eqb}
-use lib.ListN.{length}
-use Rattle.credentials.specs.Credentials.{badNtPassword, hashed, sealedBlock, sealedAs}
+use Rattle.refusals.proofs.Answers.{refused-two, passed-two, both-passed}
+use Rattle.credentials.specs.Credentials.{ntHashOf, badNtPassword, badFiller, hashed, ntHashed, sealedBlock, sealedAs}
 use Rattle.credentials.specs.declared.Hashed.{Hashed}
 use Rattle.credentials.specs.declared.Sealed.{Sealed}
-use Rattle.credentials.proofs.Laws.{sealed-filler, sealed-good}
-use Rattle.packets.specs.Response.{responseWritten, responseOut}
+use Rattle.credentials.proofs.Laws.{sealed-good}
+use Rattle.packets.specs.Frame.{answerBy, outBy}
+use Rattle.packets.specs.Response.{responseWritten, responseOut, responseWriteRefusal}
 use Rattle.packets.specs.Change.{changeWriteRefusal, changeWritten, changeOut}
+use Rattle.packets.specs.declared.Response.{Response}
+use Rattle.packets.specs.declared.Change.{Change}
 use Rattle.packets.specs.declared.Written.{Written}
+use Rattle.packets.proofs.Writing.{nothing-written}
 use Rattle.peer.specs.declared.Turn.{Turn}
-use Rattle.peer.specs.Write.{responseFields, changeFields, responseFor, changeFor, writeResponseRefusal, writeChangeRefusal, refusedBy, Wrote, wroteBy, writeResponse, writeChange}
+use Rattle.peer.specs.Write.{responseFields, changeFields, responseFor, changeFor, badPasswords, writeResponseRefusal, writeChangeRefusal, refusedBy, Wrote, writeResponse, writeChange}
 
--- ---- a hash and a sealed password, by their refusals
+-- ---- what a hash and a seal give where they are not refused
 
-pub bad-hash : (bad : Bool) (hash : List ℕ) {r : Hashed} → r ≡ hashed bad hash → (r .refusal ≡ 0 → ⊥) → bad ≡ true
-bad-hash true hash e h = refl
-bad-hash false hash e h = absurd (h (ap (λ (x : Hashed). x .refusal) e))
+pub hash-given : (password : List ℕ) {r : Hashed} → badNtPassword password ≡ false → r ≡ ntHashed password → r .hash ≡ ntHashOf password
+hash-given password good e = ap (λ (x : Hashed). x .hash) e ∙ ap (λ (b : Bool). hashed b (ntHashOf password) .hash) good
 
-pub good-hash : (bad : Bool) (hash : List ℕ) {r : Hashed} → r ≡ hashed bad hash → r .refusal ≡ 0 → (bad ≡ false) × (r .hash ≡ hash)
-good-hash true hash e h = absurd (omega (arith, ap (λ (x : Hashed). x .refusal) e))
-good-hash false hash e h = (refl, ap (λ (x : Hashed). x .hash) e)
+pub block-given : (old new filler : List ℕ) {r : Sealed} → badNtPassword new ≡ false → badFiller filler ≡ false → r ≡ sealedAs old new filler
+    → r .block ≡ sealedBlock old filler new
+block-given old new filler p q e = ap (λ (x : Sealed). x .block) (e ∙ sealed-good old new filler p q)
 
-module _ (old new filler : List ℕ) {r : Sealed} (e : r ≡ sealedAs old new filler) (good : badNtPassword new ≡ false) where
-  pub bad-filler : (r .refusal ≡ 0 → ⊥) → eqb (length filler) 512 ≡ false
-  bad-filler h = which (eqb (length filler) 512) refl
-    where
-      which : (b : Bool) → eqb (length filler) 512 ≡ b → b ≡ false
-      which true p = absurd (h (ap (λ (x : Sealed). x .refusal) (e ∙ sealed-good old new filler good p)))
-      which false p = refl
+-- ---- what a writer answers and leaves
 
-  pub good-filler : r .refusal ≡ 0 → (eqb (length filler) 512 ≡ true) × (r .block ≡ sealedBlock old filler new)
-  good-filler h = which (eqb (length filler) 512) refl
-    where
-      which : (b : Bool) → eqb (length filler) 512 ≡ b → (b ≡ true) × (r .block ≡ sealedBlock old filler new)
-      which true p = (refl, ap (λ (x : Sealed). x .block) (e ∙ sealed-good old new filler good p))
-      which false p = absurd (omega (arith, ap (λ (x : Sealed). x .refusal) (e ∙ sealed-filler old new filler good p)))
-
--- ---- the Response
-
--- what a writer answers and leaves
 abbrev pub Leaves : Wrote → Written → List ℕ → Type 0
 Leaves w answer out = (answer ≡ w .answer) × (out ≡ w .out)
 
+-- the packet's writer goes by its own refusal n, which is the whole one
+same-answer : {m n : ℕ} (packet : List ℕ) → n ≡ m → answerBy n packet ≡ answerBy m packet
+same-answer packet e = ap (λ (k : ℕ). answerBy k packet) e
+
+same-out : {m n : ℕ} (packet out : List ℕ) → n ≡ m → outBy n packet out ≡ outBy m packet out
+same-out packet out e = ap (λ (k : ℕ). outBy k packet out) e
+
+-- ---- the Response
+
 module _ (t : Turn) (password name out : List ℕ) where
-  pub response-password : badNtPassword password ≡ true → Leaves (writeResponse t password name out) (refusedBy 8) out
+  pub response-refused : badNtPassword password ≡ true → Leaves (writeResponse t password name out) (refusedBy 8) out
   unfolding writeResponse writeResponseRefusal
-  response-password e = rw e (refl, refl)
+  response-refused e =
+      nothing-written (responseFor t password name) out (cond (badNtPassword password) 8 (responseWriteRefusal name out)) (ap (λ (b : Bool). cond b 8 (responseWriteRefusal name out)) (sym e)) (λ z. omega (arith, z))
 
-  pub response-written : badNtPassword password ≡ false
-      → Leaves (writeResponse t password name out) (responseWritten (t .id) (responseFields (t .challenge) password) name out)
-      (responseOut (t .id) (responseFields (t .challenge) password) name out)
+  pub response-written : badNtPassword password ≡ false → {f : Response} {answer : Written} {after : List ℕ} → f ≡ responseFields (t .challenge) password
+      → (answer ≡ responseWritten (t .id) f name out) × (after ≡ responseOut (t .id) f name out) → Leaves (writeResponse t password name out) answer after
   unfolding writeResponse writeResponseRefusal responseFor responseWritten responseOut
-  response-written e = rw e (refl, refl)
+  response-written e s w =
+      let n = ap (λ (b : Bool). cond b 8 (responseWriteRefusal name out)) (sym e) in
+      let p = responseFor t password name in (
+        w .0 ∙ ap (λ (x : Response). responseWritten (t .id) x name out) s ∙ same-answer p n,
+        w .1 ∙ ap (λ (x : Response). responseOut (t .id) x name out) s ∙ same-out p out n,
+      )
 
--- ---- the change
+-- ---- the change, by the number k of its first two tests
 
-module _ (t : Turn) (old new filler out : List ℕ) where
-  -- by whether each password is bad and the filler good
-  abbrev by : Bool → Bool → Bool → Wrote
-  by a b f = wroteBy (cond (a || b) 8 (cond (not f) 12 (changeWriteRefusal out))) (changeFor t old new filler) out
-
-  by-tests : (a b f : Bool) → badNtPassword old ≡ a → badNtPassword new ≡ b → eqb (length filler) 512 ≡ f → writeChange t old new filler out ≡ by a b f
+module _ (t : Turn) (old new filler out : List ℕ) {k : ℕ} (e : k ≡ cond (badPasswords old new) 8 (cond (badFiller filler) 12 0)) where
+  pub change-refused : k ≢ 0 → Leaves (writeChange t old new filler out) (refusedBy k) out
   unfolding writeChange writeChangeRefusal
-  by-tests a b f p q r = ap₂ (λ (x y : Bool). by x y (eqb (length filler) 512)) p q ∙ ap (by a b) r
+  change-refused h =
+      let n = refused-two (λ (x : ℕ). x) (changeWriteRefusal out) 7 11 (badPasswords old new) (badFiller filler) e h in
+      nothing-written (changeFor t old new filler) out (writeChangeRefusal old new filler out) n h
 
-  pub change-old : badNtPassword old ≡ true → Leaves (writeChange t old new filler out) (refusedBy 8) out
-  change-old p = rw (by-tests true (badNtPassword new) (eqb (length filler) 512) p refl refl) (refl, refl)
+  pub change-fits : k ≡ 0 → (badPasswords old new ≡ false) × (badFiller filler ≡ false)
+  change-fits z = both-passed 7 11 (badPasswords old new) (badFiller filler) (sym e ∙ z)
 
-  pub change-new : badNtPassword old ≡ false → badNtPassword new ≡ true → Leaves (writeChange t old new filler out) (refusedBy 8) out
-  change-new p q = rw (by-tests false true (eqb (length filler) 512) p q refl) (refl, refl)
-
-  pub change-filler : badNtPassword old ≡ false → badNtPassword new ≡ false → eqb (length filler) 512 ≡ false
-      → Leaves (writeChange t old new filler out) (refusedBy 12) out
-  change-filler p q r = rw (by-tests false false false p q r) (refl, refl)
-
-  pub change-written : badNtPassword old ≡ false → badNtPassword new ≡ false → eqb (length filler) 512 ≡ true
-      → Leaves (writeChange t old new filler out) (changeWritten (t .id) (changeFields (t .challenge) old new filler) out)
-      (changeOut (t .id) (changeFields (t .challenge) old new filler) out)
-  unfolding changeFor changeWritten changeOut
-  change-written p q r = rw (by-tests false false true p q r) (refl, refl)
+  pub change-written : k ≡ 0 → {f : Change} {answer : Written} {after : List ℕ} → f ≡ changeFields (t .challenge) old new filler
+      → (answer ≡ changeWritten (t .id) f out) × (after ≡ changeOut (t .id) f out) → Leaves (writeChange t old new filler out) answer after
+  unfolding writeChange writeChangeRefusal changeFor changeWritten changeOut
+  change-written z s w =
+      let n = passed-two (λ (x : ℕ). x) (changeWriteRefusal out) 7 11 (badPasswords old new) (badFiller filler) e z in
+      let p = changeFor t old new filler in (
+        w .0 ∙ ap (λ (x : Change). changeWritten (t .id) x out) s ∙ same-answer p n,
+        w .1 ∙ ap (λ (x : Change). changeOut (t .id) x out) s ∙ same-out p out n,
+      )

@@ -1,6 +1,7 @@
--- The peer's two packets, each from a turn and passwords, and when they are refused (document 01: 8, 10, 12, 9 in that order).
+-- The peer's two packets, each from a turn and passwords, and when they are refused (document 01:
+-- 8, 10, 12, 9 in that order).
 -- Assumes nothing: these are definitions.
-use mathlib.Core.Bool.{cond, _||_}
+use mathlib.Core.Bool.{Bool, cond, _||_}
 use mathlib.Core.List.{List}
 use Prim.Native.Nat.{ℕ}
 use lib.ListN.{length, replicate}
@@ -17,8 +18,8 @@ use Rattle.peer.specs.declared.Turn.{Turn}
 abbrev pub responseFieldsOf : List ℕ → List ℕ → Response
 responseFieldsOf challenge hash = record { lm = replicate 24 0; nt = responseOf hash challenge; flag = 1 }
 
--- a change from the old and the new NT hash and the sealed new password: both LM fields and the LM response are zero-filled, the flags are 1;
--- the response is that of the new hash
+-- a change from the old and the new NT hash and the sealed new password: both LM fields and the LM
+-- response are zero-filled, the flags are 1; the response is that of the new hash
 abbrev pub changeFieldsOf : List ℕ → List ℕ → List ℕ → List ℕ → Change
 changeFieldsOf challenge old new block =
     record {
@@ -49,10 +50,14 @@ changeFor t old new filler = changePacket (t .id) (changeFields (t .challenge) o
 unfoldable pub writeResponseRefusal : List ℕ → List ℕ → List ℕ → ℕ
 writeResponseRefusal password name out = cond (badNtPassword password) 8 (responseWriteRefusal name out)
 
+-- one of the two passwords of a change is refused
+abbrev pub badPasswords : List ℕ → List ℕ → Bool
+badPasswords old new = badNtPassword old || badNtPassword new
+
 -- 8, 12, 9; 8 for either password
 unfoldable pub writeChangeRefusal : List ℕ → List ℕ → List ℕ → List ℕ → ℕ
 writeChangeRefusal old new filler out =
-    cond (badNtPassword old || badNtPassword new) 8 (cond (badFiller filler) 12 (changeWriteRefusal out))
+    cond (badPasswords old new) 8 (cond (badFiller filler) 12 (changeWriteRefusal out))
 
 abbrev pub refusedBy : ℕ → Written
 refusedBy n = record { refusal = n; length = 0 }

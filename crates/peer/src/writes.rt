@@ -3,8 +3,11 @@ use crate::Turn;
 use packets::Change;
 use packets::Response;
 use packets::Written;
+use refusals::refuse_if;
+ghost use mathlib.Core.Bool.{false};
 ghost use mathlib.Core.Path.{_≡_};
-ghost use Rattle.peer.specs.Write.{refusedBy, responseFieldsOf, changeFieldsOf, writeResponse, writeChange};
+ghost use Rattle.credentials.specs.Credentials.{badNtPassword, badFiller};
+ghost use Rattle.peer.specs.Write.{refusedBy, responseFieldsOf, changeFieldsOf, responseFields, changeFields, badPasswords, writeResponse, writeChange};
 
 fn refused(number: u8) -> Written
     ensures { λ r. ⌜ r ≡ refusedBy number ⌝ }
@@ -27,21 +30,30 @@ fn response_fields(hash: [u8; 16], challenge: [u8; 8]) -> Response
     }
 }
 
-// Writes a Response from a password at the front of out. Refusal 8: the password; 10: the name; 9: too little room.
+// The Response from a password that is not refused.
+fn response_from(challenge: [u8; 8], password: &[u8]) -> Response
+    requires { ⌜ badNtPassword (now password) ≡ false ⌝ }
+    ensures { λ r. ⌜ r ≡ responseFields challenge (now (password .entry)) ⌝ }
+{
+    let hash = credentials::nt_hash(password).hash;
+    response_fields(hash, challenge)
+}
+
+// Writes a Response from a password at the front of out. Refusal 8: the password; 10: the name; 9:
+// too little room.
 pub(crate) fn write_response(turn: Turn, password: &[u8], name: &[u8], out: &mut [u8]) -> Written
     ensures { λ r. ⌜ (r ≡ writeResponse turn (now (password .entry)) (now (name .entry)) (now (out .entry)) .answer) × (now (out .exit) ≡ writeResponse turn (now (password .entry)) (now (name .entry)) (now (out .entry)) .out) ⌝ }
 {
-    let hashed = credentials::nt_hash(password);
-    if hashed.refusal != 0 {
+    if credentials::is_bad_nt_password(password) {
         return refused(8);
     }
-    let hash = hashed.hash;
     let challenge = turn.challenge;
-    let fields = response_fields(hash, challenge);
+    let fields = response_from(challenge, password);
     packets::write_response(turn.id, fields, name, out)
 }
 
-// The change from both NT hashes and the sealed new password. The response is that of the new hash. The LM fields are zero-filled.
+// The change from both NT hashes and the sealed new password. The response is that of the new hash.
+// The LM fields are zero-filled.
 fn change_fields(old: [u8; 16], new: [u8; 16], block: [u8; 516], challenge: [u8; 8]) -> Change
     ensures { λ r. ⌜ r ≡ changeFieldsOf challenge old new block ⌝ }
 {
@@ -58,8 +70,26 @@ fn change_fields(old: [u8; 16], new: [u8; 16], block: [u8; 516], challenge: [u8;
     }
 }
 
-// Writes a version 2 change from the old and the new password at the front of out. Refusal 8: either password; 12: the filler; 9: too little
-// room.
+// The change from passwords and a filler that are not refused.
+fn change_from(challenge: [u8; 8], old: &[u8], new: &[u8], filler: &[u8]) -> Change
+    requires { ⌜ (badPasswords (now old) (now new) ≡ false) × (badFiller (now filler) ≡ false) ⌝ }
+    ensures { λ r. ⌜ r ≡ changeFields challenge (now (old .entry)) (now (new .entry)) (now (filler .entry)) ⌝ }
+{
+    let before = credentials::nt_hash(old).hash;
+    let after = credentials::nt_hash(new).hash;
+    let block = credentials::seal(before, new, filler).block;
+    change_fields(before, after, block, challenge)
+}
+
+// One of the two passwords is refused.
+fn are_bad_passwords(old: &[u8], new: &[u8]) -> bool
+    ensures { λ r. ⌜ r ≡ badPasswords (now (old .entry)) (now (new .entry)) ⌝ }
+{
+    credentials::is_bad_nt_password(old) || credentials::is_bad_nt_password(new)
+}
+
+// Writes a version 2 change from the old and the new password at the front of out. Refusal 8: either
+// password; 12: the filler; 9: too little room.
 pub(crate) fn write_change(
     turn: Turn,
     old: &[u8],
@@ -69,22 +99,12 @@ pub(crate) fn write_change(
 ) -> Written
     ensures { λ r. ⌜ (r ≡ writeChange turn (now (old .entry)) (now (new .entry)) (now (filler .entry)) (now (out .entry)) .answer) × (now (out .exit) ≡ writeChange turn (now (old .entry)) (now (new .entry)) (now (filler .entry)) (now (out .entry)) .out) ⌝ }
 {
-    let before = credentials::nt_hash(old);
-    if before.refusal != 0 {
-        return refused(8);
+    let bad = are_bad_passwords(old, new);
+    let refusal = refuse_if(bad, 8, refuse_if(credentials::is_bad_filler(filler), 12, 0));
+    if refusal != 0 {
+        return refused(refusal);
     }
-    let after = credentials::nt_hash(new);
-    if after.refusal != 0 {
-        return refused(8);
-    }
-    let from = before.hash;
-    let to = after.hash;
-    let sealed = credentials::seal(from, new, filler);
-    if sealed.refusal != 0 {
-        return refused(12);
-    }
-    let block = sealed.block;
     let challenge = turn.challenge;
-    let fields = change_fields(from, to, block, challenge);
+    let fields = change_from(challenge, old, new, filler);
     packets::write_change(turn.id, fields, out)
 }

@@ -1,44 +1,52 @@
 -- `credentials::seal` meets its contract.
 -- Assumes nothing.
 use borrow.Author.Needs.{needs}
-use mathlib.Core.Path.{sym, ap, _∙_}
+use borrow.Author.Tests.{not-false, eqb-true}
+use mathlib.Core.Bool.{false}
 use mathlib.Core.List.{List}
+use mathlib.Core.Path.{_≡_, sym, ap, _∙_}
 use Prim.Native.Nat.{ℕ}
-use borrow.Author.Tests.{eq-eqb, ne-eqb}
+use lib.ListN.{length}
 use Rattle.rc4.specs.Rc4.{crypted}
-use Rattle.credentials.specs.Credentials.{sealedBlock}
-use Rattle.credentials.proofs.Laws.{good-password, sealed-bad, sealed-filler, sealed-good}
+use Rattle.credentials.specs.Credentials.{badNtPassword, badFiller, sealedBlock}
+use Rattle.credentials.proofs.Laws.{good-password, sealed-refused, sealed-good, seal-fits}
 use Rattle.credentials.proofs.seal.Statement.{statement}
 use Rattle.credentials.proofs.seal.Tie as tie
 
-returns : tie.Need-returns
-returns c =
-    let k = c .before in
-    let a = k .before .before .before .args in
-    sym (sealed-bad (a .t1) (a .password .now) (a .filler .now) (sym (k .is-bad-nt-password .ensures) ∙ c .if1 .taken))
+-- ---- behind the tests
 
-returns-2 : tie.Need-returns-2
-returns-2 c =
-    let k = c .before .before in
-    let a = k .before .before .before .args in
-    sym (sealed-filler (a .t1) (a .password .now) (a .filler .now) (sym (k .is-bad-nt-password .ensures) ∙ c .before .if1 .left) (ne-eqb _ _ (c .if2 .taken)))
+abbrev old : tie.After-seal-refusal → List ℕ
+old c = c .before .before .before .args .t1
+
+abbrev password : tie.After-seal-refusal → List ℕ
+password c = c .before .before .before .args .password .now
+
+abbrev filler : tie.After-seal-refusal → List ℕ
+filler c = c .before .before .before .args .filler .now
+
+fine : (c : tie.Else1) → (badNtPassword (password (c .before)) ≡ false) × (badFiller (filler (c .before)) ≡ false)
+fine c = let t = c .before in seal-fits (old t) (password t) (filler t) (sym (t .seal-refusal .ensures) ∙ c .if1 .left)
 
 plain-block-requires : tie.Need-plain-block-requires
 plain-block-requires c κs =
-    let k = c .before .before in
-    (good-password (k .before .before .before .args .password .now) (sym (k .is-bad-nt-password .ensures) ∙ c .before .if1 .left) .0, c .if2 .left)
+    let t = c .before in
+    (good-password (password t) (fine c .0) .0, eqb-true (length (filler t)) 512 (not-false _ (fine c .1)))
 
-returns-3 : tie.Need-returns-3
+-- ---- the answers
+
+returns : tie.Need-returns
+returns c = let t = c .before in sealed-refused (old t) (password t) (filler t) (t .seal-refusal .ensures) (c .if1 .taken)
+
+returns-2 : tie.Need-returns-2
 unfolding sealedBlock
-returns-3 c =
+returns-2 c =
     let b = c .before .before .before .before in
-    let k = b .before .before .before in
-    let a = k .before .before .before .args in
-    ap (λ (x : List ℕ). record { refusal = 0; block = x }) (c .before .rc4 .ensures .1 ∙ ap (crypted (a .t1)) (b .plain-block .ensures))
-    ∙ sym (sealed-good (a .t1) (a .password .now) (a .filler .now) (sym (k .is-bad-nt-password .ensures) ∙ b .before .before .if1 .left) (eq-eqb _ _ (b .before .if2 .left)))
+    let passed = b .before in
+    let t = passed .before in
+    ap (λ (x : List ℕ). record { refusal = 0; block = x }) (c .before .rc4 .ensures .1 ∙ ap (crypted (old t)) (b .plain-block .ensures))
+    ∙ sym (sealed-good (old t) (password t) (filler t) (fine passed .0) (fine passed .1))
 
 pub seal-spec : {M : Type 1} → statement M
 seal-spec =
     tie.close
-    (tie.spec
-    (λ c κs. search needs) returns returns-2 plain-block-requires (λ c. search needs) (λ c. search needs) (λ c κs. search needs) returns-3)
+    (tie.spec (λ c κs. search needs) returns plain-block-requires (λ c. search needs) (λ c. search needs) (λ c κs. search needs) returns-2)

@@ -1,36 +1,50 @@
 -- `packets::replies::read_challenge` meets its contract.
 -- Assumes nothing.
-use mathlib.Core.Path.{refl, sym, _∙_}
+use mathlib.Core.Bool.{cond}
+use mathlib.Core.List.{List}
+use mathlib.Core.Path.{_≡_, refl, _∙_}
+use Prim.Native.Nat.{ℕ}
 use borrow.Author.Needs.{needs}
-use Rattle.packets.specs.Reply.{readChallenge}
+use Rattle.octets.specs.Parts.{part, fixed}
+use Rattle.refusals.proofs.Answers.{refused-two, passed-two}
+use Rattle.packets.specs.Frame.{octet, badFrame}
+use Rattle.packets.specs.Reply.{notAsked, badChallenge, readChallenge}
+use Rattle.packets.specs.declared.Asked.{Asked}
 use Rattle.packets.proofs.Fields.{asked-same}
 use Rattle.packets.proofs.replies.read_challenge.Statement.{statement}
 use Rattle.packets.proofs.replies.read_challenge.Tie as tie
 
+-- ---- behind the tests
+
+abbrev packet : tie.After-refuse-if2 → List ℕ
+packet c = c .before .before .before .before .before .args .packet .now
+
+told : (c : tie.After-refuse-if2) → c .refuse-if2 .result ≡ cond (badFrame (packet c)) 3 (cond (badChallenge (packet c)) 11 0)
+told c = cc
+
+-- what is read where neither finds fault
+abbrev good : List ℕ → Asked
+good p = record { refusal = 0; id = octet 1 p; challenge = fixed 8 (part 5 8 p) }
+
+-- ---- the answers
+
 returns : tie.Need-returns
 unfolding readChallenge
-returns c = simp (c .not-asked .ensures, sym (c .before .before .bad-frame .ensures) ∙ c .before .if1 .taken)
+returns c =
+    let t = c .before .before in
+    let p = packet t in
+    c .not-asked .ensures ∙ refused-two notAsked (good p) 2 10 (badFrame p) (badChallenge p) (told t) (c .before .if1 .taken)
 
 returns-2 : tie.Need-returns-2
 unfolding readChallenge
 returns-2 c =
-    simp (
-      c .not-asked2 .ensures,
-      sym (c .before .before .before .before .bad-frame .ensures) ∙ c .before .before .before .if1 .left,
-      sym (c .before .before .bad-challenge .ensures) ∙ c .before .if2 .taken,
-    )
-
-returns-3 : tie.Need-returns-3
-unfolding readChallenge
-returns-3 c =
-    simp (
-      sym (c .before .before .before .before .before .bad-frame .ensures) ∙ c .before .before .before .before .if1 .left,
-      sym (c .before .before .before .bad-challenge .ensures) ∙ c .before .before .if2 .left,
-    ) (asked-same refl (c .octet .ensures) (c .before .eight-at .ensures))
+    let passed = c .before .before in
+    let p = packet (passed .before) in
+    asked-same refl (c .octet .ensures) (c .before .eight-at .ensures)
+    ∙ passed-two notAsked (good p) 2 10 (badFrame p) (badChallenge p) (told (passed .before)) (passed .if1 .left)
 
 pub read-challenge-spec : {M : Type 1} → statement M
 read-challenge-spec =
     tie.close
     (tie.spec
-    (λ c κs. search needs) (λ c κs. search needs) returns (λ c κs. search needs) (λ c κs. search needs) returns-2 (λ c κs. search needs)
-    (λ c κs. search needs) returns-3)
+    (λ c κs. search needs) (λ c κs. search needs) (λ c κs. search needs) (λ c κs. search needs) (λ c κs. search needs) returns (λ c κs. search needs) (λ c κs. search needs) returns-2)
