@@ -1,4 +1,5 @@
--- What an opening and a step hand out fits the next step: no run that the library wrote is ever answered with 100.
+-- What an opening and a step write is valid for the next step: the library never refuses an encoding
+-- of its own as a bad argument.
 -- Assumes nothing.
 use mathlib.Core.Bool.{Bool, true, false, cond, _&&_}
 use mathlib.Core.List.{List}
@@ -29,10 +30,13 @@ use Rattle.authenticator.specs.declared.Conversation.{Conversation}
 use Rattle.authenticator.specs.declared.Opened as openings
 use Rattle.authenticator.specs.declared.Phase.{Phase}
 use Rattle.authenticator.specs.declared.Phase.the-variants.{Response, Change, Ended}
-use Rattle.mschap.specs.Layout.{conversationRun, conversationIn, recordRun, recordIn, isConversation, isRecord}
+use Rattle.mschap.specs.Layout.{encodeConversation, decodeConversation}
+use Rattle.mschap.specs.Layout.{encodeRecord, decodeRecord}
+use Rattle.mschap.specs.Layout.{isEncodedConversation, isEncodedRecord}
 use Rattle.mschap.specs.Conversations.{stepOf}
-use Rattle.octets.specs.Parts.{part}
-use Rattle.mschap.proofs.RoundTrip.{SizedAccount, SizedConversation, account-sized, conversation-sized, conversation-fits, record-fits}
+use Rattle.mschap.proofs.RecordLaws.{SizedAccount, decoded-record-sized, record-fits}
+use Rattle.mschap.proofs.ConversationLaws.{SizedConversation, conversation-fits}
+use Rattle.mschap.proofs.ConversationLaws.{decoded-conversation-sized}
 
 -- ---- the successors keep the sizes
 
@@ -105,15 +109,11 @@ module _ (c : Conversation) (s : SizedConversation c) where
       by true = let d = drawn-in-sized (c .phase) p l t in (d .next, d .handed)
       by false = (s, blank-sized)
 
-record-sized : (run : List ℕ) → SizedAccount (recordIn run .account)
-unfolding recordIn
-record-sized run = account-sized (part 1 38 run)
-
 pub step-fits : (conversation packet account reply : List ℕ)
-    → (isConversation (conversationRun (stepOf conversation packet account reply .answer .next)) ≡ true)
-    × (isRecord (recordRun (stepOf conversation packet account reply .answer .handed)) ≡ true)
+    → (isEncodedConversation (encodeConversation (stepOf conversation packet account reply .answer .next)) ≡ true)
+    × (isEncodedRecord (encodeRecord (stepOf conversation packet account reply .answer .handed)) ≡ true)
 step-fits conversation packet account reply =
-    let t = step-sized (conversationIn conversation) (conversation-sized conversation) packet (recordIn account) reply (record-sized account) in
+    let t = step-sized (decodeConversation conversation) (decoded-conversation-sized conversation) packet (decodeRecord account) reply (decoded-record-sized account) in
     (conversation-fits (stepOf conversation packet account reply .answer .next) (t .0), record-fits (stepOf conversation packet account reply .answer .handed) (t .1))
 
 -- ---- the opening
@@ -130,5 +130,5 @@ opened-sized o e = by (eqb (openRefusal o) 0)
     by true = record { challenge = e; kept = blank-sized }
     by false = record { challenge = refl; kept = blank-sized }
 
-pub open-fits : (o : Opening) → length (o .challenge) ≡ 8 → isConversation (conversationRun (opened o .conversation)) ≡ true
+pub open-fits : (o : Opening) → length (o .challenge) ≡ 8 → isEncodedConversation (encodeConversation (opened o .conversation)) ≡ true
 open-fits o e = conversation-fits (opened o .conversation) (opened-sized o e)

@@ -1,7 +1,9 @@
-pub mod Handing
-pub mod Written
-pub mod RoundTrip
-pub mod Talking
-pub mod Peering
+pub mod Filling
+pub mod Encodings
+pub mod RecordLaws
+pub mod ConversationLaws
+pub mod PeerLaws
+pub mod Calls
+pub mod PeerCalls
 pub mod Fitting
 pub mod PeerFitting

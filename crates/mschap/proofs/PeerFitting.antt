@@ -1,5 +1,5 @@
--- What the peer's functions hand out fits the next of them: no run that they wrote is ever answered
--- with 100.
+-- What the peer's functions write is valid for the next of them: the library never refuses an
+-- encoding of its own as a bad argument.
 -- Assumes nothing.
 use mathlib.Core.Bool.{Bool, true, false, cond}
 use mathlib.Core.List.{List, [], _∷_}
@@ -31,8 +31,8 @@ use Rattle.peer.specs.Turn.{sentFor, turnFor, turnAfter, nextTurn}
 use Rattle.peer.specs.Peer.{asked, sending, reads, receiving}
 use Rattle.peer.specs.declared.Peer.{Peer}
 use Rattle.peer.specs.declared.Sent.{Sent}
-use Rattle.mschap.specs.Layout.{peerRun, peerIn, isPeer}
-use Rattle.mschap.proofs.RoundTrip.{SizedPeer, peer-sized, peer-fits}
+use Rattle.mschap.specs.Layout.{encodePeer, decodePeer, isEncodedPeer}
+use Rattle.mschap.proofs.PeerLaws.{SizedPeer, decoded-peer-sized, peer-fits}
 
 -- ---- the challenge that a reply may give
 
@@ -123,17 +123,17 @@ receiving-sized q packet s =
     let c = reads-given q packet .eight in
     record { sent = s .sent; turn = turn-eight q s (r .c) c (r .verdict) }
 
--- the run of a peer is taken by the next call
+-- the encoding of a peer is valid for the next call
 abbrev pub Fits : Peer → Type 0
-Fits q = isPeer (peerRun q) ≡ true
+Fits q = isEncodedPeer (encodePeer q) ≡ true
 
 pub challenge-fits : (packet : List ℕ) → Fits (asked (readChallenge packet))
 challenge-fits packet = peer-fits (asked (readChallenge packet)) (asked-sized packet)
 
-pub writing-fits : (peer : List ℕ) (w : Written) → Fits (sending (peerIn peer) w)
+pub writing-fits : (peer : List ℕ) (w : Written) → Fits (sending (decodePeer peer) w)
 writing-fits peer w =
-    peer-fits (sending (peerIn peer) w) (sending-sized (peerIn peer) w (peer-sized peer))
+    peer-fits (sending (decodePeer peer) w) (sending-sized (decodePeer peer) w (decoded-peer-sized peer))
 
-pub reply-fits : (peer packet : List ℕ) → Fits (receiving (peerIn peer) packet)
+pub reply-fits : (peer packet : List ℕ) → Fits (receiving (decodePeer peer) packet)
 reply-fits peer packet =
-    peer-fits (receiving (peerIn peer) packet) (receiving-sized (peerIn peer) packet (peer-sized peer))
+    peer-fits (receiving (decodePeer peer) packet) (receiving-sized (decodePeer peer) packet (decoded-peer-sized peer))

@@ -1,19 +1,34 @@
--- What a call from C answers and leaves.
+-- What a call from C returns, and what it leaves in the buffers that were passed.
 -- Assumes nothing: these are definitions.
-use mathlib.Core.Bool.{Bool, cond}
+use mathlib.Core.Bool.{Bool, cond, _&&_}
 use mathlib.Core.List.{List}
+use mathlib.Core.Path.{_≡_}
 use Prim.Native.Nat.{ℕ}
 use lib.Dec.{eqb}
 use lib.ListN.{length}
 
--- a run is lent with the size n
+-- a buffer of n bytes
 abbrev pub sized : ℕ → List ℕ → Bool
-sized n run = eqb (length run) n
+sized n bytes = eqb (length bytes) n
 
--- the number that a call answers: 100 unless every run fits, else the refusal number (0 is none)
+-- two buffers of n and of m bytes
+abbrev pub bothSized : ℕ → List ℕ → ℕ → List ℕ → Bool
+bothSized n xs m ys = sized n xs && sized m ys
+
+-- the number of a call whose arguments are not valid
+abbrev pub badArgument : ℕ
+badArgument = 100
+
+-- the number that a call returns, by whether its arguments are valid and by its refusal (0 is none)
 abbrev pub numbered : Bool → ℕ → ℕ
-numbered fit n = cond fit n 100
+numbered valid refusal = cond valid refusal badArgument
 
--- what a call that answered r leaves in what was lent: the result where r is 0, else what lay there
+-- what a call that returned r leaves: the result where r is 0, else what was there before
 abbrev pub left : {A : Type 0} → ℕ → A → A → A
-left r result lent = cond (eqb r 0) result lent
+left r result before = cond (eqb r 0) result before
+
+-- what a call with one result returns (r) and leaves in the buffer for it
+pub record Fills (valid : Bool) (refusal : ℕ) (result buffer : List ℕ) (r : ℕ)
+    (bufferAfter : List ℕ) : Type 0 where
+  pub number : r ≡ numbered valid refusal
+  pub bytes : bufferAfter ≡ left r result buffer

@@ -1,4 +1,4 @@
--- A conversation from C: the opening and the step, over runs.
+-- A conversation from C: the opening and the step, over encodings.
 -- Assumes nothing: these are definitions.
 use mathlib.Core.Bool.{Bool, cond, _||_, _&&_}
 use mathlib.Core.List.{List}
@@ -13,46 +13,71 @@ use Rattle.authenticator.specs.declared.Retries.the-variants.{Default, Count}
 use Rattle.authenticator.specs.declared.LmChoice.{LmChoice}
 use Rattle.authenticator.specs.declared.LmChoice.the-variants.{Silent, Allowed, Disallowed}
 use Rattle.mschap.specs.Call.{sized, numbered, left}
-use Rattle.mschap.specs.Layout.{recordRun, recordIn, conversationRun, conversationIn, isRecord, isConversation}
+use Rattle.mschap.specs.Layout.{challengeSize, conversationSize, recordSize}
+use Rattle.mschap.specs.Layout.{encodeRecord, decodeRecord, isEncodedRecord}
+use Rattle.mschap.specs.Layout.{encodeConversation, decodeConversation, isEncodedConversation}
 
--- 255 leaves the retries silent
+-- ---- the opening
+
+-- 255 is the default
 abbrev pub retriesFor : ℕ → Retries
 retriesFor n = cond (eqb n 255) Default (Count n)
 
--- LM: 0 is no, 1 is yes, 255 is silent; no other number is lent
+-- LM: 0 is no, 1 is yes, 255 is the default; no other number is valid
 abbrev pub lmFor : ℕ → LmChoice
 lmFor n = cond (eqb n 0) Disallowed (cond (eqb n 1) Allowed Silent)
 
 unfoldable pub isLmChoice : ℕ → Bool
 isLmChoice n = eqb n 0 || (eqb n 1 || eqb n 255)
 
--- what is lent to an opening
+-- the arguments of an opening
 abbrev pub openingFor : ℕ → List ℕ → ℕ → ℕ → Issued → List ℕ → Opening
 openingFor id challenge retries lm issued reply =
-    record { id = id; challenge = challenge; retries = retriesFor retries; lm = lmFor lm; issued = issued; buffer = reply }
+    record {
+      id = id;
+      challenge = challenge;
+      retries = retriesFor retries;
+      lm = lmFor lm;
+      issued = issued;
+      buffer = reply;
+    }
 
-unfoldable pub openNumber : Opening → ℕ → List ℕ → ℕ
-openNumber o lm conversation =
-    numbered (sized 8 (o .challenge) && (isLmChoice lm && sized 50 conversation)) (opened o .refusal)
+-- whether those of a fixed form are valid
+unfoldable pub openArguments : List ℕ → ℕ → List ℕ → Bool
+openArguments challenge lm conversation =
+    sized challengeSize challenge && (isLmChoice lm && sized conversationSize conversation)
 
--- what the opening o, into a run, answers (r) and leaves in the list, in the run and in the reply buffer
-pub record Opens (o : Opening) (lm : ℕ) (run : List ℕ) (r : ℕ) (listAfter : Issued) (runAfter bufferAfter : List ℕ) : Type 0 where
-  pub number : r ≡ openNumber o lm run
+-- what the call returns (r) and leaves in the list, the conversation and the reply buffer
+pub record OpenCall (o : Opening) (lm : ℕ) (conversation : List ℕ) (r : ℕ) (listAfter : Issued)
+    (conversationAfter replyAfter : List ℕ) : Type 0 where
+  pub number : r ≡ numbered (openArguments (o .challenge) lm conversation) (opened o .refusal)
   pub list : listAfter ≡ left r (openedIssued o) (o .issued)
-  pub first : runAfter ≡ left r (conversationRun (opened o .conversation)) run
-  pub reply : bufferAfter ≡ left r (openedBuffer o) (o .buffer)
+  pub first : conversationAfter
+      ≡ left r (encodeConversation (opened o .conversation)) conversation
+  pub reply : replyAfter ≡ left r (openedBuffer o) (o .buffer)
 
--- a step of the conversation that a run holds
+-- ---- the step
+
+-- a step of the conversation that is encoded
 abbrev pub stepOf : List ℕ → List ℕ → List ℕ → List ℕ → Outcome
-stepOf conversation packet account reply = step (conversationIn conversation) packet (recordIn account) reply
+stepOf conversation packet account buffer =
+    step (decodeConversation conversation) packet (decodeRecord account) buffer
 
-unfoldable pub stepNumber : Outcome → List ℕ → List ℕ → List ℕ → ℕ
-stepNumber o conversation account out =
-    numbered (isConversation conversation && (isRecord account && sized 39 out)) (numberOf (o .answer .kind))
+-- whether the arguments of a fixed form are valid
+unfoldable pub stepArguments : List ℕ → List ℕ → List ℕ → Bool
+stepArguments conversation account out =
+    isEncodedConversation conversation && (isEncodedRecord account && sized recordSize out)
 
--- what a step answers (r) and leaves in the conversation's run, in the reply buffer and in the run for the record that is handed out
-pub record Steps (run packet account buffer out : List ℕ) (r : ℕ) (runAfter bufferAfter outAfter : List ℕ) : Type 0 where
-  pub number : r ≡ stepNumber (stepOf run packet account buffer) run account out
-  pub next : runAfter ≡ left r (conversationRun (stepOf run packet account buffer .answer .next)) run
-  pub reply : bufferAfter ≡ left r (stepOf run packet account buffer .buffer) buffer
-  pub handed : outAfter ≡ left r (recordRun (stepOf run packet account buffer .answer .handed)) out
+-- what the call returns (r) and leaves in the conversation, the reply buffer and the buffer for the
+-- record that is handed out
+pub record StepCall (conversation packet account buffer out : List ℕ) (r : ℕ)
+    (conversationAfter bufferAfter outAfter : List ℕ) : Type 0 where
+  pub number : r
+      ≡ numbered (stepArguments conversation account out)
+      (numberOf (stepOf conversation packet account buffer .answer .kind))
+  pub next : conversationAfter
+      ≡ left r (encodeConversation (stepOf conversation packet account buffer .answer .next))
+      conversation
+  pub reply : bufferAfter ≡ left r (stepOf conversation packet account buffer .buffer) buffer
+  pub handed : outAfter
+      ≡ left r (encodeRecord (stepOf conversation packet account buffer .answer .handed)) out

@@ -1,19 +1,11 @@
--- How values cross as runs of octets. Each layout is what is written (`..Run`) and what is read (`..In`), which is total.
+-- The layouts in which accounts, records, conversations and peers cross to C. Each has a size, an
+-- encoder (`encode..`) and a decoder (`decode..`), which is total; the names in `..At` are places.
 -- Assumes nothing: these are definitions.
 use mathlib.Core.Bool.{Bool, cond}
 use mathlib.Core.List.{List, [], _∷_, _++_}
 use Prim.Native.Nat.{ℕ}
 use lib.Dec.{eqb}
-use lib.ListN.{replicate}
 use Rattle.octets.specs.Parts.{part, fixed, agrees}
-use Rattle.octets.specs.Numbers.{toBe}
-use Rattle.message.specs.declared.Call.{Call}
-use Rattle.message.specs.declared.Call.the-variants.{Retry, ChangeTwo, ChangeOne, End}
-use Rattle.message.specs.declared.Failed.{Failed}
-use Rattle.message.specs.declared.Verdict.{Verdict}
-use Rattle.message.specs.declared.Verdict.the-variants.{Success, Failure, Refused}
-use Rattle.message.specs.declared.Given.{Given}
-use Rattle.message.specs.declared.Reading.{Reading}
 use Rattle.packets.specs.Frame.{octet}
 use Rattle.authenticator.specs.Conversation.{awaitedCode}
 use Rattle.authenticator.specs.declared.Hash.{Hash}
@@ -24,103 +16,204 @@ use Rattle.authenticator.specs.declared.Phase.{Phase}
 use Rattle.authenticator.specs.declared.Phase.the-variants.{Response, Change, Ended}
 use Rattle.peer.specs.declared.Peer.{Peer}
 
--- a mark: 1 for true, 0 for false
-abbrev pub mark : Bool → ℕ
-mark b = cond b 1 0
+-- ---- the sizes, in bytes
 
-abbrev pub isMark : ℕ → Bool
-isMark n = eqb n 1
+abbrev pub digestSize : ℕ
+digestSize = 16
 
--- a hash, 17 octets: present, and the hash
-abbrev pub hashRun : Hash → List ℕ
-hashRun h = mark (h .present) ∷ h .octets
+abbrev pub hashSize : ℕ
+hashSize = 16
 
-abbrev pub hashIn : List ℕ → Hash
-hashIn run = record { present = isMark (octet 0 run); octets = fixed 16 (part 1 16 run) }
+abbrev pub keySize : ℕ
+keySize = 7
 
--- an account, 38 octets: the NT hash 17, the LM hash 17, disabled, barred by hours, no dial-in, expired
-unfoldable pub accountRun : Account → List ℕ
-accountRun a =
-    hashRun (a .nt) ++ (hashRun (a .lm) ++ (mark (a .disabled) ∷ mark (a .barred) ∷ mark (a .nodialin) ∷ mark (a .expired) ∷ []))
+abbrev pub blockSize : ℕ
+blockSize = 8
 
-unfoldable pub accountIn : List ℕ → Account
-accountIn run =
+abbrev pub challengeSize : ℕ
+challengeSize = 8
+
+abbrev pub responseSize : ℕ
+responseSize = 24
+
+-- a hash, or none
+abbrev pub optionalHashSize : ℕ
+optionalHashSize = 17
+
+abbrev pub accountSize : ℕ
+accountSize = 38
+
+abbrev pub recordSize : ℕ
+recordSize = 39
+
+abbrev pub conversationSize : ℕ
+conversationSize = 50
+
+abbrev pub peerSize : ℕ
+peerSize = 19
+
+-- ---- flags and hashes
+
+-- 1 is true, 0 is false
+abbrev pub flag : Bool → ℕ
+flag b = cond b 1 0
+
+abbrev pub isFlag : ℕ → Bool
+isFlag n = eqb n 1
+
+-- whether there is a hash, and the hash
+abbrev pub encodeHash : Hash → List ℕ
+encodeHash h = flag (h .present) ∷ h .octets
+
+abbrev pub decodeHash : List ℕ → Hash
+decodeHash bytes =
+    record { present = isFlag (octet 0 bytes); octets = fixed hashSize (part 1 hashSize bytes) }
+
+-- ---- accounts and records
+
+abbrev pub ntAt : ℕ
+ntAt = 0
+
+abbrev pub lmAt : ℕ
+lmAt = 17
+
+abbrev pub disabledAt : ℕ
+disabledAt = 34
+
+abbrev pub barredAt : ℕ
+barredAt = 35
+
+abbrev pub nodialinAt : ℕ
+nodialinAt = 36
+
+abbrev pub expiredAt : ℕ
+expiredAt = 37
+
+unfoldable pub encodeAccount : Account → List ℕ
+encodeAccount a =
+    encodeHash (a .nt)
+    ++ (encodeHash (a .lm)
+    ++ (flag (a .disabled) ∷ flag (a .barred) ∷ flag (a .nodialin) ∷ flag (a .expired) ∷ []))
+
+unfoldable pub decodeAccount : List ℕ → Account
+decodeAccount bytes =
     record {
-      nt = hashIn (part 0 17 run);
-      lm = hashIn (part 17 17 run);
-      disabled = isMark (octet 34 run);
-      barred = isMark (octet 35 run);
-      nodialin = isMark (octet 36 run);
-      expired = isMark (octet 37 run);
+      nt = decodeHash (part ntAt optionalHashSize bytes);
+      lm = decodeHash (part lmAt optionalHashSize bytes);
+      disabled = isFlag (octet disabledAt bytes);
+      barred = isFlag (octet barredAt bytes);
+      nodialin = isFlag (octet nodialinAt bytes);
+      expired = isFlag (octet expiredAt bytes);
     }
 
--- a record, 39 octets: found, and the account
-unfoldable pub recordRun : Lookup → List ℕ
-recordRun l = mark (l .found) ∷ accountRun (l .account)
+-- a record: whether an account was found, and the account
+abbrev pub foundAt : ℕ
+foundAt = 0
 
-unfoldable pub recordIn : List ℕ → Lookup
-recordIn run = record { found = isMark (octet 0 run); account = accountIn (part 1 38 run) }
+abbrev pub accountAt : ℕ
+accountAt = 1
+
+unfoldable pub encodeRecord : Lookup → List ℕ
+encodeRecord l = flag (l .found) ∷ encodeAccount (l .account)
+
+unfoldable pub decodeRecord : List ℕ → Lookup
+decodeRecord bytes =
+    record {
+      found = isFlag (octet foundAt bytes);
+      account = decodeAccount (part accountAt accountSize bytes);
+    }
+
+-- ---- conversations
 
 -- the phase that awaits a code: 2 is a Response, 6 a change; else the conversation has ended
 abbrev pub phaseOf : ℕ → Phase
 phaseOf n = cond (eqb n 2) Response (cond (eqb n 6) Change Ended)
 
--- a conversation, 50 octets: the awaited code, LM allowed, identifier, retries, challenge 8, the kept account
-unfoldable pub conversationRun : Conversation → List ℕ
-conversationRun c =
-    awaitedCode (c .phase) ∷ mark (c .terms .lm) ∷ c .id ∷ c .retries ∷ (c .challenge ++ accountRun (c .kept))
+abbrev pub awaitedAt : ℕ
+awaitedAt = 0
 
-unfoldable pub conversationIn : List ℕ → Conversation
-conversationIn run =
+abbrev pub lmAllowedAt : ℕ
+lmAllowedAt = 1
+
+abbrev pub identifierAt : ℕ
+identifierAt = 2
+
+abbrev pub retriesAt : ℕ
+retriesAt = 3
+
+abbrev pub challengeAt : ℕ
+challengeAt = 4
+
+abbrev pub keptAt : ℕ
+keptAt = 12
+
+unfoldable pub encodeConversation : Conversation → List ℕ
+encodeConversation c =
+    awaitedCode (c .phase) ∷ flag (c .terms .lm) ∷ c .id ∷ c .retries
+    ∷ (c .challenge ++ encodeAccount (c .kept))
+
+unfoldable pub decodeConversation : List ℕ → Conversation
+decodeConversation bytes =
     record {
-      terms = record { lm = isMark (octet 1 run) };
-      id = octet 2 run;
-      challenge = fixed 8 (part 4 8 run);
-      retries = octet 3 run;
-      phase = phaseOf (octet 0 run);
-      kept = accountIn (part 12 38 run);
+      terms = record { lm = isFlag (octet lmAllowedAt bytes) };
+      id = octet identifierAt bytes;
+      challenge = fixed challengeSize (part challengeAt challengeSize bytes);
+      retries = octet retriesAt bytes;
+      phase = phaseOf (octet awaitedAt bytes);
+      kept = decodeAccount (part keptAt accountSize bytes);
     }
 
--- a peer, 19 octets: a packet was sent, its identifier and challenge 8, and those of the next one
-unfoldable pub peerRun : Peer → List ℕ
-peerRun q =
-    mark (q .sent .present) ∷ q .sent .id ∷ (q .sent .challenge ++ (q .turn .id ∷ q .turn .challenge))
+-- ---- peers
 
-unfoldable pub peerIn : List ℕ → Peer
-peerIn run =
+abbrev pub sentAt : ℕ
+sentAt = 0
+
+abbrev pub sentIdentifierAt : ℕ
+sentIdentifierAt = 1
+
+abbrev pub sentChallengeAt : ℕ
+sentChallengeAt = 2
+
+abbrev pub nextIdentifierAt : ℕ
+nextIdentifierAt = 10
+
+abbrev pub nextChallengeAt : ℕ
+nextChallengeAt = 11
+
+-- whether a packet was sent, its identifier and challenge, and those of the next one
+unfoldable pub encodePeer : Peer → List ℕ
+encodePeer q =
+    flag (q .sent .present) ∷ q .sent .id
+    ∷ (q .sent .challenge ++ (q .turn .id ∷ q .turn .challenge))
+
+unfoldable pub decodePeer : List ℕ → Peer
+decodePeer bytes =
     record {
-      sent = record { present = isMark (octet 0 run); id = octet 1 run; challenge = fixed 8 (part 2 8 run) };
-      turn = record { id = octet 10 run; challenge = fixed 8 (part 11 8 run) };
+      sent =
+          record {
+            present = isFlag (octet sentAt bytes);
+            id = octet sentIdentifierAt bytes;
+            challenge = fixed challengeSize (part sentChallengeAt challengeSize bytes);
+          };
+      turn =
+          record {
+            id = octet nextIdentifierAt bytes;
+            challenge = fixed challengeSize (part nextChallengeAt challengeSize bytes);
+          };
     }
 
--- what a reply says, 35 octets: Success (0) or a Failure (1), the call, E 8, R 8, V 8, C given, C 8; numbers most significant octet first
-abbrev pub callNumber : Call → ℕ
-callNumber Retry = 1
-callNumber ChangeTwo = 2
-callNumber ChangeOne = 3
-callNumber End = 4
+-- ---- valid encodings
 
-abbrev pub failedRun : Failed → List ℕ
-failedRun f = 1 ∷ callNumber (f .call) ∷ (toBe 8 (f .e) ++ (toBe 8 (f .r) ++ toBe 8 (f .v)))
+-- Bytes are an encoding where they are what the value decoded from them encodes to. So neither their
+-- number nor any one of them is one that no value has.
+abbrev pub isEncoding : {A : Type 0} → (A → List ℕ) → (List ℕ → A) → List ℕ → Bool
+isEncoding encode decode bytes = agrees (encode (decode bytes)) bytes
 
--- a refusal is told by its number: no run of one is handed out
-abbrev pub verdictRun : Verdict → List ℕ
-verdictRun Success = replicate 26 0
-verdictRun (Failure f) = failedRun f
-verdictRun (Refused n) = replicate 26 0
+unfoldable pub isEncodedRecord : List ℕ → Bool
+isEncodedRecord bytes = isEncoding encodeRecord decodeRecord bytes
 
-abbrev pub givenRun : Given → List ℕ
-givenRun c = mark (c .given) ∷ c .octets
+unfoldable pub isEncodedConversation : List ℕ → Bool
+isEncodedConversation bytes = isEncoding encodeConversation decodeConversation bytes
 
-unfoldable pub readingRun : Reading → List ℕ
-readingRun r = verdictRun (r .verdict) ++ givenRun (r .c)
-
--- a run fits where it is what its own value writes: so neither its size nor any of its octets is one that no value writes
-unfoldable pub isRecord : List ℕ → Bool
-isRecord run = agrees (recordRun (recordIn run)) run
-
-unfoldable pub isConversation : List ℕ → Bool
-isConversation run = agrees (conversationRun (conversationIn run)) run
-
-unfoldable pub isPeer : List ℕ → Bool
-isPeer run = agrees (peerRun (peerIn run)) run
+unfoldable pub isEncodedPeer : List ℕ → Bool
+isEncodedPeer bytes = isEncoding encodePeer decodePeer bytes

@@ -1,6 +1,6 @@
--- The peer from C: what it reads and writes, over runs.
+-- The peer from C: what it reads and writes, over encodings.
 -- Assumes nothing: these are definitions.
-use mathlib.Core.Bool.{_&&_}
+use mathlib.Core.Bool.{Bool, _&&_}
 use mathlib.Core.List.{List}
 use mathlib.Core.Path.{_≡_}
 use Prim.Native.Nat.{ℕ}
@@ -8,32 +8,38 @@ use Rattle.message.specs.Message.{numberOf}
 use Rattle.packets.specs.Reply.{readChallenge}
 use Rattle.peer.specs.Peer.{asked, sending, reads, receiving}
 use Rattle.peer.specs.Write.{Wrote, writeResponse, writeChange}
-use Rattle.mschap.specs.Call.{sized, numbered, left}
-use Rattle.mschap.specs.Layout.{peerRun, peerIn, isPeer, readingRun}
+use Rattle.mschap.specs.Call.{Fills, sized, numbered, left}
+use Rattle.mschap.specs.Layout.{peerSize, encodePeer, decodePeer, isEncodedPeer}
+use Rattle.mschap.specs.Fields.{fieldsSize, encodeReading}
 
--- what reading a Challenge answers (r) and leaves in the peer's run
-pub record ReadsChallenge (packet peer : List ℕ) (r : ℕ) (peerAfter : List ℕ) : Type 0 where
-  pub number : r ≡ numbered (sized 19 peer) (readChallenge packet .refusal)
-  pub first : peerAfter ≡ left r (peerRun (asked (readChallenge packet))) peer
+-- what reading a Challenge returns (r) and leaves in the peer
+abbrev pub ChallengeCall : List ℕ → List ℕ → ℕ → List ℕ → Type 0
+ChallengeCall packet peer r peerAfter =
+    Fills (sized peerSize peer) (readChallenge packet .refusal)
+    (encodePeer (asked (readChallenge packet))) peer r peerAfter
 
--- what reading a reply answers (r) and leaves in the peer's run and in the run of its fields
-pub record ReadsReply (peer packet fields : List ℕ) (r : ℕ) (peerAfter fieldsAfter : List ℕ)
+-- whether the arguments of mschap_read_reply that have a fixed form are valid
+unfoldable pub replyArguments : List ℕ → List ℕ → Bool
+replyArguments peer fields = isEncodedPeer peer && sized fieldsSize fields
+
+-- what reading a reply returns (r) and leaves in the peer and in the buffer for the fields
+pub record ReplyCall (peer packet fields : List ℕ) (r : ℕ) (peerAfter fieldsAfter : List ℕ)
     : Type 0 where
   pub number : r
-      ≡ numbered (isPeer peer && sized 35 fields) (numberOf (reads (peerIn peer) packet .verdict))
-  pub next : peerAfter ≡ left r (peerRun (receiving (peerIn peer) packet)) peer
-  pub says : fieldsAfter ≡ left r (readingRun (reads (peerIn peer) packet)) fields
+      ≡ numbered (replyArguments peer fields) (numberOf (reads (decodePeer peer) packet .verdict))
+  pub next : peerAfter ≡ left r (encodePeer (receiving (decodePeer peer) packet)) peer
+  pub says : fieldsAfter ≡ left r (encodeReading (reads (decodePeer peer) packet)) fields
 
--- the packets of the peer that a run holds
+-- the packets of the peer that is encoded
 abbrev pub responseFrom : List ℕ → List ℕ → List ℕ → List ℕ → Wrote
-responseFrom peer password name out = writeResponse (peerIn peer .turn) password name out
+responseFrom peer password name out = writeResponse (decodePeer peer .turn) password name out
 
 abbrev pub changeFrom : List ℕ → List ℕ → List ℕ → List ℕ → List ℕ → Wrote
-changeFrom peer old new filler out = writeChange (peerIn peer .turn) old new filler out
+changeFrom peer old new filler out = writeChange (decodePeer peer .turn) old new filler out
 
--- what a writer of the packet w answers (r) and leaves in the peer's run and in its buffer
-pub record Writes (w : Wrote) (peer out : List ℕ) (r : ℕ) (peerAfter outAfter : List ℕ)
+-- what writing the packet w returns (r) and leaves in the peer and in the packet's buffer
+pub record WriteCall (w : Wrote) (peer out : List ℕ) (r : ℕ) (peerAfter outAfter : List ℕ)
     : Type 0 where
-  pub number : r ≡ numbered (isPeer peer) (w .answer .refusal)
-  pub next : peerAfter ≡ left r (peerRun (sending (peerIn peer) (w .answer))) peer
+  pub number : r ≡ numbered (isEncodedPeer peer) (w .answer .refusal)
+  pub next : peerAfter ≡ left r (encodePeer (sending (decodePeer peer) (w .answer))) peer
   pub packet : outAfter ≡ left r (w .out) out

@@ -1,23 +1,37 @@
 // The authenticator: a conversation is opened, and takes one step for each packet.
-use crate::layouts::conversation_in;
-use crate::layouts::conversation_run;
-use crate::layouts::is_conversation;
-use crate::layouts::is_record;
-use crate::layouts::record_in;
-use crate::layouts::record_run;
-use crate::runs::hand;
+use crate::buffers::BAD_ARGUMENT;
+use crate::layouts::conversations::CONVERSATION_SIZE;
+use crate::layouts::conversations::decode_conversation;
+use crate::layouts::conversations::is_encoded_conversation;
+use crate::layouts::conversations::put_conversation;
+use crate::layouts::records::RECORD_SIZE;
+use crate::layouts::records::decode_record;
+use crate::layouts::records::is_encoded_record;
+use crate::layouts::records::put_record;
+use authenticator::Answer;
 use authenticator::Conversation;
 use authenticator::Kind;
 use authenticator::LmChoice;
 use authenticator::Retries;
 ghost use mathlib.Core.Path.{_≡_};
+ghost use lib.ListN.{length};
 ghost use Rattle.authenticator.specs.Step.{numberOf};
-ghost use Rattle.mschap.specs.Conversations.{retriesFor, lmFor, isLmChoice, openingFor, Opens, Steps};
+ghost use Rattle.mschap.specs.Layout.{conversationSize, recordSize};
+ghost use Rattle.mschap.specs.Conversations.{retriesFor, lmFor, isLmChoice, openingFor};
+ghost use Rattle.mschap.specs.Conversations.{openArguments, OpenCall, stepArguments, StepCall};
+ghost use Rattle.mschap.specs.Code.{AnswerPut};
+
+const CHALLENGE_SIZE: usize = 8;
+
+// The number of retries, and the choice for LM, that stand for the default.
+const DEFAULT: u8 = 255;
+
+// ---- the opening
 
 fn retries_for(n: u8) -> Retries
     ensures { λ r. ⌜ r ≡ retriesFor n ⌝ }
 {
-    if n == 255 {
+    if n == DEFAULT {
         return Retries::Default;
     }
     Retries::Count(n)
@@ -38,13 +52,21 @@ fn lm_for(n: u8) -> LmChoice
 fn is_lm_choice(n: u8) -> bool
     ensures { λ r. ⌜ r ≡ isLmChoice n ⌝ }
 {
-    n == 0 || (n == 1 || n == 255)
+    n == 0 || (n == 1 || n == DEFAULT)
 }
 
-// Opens a conversation with an identifier, a challenge of eight octets, the retries (255: silent) and whether LM is allowed (0: no, 1: yes,
-// 255: silent), spends the challenge and its successors, which adds them to the list of issued challenges (places of eight octets, how many are used, 256
-// counts of last octets), and writes its Challenge into reply and itself into conversation, 50 octets. 13: over 7 retries. 2: reply has under 17 octets.
-// 24: a bad list. 16: a challenge issued before. 17: the list is full.
+fn are_open_arguments(challenge: &[u8], lm: u8, conversation: &[u8]) -> bool
+    ensures { λ r. ⌜ r ≡ openArguments (now (challenge .entry)) lm (now (conversation .entry)) ⌝ }
+{
+    challenge.len() == CHALLENGE_SIZE
+        && (is_lm_choice(lm) && conversation.len() == CONVERSATION_SIZE)
+}
+
+// Opens a conversation with an identifier, a challenge, the retries (255: the default) and whether
+// LM is allowed (0: no, 1: yes, 255: the default). Adds the challenge and its successors to the list
+// of issued challenges, which is its places, how many of them are used, and 256 counts of last bytes.
+// Writes the Challenge into reply, and the conversation. 13: over 7 retries. 2: reply has under 17
+// bytes. 24: a bad list. 16: a challenge that was issued before. 17: the list is full.
 #[no_mangle]
 pub extern "C" fn mschap_open(
     id: u8,
@@ -57,16 +79,16 @@ pub extern "C" fn mschap_open(
     conversation: &mut [u8],
     reply: &mut [u8],
 ) -> u32
-    ensures { λ r. ⌜ Opens (openingFor id (now (challenge .entry)) retries lm (record { buffer = now (list .entry); used = now (used .entry); counts = now (counts .entry) }) (now (reply .entry))) lm (now (conversation .entry)) r (record { buffer = now (list .exit); used = now (used .exit); counts = now (counts .exit) }) (now (conversation .exit)) (now (reply .exit)) ⌝ }
+    ensures { λ r. ⌜ OpenCall
+        (openingFor id (now (challenge .entry)) retries lm
+        (record { buffer = now (list .entry); used = now (used .entry); counts = now (counts .entry) })
+        (now (reply .entry)))
+        lm (now (conversation .entry)) r
+        (record { buffer = now (list .exit); used = now (used .exit); counts = now (counts .exit) })
+        (now (conversation .exit)) (now (reply .exit)) ⌝ }
 {
-    if challenge.len() != 8 {
-        return 100;
-    }
-    if !is_lm_choice(lm) {
-        return 100;
-    }
-    if conversation.len() != 50 {
-        return 100;
+    if !are_open_arguments(challenge, lm, conversation) {
+        return BAD_ARGUMENT;
     }
     let sent = octets::eight_at(challenge, 0);
     let tries = retries_for(retries);
@@ -75,9 +97,10 @@ pub extern "C" fn mschap_open(
     let answer = Conversation::open(id, sent, tries, choice, list, before, counts, reply);
     *used = answer.used;
     let first = answer.conversation;
-    let run = conversation_run(first);
-    hand(answer.refusal, &run, conversation)
+    put_conversation(answer.refusal, first, conversation)
 }
+
+// ---- the step
 
 fn number_of(kind: Kind) -> u8
     ensures { λ r. ⌜ r ≡ numberOf kind ⌝ }
@@ -88,8 +111,32 @@ fn number_of(kind: Kind) -> u8
     }
 }
 
-// One step of a conversation: a packet, the record of the named account or none, and a reply buffer are lent. The next conversation takes the
-// place of this one, and handed is the record that an accepted change hands out, or none. 1 to 7: the packet is refused.
+fn are_step_arguments(conversation: &[u8], account: &[u8], handed: &[u8]) -> bool
+    ensures { λ r. ⌜ r
+        ≡ stepArguments (now (conversation .entry)) (now (account .entry)) (now (handed .entry)) ⌝ }
+{
+    is_encoded_conversation(conversation)
+        && (is_encoded_record(account) && handed.len() == RECORD_SIZE)
+}
+
+// Writes the next conversation and the record that is handed out, unless the packet is refused.
+fn put_answer(answer: Answer, conversation: &mut [u8], handed: &mut [u8]) -> u32
+    requires { ⌜ length (now conversation) ≡ conversationSize ⌝ }
+    requires { ⌜ length (now handed) ≡ recordSize ⌝ }
+    ensures { λ r. ⌜ AnswerPut answer (now (conversation .entry)) (now (handed .entry)) r
+        (now (conversation .exit)) (now (handed .exit)) ⌝ }
+{
+    let kind = answer.kind;
+    let next = answer.next;
+    let out = answer.handed;
+    let number = number_of(kind);
+    put_conversation(number, next, conversation);
+    put_record(number, out, handed)
+}
+
+// One step of a conversation: a packet, the record of the named account or none, and a reply buffer.
+// The next conversation takes the place of this one, and handed is the record that an accepted
+// change hands out, or none. 1 to 7: the packet is refused.
 #[no_mangle]
 pub extern "C" fn mschap_step(
     conversation: &mut [u8],
@@ -98,26 +145,15 @@ pub extern "C" fn mschap_step(
     reply: &mut [u8],
     handed: &mut [u8],
 ) -> u32
-    ensures { λ r. ⌜ Steps (now (conversation .entry)) (now (packet .entry)) (now (account .entry)) (now (reply .entry)) (now (handed .entry)) r (now (conversation .exit)) (now (reply .exit)) (now (handed .exit)) ⌝ }
+    ensures { λ r. ⌜ StepCall (now (conversation .entry)) (now (packet .entry))
+        (now (account .entry)) (now (reply .entry)) (now (handed .entry)) r
+        (now (conversation .exit)) (now (reply .exit)) (now (handed .exit)) ⌝ }
 {
-    if !is_conversation(conversation) {
-        return 100;
+    if !are_step_arguments(conversation, account, handed) {
+        return BAD_ARGUMENT;
     }
-    if !is_record(account) {
-        return 100;
-    }
-    if handed.len() != 39 {
-        return 100;
-    }
-    let before = conversation_in(conversation);
-    let lookup = record_in(account);
+    let before = decode_conversation(conversation);
+    let lookup = decode_record(account);
     let answer = before.step(packet, lookup, reply);
-    let kind = answer.kind;
-    let next = answer.next;
-    let out = answer.handed;
-    let number = number_of(kind);
-    let after = conversation_run(next);
-    let given = record_run(out);
-    hand(number, &after, conversation);
-    hand(number, &given, handed)
+    put_answer(answer, conversation, handed)
 }

@@ -1,8 +1,8 @@
-// MS-CHAP for C: each function here is exported under its own name, and host/include/mschap.h declares it.
+// MS-CHAP for C: each exported function has its own name there, and host/include/mschap.h declares
+// it.
+mod buffers;
 mod ciphers;
 mod conversations;
 mod layouts;
 mod names;
 mod peers;
-mod readings;
-mod runs;

@@ -10,7 +10,7 @@ pub extern "C" fn mschap_account_offset(packet: &[u8]) -> usize
     packets::account_part(packet).offset
 }
 
-// How many octets the account has there.
+// How many bytes the account has there.
 #[no_mangle]
 pub extern "C" fn mschap_account_length(packet: &[u8]) -> usize
     ensures { λ r. ⌜ r ≡ accountPart (now (packet .entry)) .length ⌝ }
@@ -26,7 +26,7 @@ pub extern "C" fn mschap_domain_offset(packet: &[u8]) -> usize
     packets::domain_part(packet).offset
 }
 
-// How many octets the domain has there.
+// How many bytes the domain has there.
 #[no_mangle]
 pub extern "C" fn mschap_domain_length(packet: &[u8]) -> usize
     ensures { λ r. ⌜ r ≡ domainPart (now (packet .entry)) .length ⌝ }

@@ -1,35 +1,48 @@
 -- `mschap::ciphers::mschap_challenge_response` meets its contract.
 -- Assumes nothing.
-use mathlib.Core.Path.{_≡_, refl, ap₂, _∙_}
+use mathlib.Core.Path.{_≡_, refl, sym, ap, ap₂, _∙_}
+use mathlib.Core.Bool.{Bool, true, _&&_}
 use borrow.Author.Needs.{needs}
-use borrow.Author.Tests.{eq-eqb, ne-eqb}
+use borrow.Author.Tests.{eqb-true, not-true, not-false}
 use lib.ListN.{length}
 use Rattle.credentials.specs.Credentials.{responseOf}
 use Rattle.octets.proofs.Parts.{fixed-whole}
-use Rattle.mschap.proofs.Handing.{handed-behind}
+use Rattle.mschap.specs.Call.{sized, bothSized}
+use Rattle.mschap.proofs.Filling.{both, fills-as, filled-with}
 use Rattle.mschap.proofs.ciphers.mschap_challenge_response.Statement.{statement}
 use Rattle.mschap.proofs.ciphers.mschap_challenge_response.Tie as tie
 
+-- a hash or a challenge of another size
 returns : tie.Need-returns
-returns c = (simp (ne-eqb _ _ (c .if1 .taken)), refl)
+returns c =
+    record {
+      number = simp (sym (c .before .are-sized .ensures) ∙ not-true _ (c .if1 .taken));
+      bytes = refl;
+    }
 
+-- both are of their sizes, so they are taken whole
 returns-2 : tie.Need-returns-2
-returns-2 c = (simp (eq-eqb _ _ (c .before .if1 .left), ne-eqb _ _ (c .if2 .taken)), refl)
-
-returns-3 : tie.Need-returns-3
-returns-3 c =
-    let k = c .before .before in
-    let r = k .before .before .before in
-    let h = r .before .before .before in
-    let a = h .before .before .before .before .before .args in
-    let n : length (r .challenge-response .result) ≡ 24 = search needs in
-    let x = r .before .before .sixteen-at .ensures ∙ fixed-whole 16 (a .hash .now) (h .before .if1 .left) in
-    let y = r .before .eight-at .ensures ∙ fixed-whole 8 (a .challenge .now) (h .if2 .left) in
-    handed-behind (a .hash .now) (a .challenge .now) (a .response .now) (h .before .if1 .left) (h .if2 .left) n (r .challenge-response .ensures ∙ ap₂ responseOf x y) (k .hand .ensures)
+returns-2 c =
+    let put = c .before .before in
+    let made = put .before .before .before in
+    let passed = made .before .before .before in
+    let a = passed .before .before .before .before .before .args in
+    let good : bothSized 16 (a .hash .now) 8 (a .challenge .now) ≡ true =
+    sym (passed .before .are-sized .ensures) ∙ not-false _ (passed .if1 .left) in
+    let sizes = both _ _ good in
+    let first =
+    made .before .before .sixteen-at .ensures
+    ∙ fixed-whole 16 (a .hash .now) (eqb-true _ _ (sizes .0)) in
+    let second =
+    made .before .eight-at .ensures ∙ fixed-whole 8 (a .challenge .now) (eqb-true _ _ (sizes .1)) in
+    let size : length (made .challenge-response .result) ≡ 24 = search needs in
+    fills-as (ap (λ (t : Bool). t && sized 24 (a .response .now)) (sym good)) refl refl
+    (filled-with size (made .challenge-response .ensures ∙ ap₂ responseOf first second) refl (put .fill .ensures))
 
 pub mschap-challenge-response-spec : {M : Type 1} → statement M
 mschap-challenge-response-spec =
     tie.close
     (tie.spec
-    returns returns-2 (λ c κs. search needs) (λ c κs. search needs) (λ c κs. search needs) (λ c. search needs) (λ c κs. search needs)
-    (λ c. search needs) returns-3)
+    (λ c κs. search needs) returns (λ c κs. search needs) (λ c κs. search needs)
+    (λ c κs. search needs) (λ c. search needs) (λ c κs. search needs) (λ c. search needs)
+    returns-2)

@@ -4,16 +4,21 @@ use mathlib.Core.Path.{_≡_, ap}
 use borrow.Author.Needs.{needs}
 use lib.ListN.{length}
 use Rattle.md4.specs.declared.Digested.{Digested}
-use Rattle.mschap.proofs.Handing.{handed}
+use Rattle.mschap.proofs.Filling.{filled-with}
 use Rattle.mschap.proofs.ciphers.mschap_md4.Statement.{statement}
 use Rattle.mschap.proofs.ciphers.mschap_md4.Tie as tie
 
 returns : tie.Need-returns
 returns c =
-    let k = c .before .before in
-    let e = k .before .before .before .before .md4 .ensures in
-    let n : length (k .before .before .before .before .md4 .result .digest) ≡ 16 = search needs in
-    handed (k .before .before .before .before .before .before .before .args .digest .now) n (ap (λ (d : Digested). d .digest) e) (ap (λ (d : Digested). d .refusal) e) (k .hand .ensures)
+    let put = c .before .before in
+    let made = put .before .before .before .before in
+    let size : length (made .md4 .result .digest) ≡ 16 = search needs in
+    let value = ap (λ (d : Digested). d .digest) (made .md4 .ensures) in
+    let refusal = ap (λ (d : Digested). d .refusal) (made .md4 .ensures) in
+    filled-with size value refusal (put .fill .ensures)
 
 pub mschap-md4-spec : {M : Type 1} → statement M
-mschap-md4-spec = tie.close (tie.spec (λ c κs. search needs) (λ c. search needs) (λ c κs. search needs) (λ c. search needs) returns)
+mschap-md4-spec =
+    tie.close
+    (tie.spec
+    (λ c κs. search needs) (λ c. search needs) (λ c κs. search needs) (λ c. search needs) returns)

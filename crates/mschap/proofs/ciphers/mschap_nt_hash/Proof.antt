@@ -4,16 +4,21 @@ use mathlib.Core.Path.{_≡_, ap}
 use borrow.Author.Needs.{needs}
 use lib.ListN.{length}
 use Rattle.credentials.specs.declared.Hashed.{Hashed}
-use Rattle.mschap.proofs.Handing.{handed}
+use Rattle.mschap.proofs.Filling.{filled-with}
 use Rattle.mschap.proofs.ciphers.mschap_nt_hash.Statement.{statement}
 use Rattle.mschap.proofs.ciphers.mschap_nt_hash.Tie as tie
 
 returns : tie.Need-returns
 returns c =
-    let k = c .before .before in
-    let e = k .before .before .before .before .nt-hash .ensures in
-    let n : length (k .before .before .before .before .nt-hash .result .hash) ≡ 16 = search needs in
-    handed (k .before .before .before .before .before .before .before .args .hash .now) n (ap (λ (d : Hashed). d .hash) e) (ap (λ (d : Hashed). d .refusal) e) (k .hand .ensures)
+    let put = c .before .before in
+    let made = put .before .before .before .before in
+    let size : length (made .nt-hash .result .hash) ≡ 16 = search needs in
+    let value = ap (λ (d : Hashed). d .hash) (made .nt-hash .ensures) in
+    let refusal = ap (λ (d : Hashed). d .refusal) (made .nt-hash .ensures) in
+    filled-with size value refusal (put .fill .ensures)
 
 pub mschap-nt-hash-spec : {M : Type 1} → statement M
-mschap-nt-hash-spec = tie.close (tie.spec (λ c κs. search needs) (λ c. search needs) (λ c κs. search needs) (λ c. search needs) returns)
+mschap-nt-hash-spec =
+    tie.close
+    (tie.spec
+    (λ c κs. search needs) (λ c. search needs) (λ c κs. search needs) (λ c. search needs) returns)

@@ -1,64 +1,69 @@
 -- `mschap::conversations::mschap_step` meets its contract.
 -- Assumes nothing.
-use mathlib.Core.Path.{_≡_, refl, sym, ap₂, _∙_}
+use mathlib.Core.Path.{_≡_, refl, sym, ap, ap₂, _∙_}
+use mathlib.Core.Bool.{Bool, true}
 use borrow.Author.Needs.{needs}
-use lib.ListN.{length}
-use borrow.Author.Tests.{ne-eqb, not-true, not-false}
-use Rattle.authenticator.specs.Step.{step}
+use borrow.Author.Tests.{not-true, not-false}
+use Rattle.authenticator.specs.Step.{step, numberOf}
 use Rattle.authenticator.specs.declared.Conversation.{Conversation}
 use Rattle.authenticator.specs.declared.Lookup.{Lookup}
-use Rattle.mschap.specs.Layout.{conversationIn, recordIn}
-use Rattle.mschap.specs.Conversations.{stepNumber}
-use Rattle.mschap.proofs.Talking.{step-called}
+use Rattle.mschap.specs.Conversations.{stepArguments, stepOf}
+use Rattle.mschap.proofs.Calls.{step-sizes, step-called}
 use Rattle.mschap.proofs.conversations.mschap_step.Statement.{statement}
 use Rattle.mschap.proofs.conversations.mschap_step.Tie as tie
 
+-- The arguments are tested by one function, the step is taken on what they decode to, and its answer
+-- is put into the caller's buffers: Calls says what that makes the call return and leave.
+
+abbrev start : tie.Else1 → tie.Start
+start c = c .before .before .before .before .before .before .before .before .before
+
+valid : (c : tie.Else1)
+    → stepArguments (start c .args .conversation .now) (start c .args .account .now) (start c .args .handed .now) ≡ true
+valid c = sym (c .before .are-step-arguments .ensures) ∙ not-false _ (c .if1 .left)
+
+put-answer-requires : tie.Need-put-answer-requires
+put-answer-requires c κs =
+    let passed = c .before .before .before .before .before .before .before .before .before in
+    let a = start passed .args in
+    step-sizes (a .conversation .now) (a .account .now) (a .handed .now) (valid passed)
+
+-- the arguments are not valid
 returns : tie.Need-returns
-unfolding stepNumber
-returns c = record { number = simp (sym (c .before .is-conversation .ensures) ∙ not-true _ (c .if1 .taken)); next = refl; reply = refl; handed = refl }
+returns c =
+    record {
+      number = simp (sym (c .before .are-step-arguments .ensures) ∙ not-true _ (c .if1 .taken));
+      next = refl;
+      reply = refl;
+      handed = refl;
+    }
 
+-- they are valid
 returns-2 : tie.Need-returns-2
-unfolding stepNumber
 returns-2 c =
-    let h = c .before .before in
-    record { number = simp (sym (h .before .is-conversation .ensures) ∙ not-false _ (h .if1 .left), sym (c .before .is-record .ensures) ∙ not-true _ (c .if2 .taken)); next = refl; reply = refl; handed = refl }
-
-returns-3 : tie.Need-returns-3
-unfolding stepNumber
-returns-3 c =
-    let k = c .before .before in
-    let h = k .before in
-    record { number = simp (sym (h .before .is-conversation .ensures) ∙ not-false _ (h .if1 .left), sym (k .is-record .ensures) ∙ not-false _ (c .before .if2 .left), ne-eqb _ _ (c .if3 .taken)); next = refl; reply = refl; handed = refl }
-
-returns-4 : tie.Need-returns-4
-returns-4 c =
-    let d₂ = c .before .before in
-    let d₁ = d₂ .before .before .before .before .before in
-    let w = d₁ .before .before .before in
-    let m = w .before .before in
-    let s = m .before .before .before .before .before in
-    let l = s .before .before in
-    let h = l .before .before .before in
-    let k = h .before .before in
-    let f = k .before .before in
-    let a = f .before .before .before .before .before .before .before .args in
-    let n₁ : length (w .before .conversation-run .result) ≡ 50 = search (needs, w .before .conversation-run) in
-    let n₂ : length (w .record-run .result) ≡ 39 = search (needs, w .record-run) in
-    let before = l .before .conversation-in .ensures in
-    let lookup = l .record-in .ensures in
-    let answered = s .step .ensures .0 ∙ ap₂ (λ (v : Conversation) (u : Lookup). step v (a .packet .now) u (a .reply .now) .answer) before lookup in
-    let written = s .step .ensures .1 ∙ ap₂ (λ (v : Conversation) (u : Lookup). step v (a .packet .now) u (a .reply .now) .buffer) before lookup in
-    let t =
-    step-called (conversationIn (a .conversation .now)) (a .packet .now) (recordIn (a .account .now)) (a .reply .now) (a .conversation .now) (a .account .now) (a .handed .now)
-    (sym (f .is-conversation .ensures) ∙ not-false _ (k .before .if1 .left)) (sym (k .is-record .ensures) ∙ not-false _ (h .before .if2 .left)) (h .if3 .left) answered written
-    (m .number-of .ensures) n₁ (w .before .conversation-run .ensures) n₂ (w .record-run .ensures) (d₁ .hand .ensures) (d₂ .hand2 .ensures) in
-    record { number = t .0; next = t .1 .0; reply = t .1 .1 .0; handed = t .1 .1 .1 }
+    let put = c .before .before .before .before in
+    let stepped = put .before .before .before .before .before in
+    let record-decoded = stepped .before .before in
+    let conversation-decoded = record-decoded .before in
+    let passed = conversation-decoded .before .before in
+    let a = start passed .args in
+    let before = conversation-decoded .decode-conversation .ensures in
+    let lookup = record-decoded .decode-record .ensures in
+    let answer =
+    stepped .step .ensures .0
+    ∙ ap₂ (λ (v : Conversation) (u : Lookup). step v (a .packet .now) u (a .reply .now) .answer)
+    before lookup in
+    let reply =
+    stepped .step .ensures .1
+    ∙ ap₂ (λ (v : Conversation) (u : Lookup). step v (a .packet .now) u (a .reply .now) .buffer)
+    before lookup in
+    step-called (a .conversation .now) (a .packet .now) (a .account .now) (a .reply .now)
+    (a .handed .now) (valid passed) answer reply (put .put-answer .ensures)
 
 pub mschap-step-spec : {M : Type 1} → statement M
 mschap-step-spec =
     tie.close
     (tie.spec
-    (λ c κs. search needs) (λ c. search needs) returns (λ c κs. search needs) (λ c. search needs) returns-2 (λ c. search needs) returns-3
-    (λ c κs. search needs) (λ c κs. search needs) (λ c κs. search needs) (λ c κs. search needs) (λ c κs. search needs) (λ c κs. search needs)
-    (λ c. search needs) (λ c κs. search needs) (λ c. search needs) (λ c κs. search needs) (λ c. search needs) (λ c. search needs) (λ c. search needs)
-    returns-4)
+    (λ c κs. search needs) (λ c. search needs) (λ c. search needs) returns (λ c κs. search needs)
+    (λ c κs. search needs) (λ c κs. search needs) put-answer-requires (λ c. search needs)
+    (λ c. search needs) (λ c. search needs) returns-2)

@@ -1,56 +1,51 @@
 -- `mschap::peers::mschap_read_reply` meets its contract.
 -- Assumes nothing.
-use mathlib.Core.Bool.{true}
-use mathlib.Core.Path.{_≡_, refl, sym, _∙_}
+use mathlib.Core.Path.{_≡_, refl, sym, ap, _∙_}
+use mathlib.Core.Bool.{Bool, true}
 use borrow.Author.Needs.{needs}
-use borrow.Author.Tests.{ne-eqb, not-true, not-false}
-use lib.ListN.{length}
-use Rattle.mschap.specs.Layout.{isPeer}
-use Rattle.mschap.proofs.Peering.{reply-called}
+use borrow.Author.Tests.{not-true, not-false}
+use Rattle.mschap.specs.Peers.{replyArguments}
+use Rattle.mschap.proofs.PeerCalls.{reply-sizes, reply-called}
 use Rattle.mschap.proofs.peers.mschap_read_reply.Statement.{statement}
 use Rattle.mschap.proofs.peers.mschap_read_reply.Tie as tie
 
+-- The arguments are tested by one function, the reply is read by the decoded peer, and what was read
+-- is put into the caller's buffers: PeerCalls says what that makes the call return and leave.
+
+abbrev start : tie.Else1 → tie.Start
+start c = c .before .before .before .before .before .before .before
+
+valid : (c : tie.Else1) → replyArguments (start c .args .peer .now) (start c .args .fields .now) ≡ true
+valid c = sym (c .before .are-reply-arguments .ensures) ∙ not-false _ (c .if1 .left)
+
+put-reply-requires : tie.Need-put-reply-requires
+put-reply-requires c κs =
+    let passed = c .before .before .before .before .before in
+    reply-sizes (start passed .args .peer .now) (start passed .args .fields .now) (valid passed)
+
+-- the arguments are not valid
 returns : tie.Need-returns
 returns c =
     record {
-      number = simp (sym (c .before .is-peer .ensures) ∙ not-true _ (c .if1 .taken));
+      number = simp (sym (c .before .are-reply-arguments .ensures) ∙ not-true _ (c .if1 .taken));
       next = refl;
       says = refl;
     }
 
-good : (c : tie.Else1) → isPeer (c .before .before .before .before .before .before .args .peer .now) ≡ true
-good c = sym (c .before .is-peer .ensures) ∙ not-false _ (c .if1 .left)
-
+-- they are valid
 returns-2 : tie.Need-returns-2
 returns-2 c =
-    record {
-      number = simp (good (c .before), ne-eqb _ _ (c .if2 .taken));
-      next = refl;
-      says = refl;
-    }
-
-returns-3 : tie.Need-returns-3
-returns-3 c =
-    let h₂ = c .before .before in
-    let h₁ = h₂ .before .before .before .before .before in
-    let w = h₁ .before .before .before in
-    let f = w .before in
-    let m = f .before in
-    let r = m .before .before .before in
-    let p = r .before in
-    let k = p .before .before in
-    let a = k .before .before .before .before .before .before .before .args in
-    let n₁ : length (w .peer-run .result) ≡ 19 = search (needs, w .peer-run) in
-    let n₂ : length (f .reading-run .result) ≡ 35 = search (needs, f .reading-run) in
-    reply-called (a .peer .now) (a .packet .now) (a .fields .now) (good (k .before))
-    (k .if2 .left) (p .peer-in .ensures) (r .read-reply .ensures) (m .verdict-number .ensures)
-    n₁ (w .peer-run .ensures) n₂ (f .reading-run .ensures) (h₁ .hand .ensures) (h₂ .hand2 .ensures)
+    let put = c .before .before .before .before in
+    let read = put .before .before .before in
+    let decoded = read .before in
+    let passed = decoded .before .before in
+    let a = start passed .args in
+    reply-called (a .peer .now) (a .packet .now) (a .fields .now) (valid passed)
+    (decoded .decode-peer .ensures) (read .read-reply .ensures) (put .put-reply .ensures)
 
 pub mschap-read-reply-spec : {M : Type 1} → statement M
 mschap-read-reply-spec =
     tie.close
     (tie.spec
-    (λ c κs. search needs) (λ c. search needs) returns (λ c. search needs) returns-2
-    (λ c κs. search needs) (λ c κs. search needs) (λ c κs. search needs) (λ c κs. search needs)
-    (λ c κs. search needs) (λ c. search needs) (λ c κs. search needs) (λ c. search needs)
-    (λ c κs. search needs) (λ c. search needs) (λ c. search needs) returns-3)
+    (λ c κs. search needs) (λ c. search needs) (λ c. search needs) returns (λ c κs. search needs)
+    (λ c κs. search needs) put-reply-requires (λ c. search needs) (λ c. search needs) returns-2)

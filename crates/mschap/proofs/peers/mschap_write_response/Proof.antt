@@ -1,36 +1,45 @@
 -- `mschap::peers::mschap_write_response` meets its contract.
 -- Assumes nothing.
-use mathlib.Core.Path.{_≡_, refl, sym, _∙_}
+use mathlib.Core.Path.{_≡_, refl, sym, ap, _∙_}
+use mathlib.Core.Bool.{Bool, true}
 use borrow.Author.Needs.{needs}
 use borrow.Author.Tests.{not-true, not-false}
-use lib.ListN.{length}
 use Rattle.peer.specs.Write.{writeResponse}
 use Rattle.peer.specs.declared.Turn.{Turn}
-use Rattle.mschap.proofs.Peering.{response-kept, wrote-called}
+use Rattle.mschap.proofs.PeerCalls.{response-kept, wrote-called}
 use Rattle.mschap.proofs.peers.mschap_write_response.Statement.{statement}
 use Rattle.mschap.proofs.peers.mschap_write_response.Tie as tie
 
-returns : tie.Need-returns
-returns c = record { number = simp (sym (c .before .is-peer .ensures) ∙ not-true _ (c .if1 .taken)); next = refl; packet = refl }
+-- The peer is tested and decoded, the packet is written, and the next peer is put into the caller's
+-- buffer: PeerCalls says what that makes the call return and leave.
 
+-- the peer is not valid
+returns : tie.Need-returns
+returns c =
+    record {
+      number = simp (sym (c .before .is-encoded-peer .ensures) ∙ not-true _ (c .if1 .taken));
+      next = refl;
+      packet = refl;
+    }
+
+-- it is valid
 returns-2 : tie.Need-returns-2
 returns-2 c =
-    let k = c .before .before in
-    let t = k .before .before .before in
-    let w = t .before .before .before .before .before in
-    let p = w .before .before in
-    let h = p .before .before in
-    let a = h .before .before .before .before .before .before .before .args in
-    let n : length (t .peer-run .result) ≡ 19 = search needs in
+    let put = c .before .before in
+    let wrote = put .before .before .before .before .before .before in
+    let decoded = wrote .before .before in
+    let passed = decoded .before .before in
+    let a = passed .before .before .before .before .before .before .before .args in
     let out = a .out .now in
-    wrote-called (λ (t : Turn). writeResponse t (a .password .now) (a .name .now) out)
-    (a .peer .now) out (sym (h .before .is-peer .ensures) ∙ not-false _ (h .if1 .left)) (response-kept (a .password .now) (a .name .now) out)
-    (p .peer-in .ensures) (w .write-response .ensures) n (t .peer-run .ensures) (k .hand .ensures)
+    let valid = sym (passed .before .is-encoded-peer .ensures) ∙ not-false _ (passed .if1 .left) in
+    wrote-called (λ (t : Turn). writeResponse t (a .password .now) (a .name .now) out) (a .peer .now) out
+    valid (response-kept (a .password .now) (a .name .now) out) (decoded .decode-peer .ensures)
+    (wrote .write-response .ensures) (put .put-peer .ensures)
 
 pub mschap-write-response-spec : {M : Type 1} → statement M
 mschap-write-response-spec =
     tie.close
     (tie.spec
     (λ c κs. search needs) (λ c. search needs) returns (λ c κs. search needs)
-    (λ c κs. search needs) (λ c κs. search needs) (λ c. search needs) (λ c κs. search needs)
-    (λ c. search needs) (λ c. search needs) returns-2)
+    (λ c κs. search needs) (λ c κs. search needs) (λ c. search needs) (λ c. search needs)
+    returns-2)

@@ -1,0 +1,100 @@
+-- The layout of a conversation, field by field: a value is its fields, an encoding is its pieces,
+-- and what is decoded from the encoding of a value is the value.
+-- Assumes nothing.
+use mathlib.Core.Path.{_≡_, refl, ap, _∙_}
+use mathlib.Core.Bool.{Bool, true}
+use mathlib.Core.List.{List, _∷_, _++_}
+use Prim.Native.Nat.{ℕ}
+use native.Mathlib.Omega.{arith}
+use lib.ListN.{length, take, length-append}
+use lib.Seq.{take-all, take-at, drop-at}
+use Rattle.octets.specs.Parts.{part, fixed}
+use Rattle.octets.proofs.Parts.{fixed-same, length-fixed}
+use Rattle.authenticator.specs.Conversation.{awaitedCode}
+use Rattle.authenticator.specs.declared.Account.{Account}
+use Rattle.authenticator.specs.declared.Conversation.{Conversation}
+use Rattle.authenticator.specs.declared.Phase.{Phase}
+use Rattle.authenticator.specs.declared.Phase.the-variants.{Response, Change, Ended}
+use Rattle.mschap.specs.Layout as layout
+use Rattle.mschap.proofs.Encodings.{encoding-fits, encoding-length}
+use Rattle.mschap.proofs.RecordLaws.{SizedAccount, decoded-account-sized, length-account}
+use Rattle.mschap.proofs.RecordLaws.{flag-back, account-back}
+
+pub conversation-same : {t t' : Bool} {i i' r r' : ℕ} {c c' : List ℕ} {p p' : Phase} {k k' : Account}
+    → t ≡ t' → i ≡ i' → c ≡ c' → r ≡ r' → p ≡ p' → k ≡ k'
+    → _≡_ {A = Conversation}
+    (record { terms = record { lm = t }; id = i; challenge = c; retries = r; phase = p; kept = k })
+    (record {
+      terms = record { lm = t' };
+      id = i';
+      challenge = c';
+      retries = r';
+      phase = p';
+      kept = k';
+    })
+conversation-same e₁ e₂ e₃ e₄ e₅ e₆ = cc
+
+pub conversation-pieces : (c : Conversation) {code lm : ℕ} {kept : List ℕ}
+    → code ≡ awaitedCode (c .phase) → lm ≡ layout.flag (c .terms .lm)
+    → kept ≡ layout.encodeAccount (c .kept)
+    → code ∷ lm ∷ c .id ∷ c .retries ∷ (c .challenge ++ kept) ≡ layout.encodeConversation c
+unfolding layout.encodeConversation
+conversation-pieces c e₁ e₂ e₃ = cc
+
+-- ---- the sizes of a value's arrays, which the code's types fix
+
+pub record SizedConversation (c : Conversation) : Type 0 where
+  pub challenge : length (c .challenge) ≡ layout.challengeSize
+  pub kept : SizedAccount (c .kept)
+
+pub decoded-conversation-sized : (bytes : List ℕ)
+    → SizedConversation (layout.decodeConversation bytes)
+unfolding layout.decodeConversation
+decoded-conversation-sized bytes =
+    record {
+      challenge = length-fixed 8 (part layout.challengeAt 8 bytes);
+      kept = decoded-account-sized (part layout.keptAt layout.accountSize bytes);
+    }
+
+length-conversation : (c : Conversation) → SizedConversation c
+    → length (layout.encodeConversation c) ≡ layout.conversationSize
+unfolding layout.encodeConversation
+length-conversation c s = simp (length-append, s .challenge, length-account (c .kept) (s .kept))
+
+-- what is taken for a conversation has the size of one
+pub length-encoded-conversation : (bytes : List ℕ) → layout.isEncodedConversation bytes ≡ true
+    → length bytes ≡ layout.conversationSize
+unfolding layout.isEncodedConversation
+length-encoded-conversation =
+    encoding-length layout.encodeConversation layout.decodeConversation 50
+    (λ (bytes : List ℕ). length-conversation (layout.decodeConversation bytes)
+    (decoded-conversation-sized bytes))
+
+-- ---- round trip
+
+phase-back : (p : Phase) → layout.phaseOf (awaitedCode p) ≡ p
+phase-back Response = refl
+phase-back Change = refl
+phase-back Ended = refl
+
+pub conversation-back : (c : Conversation) → SizedConversation c
+    → layout.decodeConversation (layout.encodeConversation c) ≡ c
+unfolding layout.encodeConversation layout.decodeConversation
+conversation-back c s =
+    let kept = layout.encodeAccount (c .kept) in
+    let n = length-account (c .kept) (s .kept) in
+    let challenge =
+    ap (fixed 8) (take-at (c .challenge) kept 8 (s .challenge))
+    ∙ fixed-same 8 (c .challenge) (s .challenge) in
+    let account =
+    ap (λ (l : List ℕ). layout.decodeAccount (take 38 l)) (drop-at (c .challenge) kept 8 (s .challenge))
+    ∙ ap layout.decodeAccount (take-all 38 kept (omega arith))
+    ∙ account-back (c .kept) (s .kept) in
+    conversation-same (flag-back (c .terms .lm)) refl challenge refl (phase-back (c .phase)) account
+
+-- the encoding of a conversation is taken for one
+pub conversation-fits : (c : Conversation) → SizedConversation c
+    → layout.isEncodedConversation (layout.encodeConversation c) ≡ true
+unfolding layout.isEncodedConversation
+conversation-fits c s =
+    encoding-fits layout.encodeConversation layout.decodeConversation c (conversation-back c s)

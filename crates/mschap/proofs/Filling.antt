@@ -1,0 +1,34 @@
+-- What calls that fill buffers return and leave.
+-- Assumes nothing.
+use mathlib.Core.Path.{_≡_, refl, ap, ap₂, _∙_}
+use mathlib.Core.Bool.{Bool, true, false, _&&_, false≢true}
+use mathlib.Core.List.{List}
+use Prim.Native.Nat.{ℕ}
+use borrow.Author.Tests.{eq-eqb}
+use lib.ListN.{length}
+use Rattle.mschap.specs.Call.{Fills, sized, numbered, left}
+
+-- both of two tests hold
+pub both : (s t : Bool) → (s && t) ≡ true → (s ≡ true) × (t ≡ true)
+both true t e = (refl, e)
+both false t e = absurd (false≢true e)
+
+module _ {out : List ℕ} {r : ℕ} {after : List ℕ} where
+  -- the same call, by equal arguments
+  pub fills-as : {valid valid' : Bool} {n n' : ℕ} {x x' : List ℕ} → valid ≡ valid' → n ≡ n' → x ≡ x'
+      → Fills valid n x out r after → Fills valid' n' x' out r after
+  fills-as e f g h =
+      record {
+        number = h .number ∙ ap₂ numbered e f;
+        bytes = h .bytes ∙ ap (λ (v : List ℕ). left r v out) g;
+      }
+
+  -- what `fill` returns and leaves, by the size and the value of its bytes
+  pub filled-with : {n k k' : ℕ} {bytes value : List ℕ} → length bytes ≡ n → bytes ≡ value → k ≡ k'
+      → Fills (sized (length bytes) out) k bytes out r after → Fills (sized n out) k' value out r after
+  filled-with e f g h = fills-as (ap (λ (i : ℕ). sized i out) e) g f h
+
+  -- a buffer of the right size makes the number the refusal
+  pub fills-number : {n k : ℕ} {x : List ℕ} → length out ≡ n → Fills (sized n out) k x out r after
+      → r ≡ k
+  fills-number {n} {k} e h = h .number ∙ ap (λ (t : Bool). numbered t k) (eq-eqb (length out) n e)

@@ -1,0 +1,30 @@
+-- `mschap::layouts::conversations::decode_conversation` meets its contract.
+-- Assumes nothing.
+use mathlib.Core.Path.{ap, _∙_}
+use borrow.Author.Needs.{needs}
+use Rattle.mschap.specs.Layout.{isFlag, phaseOf, decodeAccount, decodeConversation}
+use Rattle.mschap.proofs.ConversationLaws.{conversation-same}
+use Rattle.mschap.proofs.layouts.conversations.decode_conversation.Statement.{statement}
+use Rattle.mschap.proofs.layouts.conversations.decode_conversation.Tie as tie
+
+-- each field in turn, the last first
+returns : tie.Need-returns
+unfolding decodeConversation
+returns c =
+    let challenge = c .before .before in
+    let retries = challenge .before in
+    let id = retries .before in
+    let lm = id .before in
+    let phase = lm .before .before in
+    conversation-same (lm .is-flag .ensures ∙ ap isFlag (lm .before .octet2 .ensures))
+    (id .octet3 .ensures) (challenge .eight-at .ensures) (retries .octet4 .ensures)
+    (phase .phase-of .ensures ∙ ap phaseOf (phase .before .octet .ensures))
+    (c .decode-account .ensures ∙ ap decodeAccount (c .before .part-of .ensures))
+
+pub decode-conversation-spec : {M : Type 1} → statement M
+decode-conversation-spec =
+    tie.close
+    (tie.spec
+    (λ c κs. search needs) (λ c κs. search needs) (λ c κs. search needs) (λ c κs. search needs)
+    (λ c κs. search needs) (λ c κs. search needs) (λ c κs. search needs) (λ c κs. search needs)
+    (λ c κs. search needs) returns)

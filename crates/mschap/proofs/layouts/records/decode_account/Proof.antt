@@ -1,0 +1,33 @@
+-- `mschap::layouts::records::decode_account` meets its contract.
+-- Assumes nothing.
+use mathlib.Core.Path.{ap, _∙_}
+use borrow.Author.Needs.{needs}
+use Rattle.mschap.specs.Layout.{isFlag, decodeHash, decodeAccount}
+use Rattle.mschap.proofs.RecordLaws.{account-same}
+use Rattle.mschap.proofs.layouts.records.decode_account.Statement.{statement}
+use Rattle.mschap.proofs.layouts.records.decode_account.Tie as tie
+
+-- each field in turn, the last first
+returns : tie.Need-returns
+unfolding decodeAccount
+returns c =
+    let nodialin = c .before .before in
+    let barred = nodialin .before .before in
+    let disabled = barred .before .before in
+    let lm = disabled .before .before in
+    let nt = lm .before .before in
+    account-same (nt .decode-hash .ensures ∙ ap decodeHash (nt .before .part-of .ensures))
+    (lm .decode-hash2 .ensures ∙ ap decodeHash (lm .before .part-of2 .ensures))
+    (disabled .is-flag .ensures ∙ ap isFlag (disabled .before .octet .ensures))
+    (barred .is-flag2 .ensures ∙ ap isFlag (barred .before .octet2 .ensures))
+    (nodialin .is-flag3 .ensures ∙ ap isFlag (nodialin .before .octet3 .ensures))
+    (c .is-flag4 .ensures ∙ ap isFlag (c .before .octet4 .ensures))
+
+pub decode-account-spec : {M : Type 1} → statement M
+decode-account-spec =
+    tie.close
+    (tie.spec
+    (λ c κs. search needs) (λ c κs. search needs) (λ c κs. search needs) (λ c κs. search needs)
+    (λ c κs. search needs) (λ c κs. search needs) (λ c κs. search needs) (λ c κs. search needs)
+    (λ c κs. search needs) (λ c κs. search needs) (λ c κs. search needs) (λ c κs. search needs)
+    returns)

@@ -1,0 +1,20 @@
+-- `mschap::layouts::records::decode_hash` meets its contract.
+-- Assumes nothing.
+use mathlib.Core.Path.{ap, _∙_}
+use borrow.Author.Needs.{needs}
+use Rattle.mschap.specs.Layout.{isFlag}
+use Rattle.mschap.proofs.RecordLaws.{hash-same}
+use Rattle.mschap.proofs.layouts.records.decode_hash.Statement.{statement}
+use Rattle.mschap.proofs.layouts.records.decode_hash.Tie as tie
+
+returns : tie.Need-returns
+returns c =
+    let present = c .before in
+    hash-same (present .is-flag .ensures ∙ ap isFlag (present .before .octet .ensures))
+    (c .sixteen-at .ensures)
+
+pub decode-hash-spec : {M : Type 1} → statement M
+decode-hash-spec =
+    tie.close
+    (tie.spec
+    (λ c κs. search needs) (λ c κs. search needs) (λ c κs. search needs) returns)

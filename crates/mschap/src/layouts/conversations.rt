@@ -1,0 +1,97 @@
+// The layout of a conversation.
+use crate::buffers::fill;
+use crate::layouts::records::ACCOUNT_SIZE;
+use crate::layouts::records::decode_account;
+use crate::layouts::records::encode_account;
+use crate::layouts::records::flag;
+use crate::layouts::records::is_flag;
+use authenticator::Conversation;
+use authenticator::Phase;
+use authenticator::Terms;
+ghost use mathlib.Core.Path.{_≡_};
+ghost use Rattle.mschap.specs.Call.{Fills, sized};
+ghost use Rattle.mschap.specs.Layout.{phaseOf, encodeConversation, decodeConversation};
+ghost use Rattle.mschap.specs.Layout.{isEncodedConversation, conversationSize};
+
+pub const CONVERSATION_SIZE: usize = 50;
+
+const AWAITED_AT: usize = 0;
+
+const LM_ALLOWED_AT: usize = 1;
+
+const IDENTIFIER_AT: usize = 2;
+
+const RETRIES_AT: usize = 3;
+
+const CHALLENGE_AT: usize = 4;
+
+const KEPT_AT: usize = 12;
+
+fn phase_of(code: u8) -> Phase
+    ensures { λ r. ⌜ r ≡ phaseOf code ⌝ }
+{
+    if code == 2 {
+        return Phase::Response;
+    }
+    if code == 6 {
+        return Phase::Change;
+    }
+    Phase::Ended
+}
+
+fn encode_conversation(conversation: Conversation) -> [u8; CONVERSATION_SIZE]
+    ensures { λ r. ⌜ r ≡ encodeConversation conversation ⌝ }
+{
+    let mut bytes = [0u8; CONVERSATION_SIZE];
+    let phase = conversation.phase;
+    let terms = conversation.terms;
+    let challenge = conversation.challenge;
+    let kept = conversation.kept;
+    let head = [
+        authenticator::awaited_code(phase),
+        flag(terms.lm),
+        conversation.id,
+        conversation.retries,
+    ];
+    let rest = encode_account(kept);
+    octets::copy_at(&mut bytes, AWAITED_AT, &head);
+    octets::copy_at(&mut bytes, CHALLENGE_AT, &challenge);
+    octets::copy_at(&mut bytes, KEPT_AT, &rest);
+    bytes
+}
+
+pub fn decode_conversation(bytes: &[u8]) -> Conversation
+    ensures { λ r. ⌜ r ≡ decodeConversation (now (bytes .entry)) ⌝ }
+{
+    let phase = phase_of(packets::octet(bytes, AWAITED_AT));
+    let lm = is_flag(packets::octet(bytes, LM_ALLOWED_AT));
+    let id = packets::octet(bytes, IDENTIFIER_AT);
+    let retries = packets::octet(bytes, RETRIES_AT);
+    let challenge = octets::eight_at(bytes, CHALLENGE_AT);
+    let kept = decode_account(octets::part_of(bytes, KEPT_AT, ACCOUNT_SIZE));
+    Conversation {
+        terms: Terms { lm },
+        id,
+        challenge,
+        retries,
+        phase,
+        kept,
+    }
+}
+
+pub fn is_encoded_conversation(bytes: &[u8]) -> bool
+    ensures { λ r. ⌜ r ≡ isEncodedConversation (now (bytes .entry)) ⌝ }
+{
+    let conversation = decode_conversation(bytes);
+    let encoding = encode_conversation(conversation);
+    octets::agree(&encoding, bytes)
+}
+
+// Fills out with the encoding of a conversation, unless there is a refusal.
+pub fn put_conversation(refusal: u8, conversation: Conversation, out: &mut [u8]) -> u32
+    ensures { λ r. ⌜ Fills (sized conversationSize (now (out .entry))) refusal
+        (encodeConversation conversation) (now (out .entry)) r (now (out .exit)) ⌝ }
+{
+    let encoding = encode_conversation(conversation);
+    fill(refusal, &encoding, out)
+}

@@ -1,0 +1,77 @@
+// The layout of a peer.
+use crate::buffers::fill;
+use crate::layouts::records::flag;
+use crate::layouts::records::is_flag;
+use peer::Peer;
+use peer::Sent;
+use peer::Turn;
+ghost use mathlib.Core.Path.{_≡_};
+ghost use Rattle.mschap.specs.Call.{Fills, sized};
+ghost use Rattle.mschap.specs.Layout.{encodePeer, decodePeer, isEncodedPeer, peerSize};
+
+pub const PEER_SIZE: usize = 19;
+
+const SENT_AT: usize = 0;
+
+const SENT_IDENTIFIER_AT: usize = 1;
+
+const SENT_CHALLENGE_AT: usize = 2;
+
+const NEXT_IDENTIFIER_AT: usize = 10;
+
+const NEXT_CHALLENGE_AT: usize = 11;
+
+fn encode_peer(peer: Peer) -> [u8; PEER_SIZE]
+    ensures { λ r. ⌜ r ≡ encodePeer peer ⌝ }
+{
+    let mut bytes = [0u8; PEER_SIZE];
+    let sent = peer.sent;
+    let turn = peer.turn;
+    let last = [flag(sent.present), sent.id];
+    let answered = sent.challenge;
+    let next = [turn.id];
+    let challenge = turn.challenge;
+    octets::copy_at(&mut bytes, SENT_AT, &last);
+    octets::copy_at(&mut bytes, SENT_CHALLENGE_AT, &answered);
+    octets::copy_at(&mut bytes, NEXT_IDENTIFIER_AT, &next);
+    octets::copy_at(&mut bytes, NEXT_CHALLENGE_AT, &challenge);
+    bytes
+}
+
+pub fn decode_peer(bytes: &[u8]) -> Peer
+    ensures { λ r. ⌜ r ≡ decodePeer (now (bytes .entry)) ⌝ }
+{
+    let present = is_flag(packets::octet(bytes, SENT_AT));
+    let last = packets::octet(bytes, SENT_IDENTIFIER_AT);
+    let answered = octets::eight_at(bytes, SENT_CHALLENGE_AT);
+    let next = packets::octet(bytes, NEXT_IDENTIFIER_AT);
+    let challenge = octets::eight_at(bytes, NEXT_CHALLENGE_AT);
+    Peer {
+        sent: Sent {
+            present,
+            id: last,
+            challenge: answered,
+        },
+        turn: Turn {
+            id: next,
+            challenge,
+        },
+    }
+}
+
+pub fn is_encoded_peer(bytes: &[u8]) -> bool
+    ensures { λ r. ⌜ r ≡ isEncodedPeer (now (bytes .entry)) ⌝ }
+{
+    let peer = decode_peer(bytes);
+    let encoding = encode_peer(peer);
+    octets::agree(&encoding, bytes)
+}
+
+// Fills out with the encoding of a peer, unless there is a refusal.
+pub fn put_peer(refusal: u8, peer: Peer, out: &mut [u8]) -> u32
+    ensures { λ r. ⌜ Fills (sized peerSize (now (out .entry))) refusal (encodePeer peer)
+        (now (out .entry)) r (now (out .exit)) ⌝ }
+{
+    let encoding = encode_peer(peer);
+    fill(refusal, &encoding, out)
+}
