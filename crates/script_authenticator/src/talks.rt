@@ -54,10 +54,14 @@ pub fn new_talk() -> Talk {
 // ---- account and relend
 
 // The record is lent from now on.
-pub(crate) fn lend(lent: Lookup, talk: Talk) -> Talk {
-    let mut next = talk;
-    next.lent = lent;
-    next
+fn lend(lent: Lookup, mut talk: Talk) -> Talk {
+    talk.lent = lent;
+    talk
+}
+
+// account -, account NT LM MARKS
+pub(crate) fn account(line: &[u8], talk: Talk) -> Talk {
+    lend(records::lookup(line), talk)
 }
 
 // relend
@@ -72,10 +76,19 @@ pub(crate) fn relend(talk: Talk) -> Talk {
 // ---- list and places
 
 // The list is lent from now on.
-pub(crate) fn lend_list(list: List, talk: Talk) -> Talk {
-    let mut next = talk;
-    next.list = list;
-    next
+fn lend_list(list: List, mut talk: Talk) -> Talk {
+    talk.list = list;
+    talk
+}
+
+// list BUFFER USED COUNTS
+pub(crate) fn list(line: &[u8], talk: Talk) -> Talk {
+    lend_list(lists::read_list(line), talk)
+}
+
+// places N
+pub(crate) fn places(line: &[u8], talk: Talk) -> Talk {
+    lend_list(lists::empty(script::octet(line, 1)), talk)
 }
 
 // ---- open
@@ -98,7 +111,9 @@ fn lm_choice(line: &[u8]) -> LmChoice {
 }
 
 // REFUSAL WRITTEN BUFFER CONVERSATION LIST
-fn put_opened(opened: Opened, list: List, reply: &[u8]) {
+fn put_opened(opening: Opening, reply: &[u8]) {
+    let opened = opening.opened;
+    let list = opening.list;
     let conversation = opened.conversation;
     script::put_equals();
     script::put_written(opened.refusal, opened.written, reply);
@@ -144,16 +159,25 @@ fn open_with(line: &[u8], list: List, reply: &mut [u8]) -> Opening {
 }
 
 // The opening becomes the current conversation, and the list goes on as it left it.
+fn after_opening(opening: Opening, talk: Talk) -> Talk {
+    let opened = opening.opened;
+    let conversation = opened.conversation;
+    let list = opening.list;
+    let lent = talk.lent;
+    let handed = talk.handed;
+    Talk {
+        conversation,
+        list,
+        lent,
+        handed,
+    }
+}
+
 fn open_into(line: &[u8], reply: &mut [u8], talk: Talk) -> Talk {
     let before = talk.list;
     let opening = open_with(line, before, reply);
-    let opened = opening.opened;
-    let list = opening.list;
-    put_opened(opened, list, reply);
-    let conversation = opened.conversation;
-    let mut next = lend_list(list, talk);
-    next.conversation = conversation;
-    next
+    put_opened(opening, reply);
+    after_opening(opening, talk)
 }
 
 // open ID CHALLENGE R LM BUFFER
@@ -193,18 +217,21 @@ fn put_answer(answer: Answer, reply: &[u8]) {
     records::put_lookup(handed)
 }
 
-// The next conversation becomes the current one.
-fn step_into(packet: &[u8], reply: &mut [u8], talk: Talk) -> Talk {
-    let before = talk.conversation;
-    let lent = talk.lent;
-    let answer = before.step(packet, lent, reply);
-    put_answer(answer, reply);
+// The next conversation becomes the current one, and the record is kept for `relend`.
+fn after_step(answer: Answer, mut talk: Talk) -> Talk {
     let conversation = answer.next;
+    talk.conversation = conversation;
     let handed = answer.handed;
-    let mut next = talk;
-    next.conversation = conversation;
-    next.handed = handed;
-    next
+    talk.handed = handed;
+    talk
+}
+
+fn step_into(packet: &[u8], reply: &mut [u8], talk: Talk) -> Talk {
+    let conversation = talk.conversation;
+    let lent = talk.lent;
+    let answer = conversation.step(packet, lent, reply);
+    put_answer(answer, reply);
+    after_step(answer, talk)
 }
 
 // step PACKET BUFFER

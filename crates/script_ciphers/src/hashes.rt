@@ -22,8 +22,10 @@ fn lm_hash(line: &[u8]) {
 
 // response HASH16 CHALLENGE8
 fn response(line: &[u8]) {
-    let response =
-        credentials::challenge_response(script::sixteen(line, 1), script::eight(line, 2));
+    let response = credentials::challenge_response(
+        script::sixteen(line, 1),
+        script::eight(line, 2),
+    );
     script::put_result(0, &response)
 }
 

@@ -5,7 +5,10 @@ mod peers;
 // Writes the result of a line whose command is one of these; writes nothing for any other.
 pub fn run(line: &[u8]) {
     let name = script::word(line, 0);
-    match script::which(b"failure challenge reply turn writeresponse writechange", name) {
+    match script::which(
+        b"failure challenge reply turn writeresponse writechange",
+        name,
+    ) {
         0 => failures::failure(line),
         1 => peers::challenge(line),
         2 => peers::reply(line),

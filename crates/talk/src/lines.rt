@@ -8,13 +8,13 @@ fn put(text: &[u8]) {
     io::write_all(STDOUT_FILENO, text);
 }
 
-pub(crate) fn say(text: &[u8]) {
+pub fn say(text: &[u8]) {
     put(text);
     put(b"\n");
 }
 
 // A heading, apart from what stands above it.
-pub(crate) fn title(text: &[u8]) {
+pub fn title(text: &[u8]) {
     put(b"\n");
     say(text);
 }
@@ -39,7 +39,7 @@ fn say_octets(octets: &[u8]) {
 }
 
 // The octets of a packet from a place on, as a rule has them or as a slip does.
-pub(crate) fn place(whose: &[u8], at: usize, octets: &[u8]) {
+pub fn place(whose: &[u8], at: usize, octets: &[u8]) {
     put(b"      ");
     put(whose);
     put(b" from octet ");
@@ -49,14 +49,15 @@ pub(crate) fn place(whose: &[u8], at: usize, octets: &[u8]) {
 }
 
 // The list of issued challenges, of which so many places are used.
-pub(crate) fn issued(list: &[u8], used: usize) {
+pub fn issued(list: &[u8], used: usize) {
     put(b"      The list has ");
     io::print_decimal(STDOUT_FILENO, used as u64);
     put(b" challenges of 8 octets, for each opening its own and one for each retry: ");
     say_octets(octets::part_of(list, 0, octets_of(used)));
 }
 
-// The octets of so many challenges; the bound keeps the product small, and the lists here have fewer.
+// The octets of so many challenges; the bound keeps the product small, and the lists here have
+// fewer.
 fn octets_of(challenges: usize) -> usize {
     if challenges < 64 { 8 * challenges } else { 512 }
 }
@@ -101,8 +102,9 @@ fn meaning(code: u8, octets: &[u8]) {
     }
 }
 
-// One packet: the way it goes, its kind, its identifier, its Length and its octets, and a line for what it means.
-pub(crate) fn packet(way: &[u8], octets: &[u8]) {
+// One packet: the way it goes, its kind, its identifier, its Length and its octets, and a line for
+// what it means.
+fn packet(way: &[u8], octets: &[u8]) {
     let code = packets::octet(octets, 0);
     let name = kind(code);
     put(way);
@@ -114,6 +116,14 @@ pub(crate) fn packet(way: &[u8], octets: &[u8]) {
     put(b" octets: ");
     say_octets(octets);
     meaning(code, octets);
+}
+
+pub(crate) fn from_box(octets: &[u8]) {
+    packet(b"   <- ", octets);
+}
+
+pub(crate) fn from_peer(octets: &[u8]) {
+    packet(b"   -> ", octets);
 }
 
 // Document 01's reasons.
