@@ -1,37 +1,53 @@
 // What students get wrong, and what the box does: the slips of docs/SLIPS.md.
-use crate::exchanges::Talk;
-use crate::exchanges::account;
-use crate::exchanges::another_challenge;
-use crate::exchanges::answered;
-use crate::exchanges::challenge;
-use crate::exchanges::new_one;
-use crate::exchanges::no_record;
-use crate::exchanges::opening;
-use crate::exchanges::opening_on;
-use crate::exchanges::response;
-use crate::exchanges::right;
-use crate::exchanges::rightly;
-use crate::exchanges::write_change;
-use crate::exchanges::write_response;
-use crate::exchanges::wrong;
-use crate::lines::issued;
-use crate::lines::place;
-use crate::lines::say;
-use crate::lines::title;
 use authenticator::Hash;
 use authenticator::Lookup;
 use authenticator::Retries;
+use talk::Issued;
+use talk::Talk;
+use talk::account;
+use talk::another_challenge;
+use talk::answered;
+use talk::challenge;
+use talk::issued;
+use talk::new_one;
+use talk::no_record;
+use talk::old_hash;
+use talk::opening;
+use talk::opening_on;
+use talk::place;
+use talk::right;
+use talk::rightly;
+use talk::rightly_for;
+use talk::say;
+use talk::title;
+use talk::usual_opening;
+use talk::write_change;
+use talk::write_response;
+use talk::wrong;
+use talk::wrongly;
+use talk::wrongly_for;
 
 // ---- the challenge
 
-// A second box, on the list that the first was lent: neither its challenge nor the next one, which a retry would answer, can be had again.
-fn refused_twice(list: &mut [u8], used: usize, counts: &mut [u16]) {
+// A second box, on the list that the first was lent: neither its challenge nor the next one, which
+// a retry would answer, can be had again. A refused opening leaves the list as it was.
+fn refused_twice(list: Issued) {
     say(
         b"   A second box on the same list, with the same challenge, and with the one that a retry at the first would answer:",
     );
-    let again = opening_on(7, challenge(), Retries::Default, list, used, counts);
-    let next = challenges::incremented(challenge());
-    opening_on(7, next, Retries::Count(0), list, again.used, counts);
+    opening_on(list, 7, challenge(), Retries::Default);
+    opening_on(
+        list,
+        7,
+        challenges::incremented(challenge()),
+        Retries::Count(0),
+    );
+}
+
+fn say_list(talk: Talk) {
+    let list = talk.list;
+    let octets = list.octets;
+    issued(&octets, list.used);
 }
 
 // Whoever recorded a Response answers too, and sends the recorded one in place of his own.
@@ -43,119 +59,121 @@ fn replay(talk: Talk, recorded: &[u8]) {
 }
 
 // With a challenge of its own it opens.
-fn with_its_own(list: &mut [u8], used: usize, counts: &mut [u16], recorded: &[u8]) {
+fn with_its_own(list: Issued, recorded: &[u8]) {
     say(
         b"   With a challenge of its own it opens, and the recorded Response is a wrong one there:",
     );
-    let own = another_challenge();
-    let opened = opening_on(7, own, Retries::Default, list, used, counts);
-    issued(list, opened.used);
-    let talk = opened.talk;
+    let talk = opening_on(list, 7, another_challenge(), Retries::Default);
+    say_list(talk);
     replay(talk, recorded);
 }
 
-// Boxes on one list, as a controller lends it.
-fn on_one_list(list: &mut [u8], counts: &mut [u16]) {
-    let first = opening_on(7, challenge(), Retries::Default, list, 0, counts);
-    issued(list, first.used);
+// The first box on the list: its Response is recorded in out. Answers the list.
+fn first_on_list(out: &mut [u8]) -> Issued {
+    let talk = usual_opening();
+    say_list(talk);
     let password = right();
-    let mut out = [0u8; 310];
-    let talk = first.talk;
-    let wrote = write_response(talk, &password, &mut out);
-    answered(talk, wrote, &out, account(false));
-    refused_twice(list, first.used, counts);
-    with_its_own(list, first.used, counts, &out);
+    let wrote = write_response(talk, &password, out);
+    answered(talk, wrote, out, account(false));
+    talk.list
 }
 
+// Boxes on one list, as a controller lends it.
 fn shared() {
     title(
         b"Slip: one challenge shared by two boxes, so that a Response recorded at the first would open the second. It is refused there.",
     );
-    let mut list = [0u8; 64];
-    let mut counts = [0u16; 256];
-    on_one_list(&mut list, &mut counts);
+    let mut recorded = [0u8; 310];
+    let list = first_on_list(&mut recorded);
+    refused_twice(list);
+    with_its_own(list, &recorded);
 }
 
 fn carry() {
     title(
         b"Slip: a carry out of the challenge's first octet. E9 grows by 23 to 00, and the second octet stays.",
     );
-    let talk = opening(9, [0xe9, 2, 3, 4, 5, 6, 7, 8], Retries::Count(1));
-    let guess = wrong();
-    let password = right();
-    let again = response(talk, &guess, account(false));
-    response(again, &password, account(false));
+    let mut talk = opening(9, [0xe9, 2, 3, 4, 5, 6, 7, 8], Retries::Count(1));
+    talk = wrongly(talk, false);
+    rightly(talk, false);
 }
 
 // ---- the Response
+
+fn disabled_account() -> Lookup {
+    let mut lookup = account(false);
+    let mut record = lookup.account;
+    record.disabled = true;
+    lookup.account = record;
+    lookup
+}
+
+// An opening with so many retries.
+fn opening_with(retries: u8) -> Talk {
+    opening(1, [1, 2, 3, 4, 5, 6, 7, 8], Retries::Count(retries))
+}
 
 fn disabled() {
     title(
         b"Slip: a disabled account reported before the password was checked. A wrong password draws 691, the right one 647.",
     );
-    let mut lookup = account(false);
-    let mut record = lookup.account;
-    record.disabled = true;
-    lookup.account = record;
-    let guess = wrong();
-    let password = right();
-    let talk = opening(1, [1, 2, 3, 4, 5, 6, 7, 8], Retries::Count(1));
-    let again = response(talk, &guess, lookup);
-    response(again, &password, lookup);
-}
-
-fn guess_for(lookup: Lookup) {
-    let guess = wrong();
-    let talk = opening(1, [1, 2, 3, 4, 5, 6, 7, 8], Retries::Count(0));
-    response(talk, &guess, lookup);
+    let lookup = disabled_account();
+    let mut talk = opening_with(1);
+    talk = wrongly_for(talk, lookup);
+    rightly_for(talk, lookup);
 }
 
 fn unknown() {
     title(b"Slip: an unknown account told apart from a wrong password. Both draw the same octets.");
-    guess_for(no_record());
-    guess_for(account(false));
+    wrongly_for(opening_with(0), no_record());
+    wrongly_for(opening_with(0), account(false));
 }
 
-// The account has an LM hash too. The Response has a wrong NT response and the right LM response.
+// The account with an LM hash too.
+fn account_with_lm(octets: [u8; 16]) -> Lookup {
+    let lm = Hash {
+        present: true,
+        octets,
+    };
+    let mut lookup = account(false);
+    let mut record = lookup.account;
+    record.lm = lm;
+    lookup.account = record;
+    lookup
+}
+
+// A wrong password, with another LM response than the zeros that our peer writes.
+fn wrongly_with_lm(talk: Talk, lm: [u8; 24], lookup: Lookup) {
+    let guess = wrong();
+    let mut out = [0u8; 310];
+    let wrote = write_response(talk, &guess, &mut out);
+    octets::copy_at(&mut out, 5, &lm);
+    place(b"the right LM response", 5, &lm);
+    answered(talk, wrote, &out, lookup);
+}
+
+// The Response has a wrong NT response and the right LM response.
 fn fallback() {
     title(
         b"Slip: falling back to LM when the NT response is wrong. With flag 1 the LM response is not looked at.",
     );
     let hash = credentials::lm_hash(b"MyPw").hash;
-    let lm_hash = Hash {
-        present: true,
-        octets: hash,
-    };
-    let mut lookup = account(false);
-    let mut record = lookup.account;
-    record.lm = lm_hash;
-    lookup.account = record;
-    let guess = wrong();
-    let mut out = [0u8; 310];
     let talk = opening(7, challenge(), Retries::Count(0));
-    let wrote = write_response(talk, &guess, &mut out);
     let lm = credentials::challenge_response(hash, challenge());
-    octets::copy_at(&mut out, 5, &lm);
-    place(b"the right LM response", 5, &lm);
-    answered(talk, wrote, &out, lookup);
+    wrongly_with_lm(talk, lm, account_with_lm(hash));
 }
 
 // ---- the change
 
 // The right change but for the octets from a place on, which a slip made otherwise.
 fn slipped(at: usize, slip: &[u8]) {
-    let talk = rightly(opening(7, challenge(), Retries::Default), true);
+    let talk = rightly(usual_opening(), true);
     let mut out = [0u8; 1118];
     let wrote = write_change(talk, &mut out);
     place(b"right,", at, octets::part_of(&out, at, slip.len()));
     place(b"slip, ", at, slip);
     octets::copy_at(&mut out, at, slip);
     answered(talk, wrote, &out, no_record());
-}
-
-fn old_hash() -> [u8; 16] {
-    let password = right();
-    credentials::nt_hash(&password).hash
 }
 
 fn new_hash() -> [u8; 16] {

@@ -1,15 +1,5 @@
 // The lines of a script, and what is written for each.
-use super::ciphers;
-use super::failures;
-use super::hashes;
-use super::names;
-use super::peers;
-use super::published;
-use super::talks;
-use super::text;
-use libc::STDOUT_FILENO;
-use talks::Ran;
-use talks::Talk;
+use script_authenticator::Talk;
 
 // How a line is read.
 enum Section {
@@ -27,7 +17,7 @@ pub struct Session {
 
 // At the start.
 pub(crate) fn new_session() -> Session {
-    let talk = talks::new_talk();
+    let talk = script_authenticator::new_talk();
     Session {
         section: Section::Cases,
         talk,
@@ -36,19 +26,13 @@ pub(crate) fn new_session() -> Session {
 
 // The section of the lines after this one.
 fn section_after(line: &[u8], section: Section) -> Section {
-    if octets::agree(line, b":cases") {
-        return Section::Cases;
+    match script::which(b":cases :md4 :rc4 :des", line) {
+        0 => Section::Cases,
+        1 => Section::Md4,
+        2 => Section::Rc4,
+        3 => Section::Des,
+        _ => section,
     }
-    if octets::agree(line, b":md4") {
-        return Section::Md4;
-    }
-    if octets::agree(line, b":rc4") {
-        return Section::Rc4;
-    }
-    if octets::agree(line, b":des") {
-        return Section::Des;
-    }
-    section
 }
 
 // Whether a line is copied as it is: an empty one, a comment, a section's marker.
@@ -62,32 +46,36 @@ fn is_plain(line: &[u8]) -> bool {
     }
 }
 
-// Puts the result of a command that stands by itself. Each module puts the result of its own commands only.
-fn put_result(line: &[u8], out: &mut [u8], at: usize) -> usize {
-    let a = ciphers::run(line, out, at);
-    let b = hashes::run(line, out, a);
-    let c = failures::run(line, out, b);
-    let d = names::run(line, out, c);
-    peers::run(line, out, d)
+// Writes a command's line and its result. Each crate writes the result of its own commands only.
+fn run_command(line: &[u8], talk: Talk) -> Talk {
+    script::put(line);
+    script_ciphers::run(line);
+    script_peer::run(line);
+    script_authenticator::run(line, talk)
 }
 
-// Puts a command's line and its result.
-fn put_command(line: &[u8], talk: Talk, out: &mut [u8]) -> Ran {
-    let end = text::put(out, 0, line);
-    let next = put_result(line, out, end);
-    talks::run(line, talk, out, next)
+// Writes a line of published vectors.
+fn put_published(line: &[u8], section: Section) {
+    match section {
+        Section::Cases => {}
+        Section::Md4 => script_ciphers::md4_line(line),
+        Section::Rc4 => script_ciphers::rc4_line(line),
+        Section::Des => script_ciphers::des_line(line),
+    }
 }
 
-// Puts what is written for a line, without the line feed.
-fn put_line(line: &[u8], section: Section, talk: Talk, out: &mut [u8]) -> Ran {
+// Writes what is written for a line, without the line feed.
+fn put_line(line: &[u8], section: Section, talk: Talk) -> Talk {
     if is_plain(line) {
-        return talks::same(text::put(out, 0, line), talk);
+        script::put(line);
+        return talk;
     }
     match section {
-        Section::Cases => put_command(line, talk, out),
-        Section::Md4 => talks::same(published::md4_line(line, out), talk),
-        Section::Rc4 => talks::same(published::rc4_line(line, out), talk),
-        Section::Des => talks::same(published::des_line(line, out), talk),
+        Section::Cases => run_command(line, talk),
+        _ => {
+            put_published(line, section);
+            talk
+        }
     }
 }
 
@@ -95,12 +83,9 @@ fn put_line(line: &[u8], section: Section, talk: Talk, out: &mut [u8]) -> Ran {
 fn run_line(line: &[u8], session: Session) -> Session {
     let section = session.section;
     let before = session.talk;
-    let mut out = [0u8; 16384];
-    let ran = put_line(line, section, before, &mut out);
-    let n = text::put(&mut out, ran.at, b"\n");
-    io::write_all(STDOUT_FILENO, octets::part_of(&out, 0, n));
+    let talk = put_line(line, section, before);
+    script::put(b"\n");
     let after = section_after(line, section);
-    let talk = ran.talk;
     Session {
         section: after,
         talk,
@@ -112,7 +97,7 @@ pub(crate) fn run_lines(script: &[u8], start: Session) -> Session {
     let mut session = start;
     let mut at = 0;
     while at < script.len() {
-        let end = text::find(script, at, b'\n');
+        let end = script::find(script, at, b'\n');
         session = run_line(octets::part_of(script, at, end - at), session);
         at = end + 1;
     }

@@ -1,0 +1,122 @@
+// Account records and conversations, as they are read and written.
+use authenticator::Account;
+use authenticator::Conversation;
+use authenticator::Hash;
+use authenticator::Lookup;
+use authenticator::Phase;
+
+// ---- reading
+
+// The hash that word k names, or none.
+fn hash(line: &[u8], k: usize) -> Hash {
+    let none = octets::agree(script::word(line, k), b"-");
+    let octets = script::sixteen(line, k);
+    Hash {
+        present: !none,
+        octets,
+    }
+}
+
+// Mark i of the word of marks.
+fn mark(line: &[u8], i: usize) -> bool {
+    octets::agree(octets::part_of(script::word(line, 3), i, 1), b"1")
+}
+
+// The record that the words NT LM MARKS name, after the command.
+fn account(line: &[u8]) -> Account {
+    let nt = hash(line, 1);
+    let lm = hash(line, 2);
+    let disabled = mark(line, 0);
+    let barred = mark(line, 1);
+    let nodialin = mark(line, 2);
+    let expired = mark(line, 3);
+    Account {
+        nt,
+        lm,
+        disabled,
+        barred,
+        nodialin,
+        expired,
+    }
+}
+
+// The same, or no record where there is one word only.
+pub(crate) fn lookup(line: &[u8]) -> Lookup {
+    let account = account(line);
+    let found = script::word(line, 2).len() != 0;
+    Lookup { found, account }
+}
+
+// ---- writing
+
+fn put_hash(hash: Hash) {
+    if hash.present {
+        let octets = hash.octets;
+        return script::put_hex(&octets);
+    }
+    script::put_none()
+}
+
+fn put_mark(mark: bool) {
+    script::put_number(mark as u64)
+}
+
+fn put_marks(account: Account) {
+    put_mark(account.disabled);
+    put_mark(account.barred);
+    put_mark(account.nodialin);
+    put_mark(account.expired)
+}
+
+// NT/LM/MARKS
+fn put_account(account: Account) {
+    let nt = account.nt;
+    let lm = account.lm;
+    put_hash(nt);
+    script::put(b"/");
+    put_hash(lm);
+    script::put(b"/");
+    put_marks(account)
+}
+
+// The same, with `-` for no record.
+pub(crate) fn put_lookup(lookup: Lookup) {
+    if lookup.found {
+        let account = lookup.account;
+        return put_account(account);
+    }
+    script::put_none()
+}
+
+// LM
+fn put_lm(lm: bool) {
+    if lm {
+        return script::put(b" yes ");
+    }
+    script::put(b" no ")
+}
+
+// PHASE KEPT
+fn put_phase(phase: Phase, kept: Account) {
+    match phase {
+        Phase::Response => script::put(b"response -"),
+        Phase::Change => {
+            script::put(b"change ");
+            put_account(kept)
+        }
+        Phase::Ended => script::put(b"ended -"),
+    }
+}
+
+// ID CHALLENGE RETRIES LM PHASE KEPT
+pub(crate) fn put_conversation(conversation: Conversation) {
+    let terms = conversation.terms;
+    let challenge = conversation.challenge;
+    let phase = conversation.phase;
+    let kept = conversation.kept;
+    script::put_named(conversation.id, challenge);
+    script::put_space();
+    script::put_number(conversation.retries as u64);
+    put_lm(terms.lm);
+    put_phase(phase, kept)
+}

@@ -1,0 +1,244 @@
+// The commands of a conversation. Each takes what goes on from command to command, writes its
+// result, and answers what goes on.
+use super::lists;
+use super::records;
+use authenticator::Answer;
+use authenticator::Conversation;
+use authenticator::Kind;
+use authenticator::LmChoice;
+use authenticator::Lookup;
+use authenticator::Opened;
+use authenticator::Retries;
+use lists::List;
+
+// The current conversation, the list that is lent with an opening, the record that is lent with a
+// step, and the one that the last step handed out.
+pub struct Talk {
+    conversation: Conversation,
+    list: List,
+    lent: Lookup,
+    handed: Lookup,
+}
+
+// The conversation of a refused opening: there is no room for its Challenge, whatever the list is.
+fn refused_conversation() -> Conversation {
+    let mut list = [0u8; 1];
+    let mut counts = [0u16; 1];
+    let mut room = [0u8; 1];
+    let opened = Conversation::open(
+        0,
+        [0; 8],
+        Retries::Default,
+        LmChoice::Silent,
+        &mut list,
+        0,
+        &mut counts,
+        &mut room,
+    );
+    opened.conversation
+}
+
+// At the start: the conversation of a refused opening, eight empty places, and no records.
+pub fn new_talk() -> Talk {
+    let conversation = refused_conversation();
+    let list = lists::empty(8);
+    let none = records::lookup(b"account -");
+    Talk {
+        conversation,
+        list,
+        lent: none,
+        handed: none,
+    }
+}
+
+// ---- account and relend
+
+// The record is lent from now on.
+fn lend(lent: Lookup, mut talk: Talk) -> Talk {
+    talk.lent = lent;
+    talk
+}
+
+// account -, account NT LM MARKS
+pub(crate) fn account(line: &[u8], talk: Talk) -> Talk {
+    lend(records::lookup(line), talk)
+}
+
+// relend
+pub(crate) fn relend(talk: Talk) -> Talk {
+    let handed = talk.handed;
+    if handed.found {
+        return lend(handed, talk);
+    }
+    talk
+}
+
+// ---- list and places
+
+// The list is lent from now on.
+fn lend_list(list: List, mut talk: Talk) -> Talk {
+    talk.list = list;
+    talk
+}
+
+// list BUFFER USED COUNTS
+pub(crate) fn list(line: &[u8], talk: Talk) -> Talk {
+    lend_list(lists::read_list(line), talk)
+}
+
+// places N
+pub(crate) fn places(line: &[u8], talk: Talk) -> Talk {
+    lend_list(lists::empty(script::octet(line, 1)), talk)
+}
+
+// ---- open
+
+// The retries of word 3.
+fn retries(line: &[u8]) -> Retries {
+    if octets::agree(script::word(line, 3), b"-") {
+        return Retries::Default;
+    }
+    Retries::Count(script::octet(line, 3))
+}
+
+// The choice of word 4.
+fn lm_choice(line: &[u8]) -> LmChoice {
+    match script::which(b"yes no", script::word(line, 4)) {
+        0 => LmChoice::Allowed,
+        1 => LmChoice::Disallowed,
+        _ => LmChoice::Silent,
+    }
+}
+
+// REFUSAL WRITTEN BUFFER CONVERSATION LIST
+fn put_opened(opening: Opening, reply: &[u8]) {
+    let opened = opening.opened;
+    let list = opening.list;
+    let conversation = opened.conversation;
+    script::put_equals();
+    script::put_written(opened.refusal, opened.written, reply);
+    script::put_space();
+    records::put_conversation(conversation);
+    script::put_space();
+    lists::put_list(list)
+}
+
+// An opening's answer, and the list as it left it.
+struct Opening {
+    opened: Opened,
+    list: List,
+}
+
+// Opens a conversation with the list.
+fn open_with(line: &[u8], list: List, reply: &mut [u8]) -> Opening {
+    let mut octets = list.octets;
+    let mut counts = list.counts;
+    let size = lists::within(list.size, 1024);
+    let number = lists::within(list.number, 512);
+    let opened = Conversation::open(
+        script::octet(line, 1),
+        script::eight(line, 2),
+        retries(line),
+        lm_choice(line),
+        &mut octets[..size],
+        list.used,
+        &mut counts[..number],
+        reply,
+    );
+    let used = opened.used;
+    Opening {
+        opened,
+        list: List {
+            octets,
+            size,
+            used,
+            counts,
+            number,
+        },
+    }
+}
+
+// The opening becomes the current conversation, and the list goes on as it left it.
+fn after_opening(opening: Opening, talk: Talk) -> Talk {
+    let opened = opening.opened;
+    let conversation = opened.conversation;
+    let list = opening.list;
+    let lent = talk.lent;
+    let handed = talk.handed;
+    Talk {
+        conversation,
+        list,
+        lent,
+        handed,
+    }
+}
+
+fn open_into(line: &[u8], reply: &mut [u8], talk: Talk) -> Talk {
+    let before = talk.list;
+    let opening = open_with(line, before, reply);
+    put_opened(opening, reply);
+    after_opening(opening, talk)
+}
+
+// open ID CHALLENGE R LM BUFFER
+pub(crate) fn open(line: &[u8], talk: Talk) -> Talk {
+    let mut reply = [0u8; 2048];
+    let n = script::octets(line, 5, &mut reply);
+    open_into(line, &mut reply[..n], talk)
+}
+
+// ---- step
+
+// REFUSAL REASON and a space
+fn put_kind(kind: Kind) {
+    match kind {
+        Kind::Refused(refusal) => {
+            script::put_number(refusal as u64);
+            script::put(b" 0 ")
+        }
+        Kind::Judged(reason) => {
+            script::put(b"0 ");
+            script::put_field(reason as u64)
+        }
+    }
+}
+
+// REFUSAL REASON WRITTEN BUFFER CONVERSATION RECORD
+fn put_answer(answer: Answer, reply: &[u8]) {
+    let kind = answer.kind;
+    let next = answer.next;
+    let handed = answer.handed;
+    script::put_equals();
+    put_kind(kind);
+    script::put_sized(answer.written, reply);
+    script::put_space();
+    records::put_conversation(next);
+    script::put_space();
+    records::put_lookup(handed)
+}
+
+// The next conversation becomes the current one, and the record is kept for `relend`.
+fn after_step(answer: Answer, mut talk: Talk) -> Talk {
+    let conversation = answer.next;
+    talk.conversation = conversation;
+    let handed = answer.handed;
+    talk.handed = handed;
+    talk
+}
+
+fn step_into(packet: &[u8], reply: &mut [u8], talk: Talk) -> Talk {
+    let conversation = talk.conversation;
+    let lent = talk.lent;
+    let answer = conversation.step(packet, lent, reply);
+    put_answer(answer, reply);
+    after_step(answer, talk)
+}
+
+// step PACKET BUFFER
+pub(crate) fn step(line: &[u8], talk: Talk) -> Talk {
+    let mut packet = [0u8; 2048];
+    let n = script::octets(line, 1, &mut packet);
+    let mut reply = [0u8; 2048];
+    let k = script::octets(line, 2, &mut reply);
+    step_into(&packet[..n], &mut reply[..k], talk)
+}

@@ -1,0 +1,245 @@
+// Both ends of a conversation, and what passes between them: each step prints its packets.
+use super::lines;
+use authenticator::Account;
+use authenticator::Answer;
+use authenticator::Conversation;
+use authenticator::Hash;
+use authenticator::LmChoice;
+use authenticator::Lookup;
+use authenticator::Opened;
+use authenticator::Retries;
+use peer::PacketWritten;
+use peer::Peer;
+
+// A list of issued challenges, of which so many places are used.
+pub struct Issued {
+    pub octets: [u8; 64],
+    pub used: usize,
+    pub counts: [u16; 256],
+}
+
+// Both ends: the conversation, the peer, the list as the opening left it, and the record that an
+// accepted change handed out.
+pub struct Talk {
+    pub conversation: Conversation,
+    pub peer: Peer,
+    pub list: Issued,
+    pub handed: Lookup,
+}
+
+// ---- passwords, challenges and records
+
+// The right password, `MyPw` of RFC 2433, B.2, as 16-bit characters.
+pub fn right() -> [u8; 8] {
+    *b"M\0y\0P\0w\0"
+}
+
+pub fn wrong() -> [u8; 6] {
+    *b"b\0a\0d\0"
+}
+
+pub fn new_one() -> [u8; 14] {
+    *b"M\0y\0N\0e\0w\0P\0w\0"
+}
+
+pub fn challenge() -> [u8; 8] {
+    [0x10, 0x2d, 0xb5, 0xdf, 0x08, 0x5d, 0x30, 0x41]
+}
+
+// One that none of the 23 rule's turns makes of it.
+pub fn another_challenge() -> [u8; 8] {
+    [0xd0, 0x2e, 0x43, 0x86, 0xbc, 0xe9, 0x12, 0x26]
+}
+
+// The NT hash of the right password.
+pub fn old_hash() -> [u8; 16] {
+    let password = right();
+    credentials::nt_hash(&password).hash
+}
+
+// The record of the account: its NT hash, no LM hash, and whether the password has expired.
+pub fn account(expired: bool) -> Lookup {
+    let octets = old_hash();
+    Lookup {
+        found: true,
+        account: Account {
+            nt: Hash {
+                present: true,
+                octets,
+            },
+            lm: Hash {
+                present: false,
+                octets: [0; 16],
+            },
+            disabled: false,
+            barred: false,
+            nodialin: false,
+            expired,
+        },
+    }
+}
+
+// No record.
+pub fn no_record() -> Lookup {
+    let mut none = account(false);
+    none.found = false;
+    none
+}
+
+// ---- the opening
+
+fn empty_list() -> Issued {
+    let octets = [0u8; 64];
+    let counts = [0u16; 256];
+    Issued {
+        octets,
+        used: 0,
+        counts,
+    }
+}
+
+// Prints the Challenge, or that the box refuses to open.
+fn say_opening(opened: Opened, challenge: [u8; 8], sent: &[u8]) {
+    if opened.refusal == 0 {
+        lines::from_box(sent);
+    } else {
+        lines::refused_opening(opened.refusal, challenge);
+    }
+}
+
+// The opening, on a list of issued challenges: the box sends a Challenge, and the peer reads it; or
+// the box refuses to open.
+pub fn opening_on(list: Issued, id: u8, challenge: [u8; 8], retries: Retries) -> Talk {
+    let mut octets = list.octets;
+    let mut counts = list.counts;
+    let mut reply = [0u8; 17];
+    let opened = Conversation::open(
+        id,
+        challenge,
+        retries,
+        LmChoice::Silent,
+        &mut octets,
+        list.used,
+        &mut counts,
+        &mut reply,
+    );
+    let sent = octets::part_of(&reply, 0, opened.written);
+    say_opening(opened, challenge, sent);
+    let peer = Peer::read_challenge(sent).peer;
+    let conversation = opened.conversation;
+    let handed = no_record();
+    Talk {
+        conversation,
+        peer,
+        list: Issued {
+            octets,
+            used: opened.used,
+            counts,
+        },
+        handed,
+    }
+}
+
+// The opening of a box that is alone on its list.
+pub fn opening(id: u8, challenge: [u8; 8], retries: Retries) -> Talk {
+    opening_on(empty_list(), id, challenge, retries)
+}
+
+// The same with the usual challenge, and with the retries that a box has by default.
+pub fn usual_opening() -> Talk {
+    opening(7, challenge(), Retries::Default)
+}
+
+// ---- a packet of the peer, and the box's answer
+
+// The box takes a packet of the peer, and writes its answer.
+fn step(conversation: Conversation, packet: &[u8], lookup: Lookup, reply: &mut [u8]) -> Answer {
+    lines::from_peer(packet);
+    conversation.step(packet, lookup, reply)
+}
+
+// The peer reads the answer.
+fn read(peer: Peer, answer: &[u8]) -> Peer {
+    lines::from_box(answer);
+    let read = peer.read_reply(answer);
+    let reading = read.reading;
+    let verdict = reading.verdict;
+    lines::verdict(verdict);
+    read.peer
+}
+
+// The box takes the packet that the peer wrote, the first octets of out, and answers, and the peer
+// reads the answer.
+pub fn answered(mut talk: Talk, wrote: PacketWritten, out: &[u8], lookup: Lookup) -> Talk {
+    let written = wrote.written;
+    let mut reply = [0u8; 17];
+    let before = talk.conversation;
+    let answer = step(
+        before,
+        octets::part_of(out, 0, written.length),
+        lookup,
+        &mut reply,
+    );
+    let conversation = answer.next;
+    let handed = answer.handed;
+    let waiting = wrote.peer;
+    let peer = read(waiting, octets::part_of(&reply, 0, answer.written));
+    talk.conversation = conversation;
+    talk.peer = peer;
+    talk.handed = handed;
+    talk
+}
+
+// ---- the Response
+
+// Writes a Response from a password.
+pub fn write_response(talk: Talk, password: &[u8], out: &mut [u8]) -> PacketWritten {
+    let peer = talk.peer;
+    peer.write_response(password, b"BENCH\\user", out)
+}
+
+pub fn response(talk: Talk, password: &[u8], lookup: Lookup) -> Talk {
+    let mut out = [0u8; 310];
+    let wrote = write_response(talk, password, &mut out);
+    answered(talk, wrote, &out, lookup)
+}
+
+// A Response from the right password, with a record.
+pub fn rightly_for(talk: Talk, lookup: Lookup) -> Talk {
+    let password = right();
+    response(talk, &password, lookup)
+}
+
+// A Response from a wrong one.
+pub fn wrongly_for(talk: Talk, lookup: Lookup) -> Talk {
+    let password = wrong();
+    response(talk, &password, lookup)
+}
+
+// The same with the record of the account.
+
+pub fn rightly(talk: Talk, expired: bool) -> Talk {
+    rightly_for(talk, account(expired))
+}
+
+pub fn wrongly(talk: Talk, expired: bool) -> Talk {
+    wrongly_for(talk, account(expired))
+}
+
+// ---- the change
+
+// Writes the change of the right password to the new one.
+pub fn write_change(talk: Talk, out: &mut [u8]) -> PacketWritten {
+    let old = right();
+    let new = new_one();
+    let filler = [0x5au8; 512];
+    let peer = talk.peer;
+    peer.write_change(&old, &new, &filler, out)
+}
+
+// The box decides by the record that it kept, so that none is lent.
+pub fn change(talk: Talk) -> Talk {
+    let mut out = [0u8; 1118];
+    let wrote = write_change(talk, &mut out);
+    answered(talk, wrote, &out, no_record())
+}

@@ -1,0 +1,31 @@
+// A box (the authenticator) and a peer on one table: what passes between them is printed, each packet
+// as a line and a sentence that says what it means.
+mod ends;
+mod lines;
+
+pub use ends::Issued;
+pub use ends::Talk;
+pub use ends::account;
+pub use ends::another_challenge;
+pub use ends::answered;
+pub use ends::challenge;
+pub use ends::change;
+pub use ends::new_one;
+pub use ends::no_record;
+pub use ends::old_hash;
+pub use ends::opening;
+pub use ends::opening_on;
+pub use ends::response;
+pub use ends::right;
+pub use ends::rightly;
+pub use ends::rightly_for;
+pub use ends::usual_opening;
+pub use ends::write_change;
+pub use ends::write_response;
+pub use ends::wrong;
+pub use ends::wrongly;
+pub use ends::wrongly_for;
+pub use lines::issued;
+pub use lines::place;
+pub use lines::say;
+pub use lines::title;

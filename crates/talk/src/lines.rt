@@ -1,0 +1,167 @@
+// What is printed: text, and packets.
+use libc::STDOUT_FILENO;
+use message::Call;
+use message::Failed;
+use message::Verdict;
+
+fn put(text: &[u8]) {
+    io::write_all(STDOUT_FILENO, text);
+}
+
+pub fn say(text: &[u8]) {
+    put(text);
+    put(b"\n");
+}
+
+// A heading, apart from what stands above it.
+pub fn title(text: &[u8]) {
+    put(b"\n");
+    say(text);
+}
+
+fn say_octet(x: u8) {
+    let pair = [octets::hex_digit(x / 16), octets::hex_digit(x)];
+    put(&pair);
+}
+
+// Octets as digits, 64 of them at most, and dots for the rest.
+fn say_octets(octets: &[u8]) {
+    let shown = octets::part_of(octets, 0, 64);
+    let mut i = 0;
+    while i < shown.len() {
+        say_octet(shown[i]);
+        i += 1;
+    }
+    if 64 < octets.len() {
+        put(b"..");
+    }
+    put(b"\n");
+}
+
+// The octets of a packet from a place on, as a rule has them or as a slip does.
+pub fn place(whose: &[u8], at: usize, octets: &[u8]) {
+    put(b"      ");
+    put(whose);
+    put(b" from octet ");
+    io::print_decimal(STDOUT_FILENO, at as u64);
+    put(b" on: ");
+    say_octets(octets);
+}
+
+// The list of issued challenges, of which so many places are used.
+pub fn issued(list: &[u8], used: usize) {
+    put(b"      The list has ");
+    io::print_decimal(STDOUT_FILENO, used as u64);
+    put(b" challenges of 8 octets, for each opening its own and one for each retry: ");
+    say_octets(octets::part_of(list, 0, octets_of(used)));
+}
+
+// The octets of so many challenges; the bound keeps the product small, and the lists here have
+// fewer.
+fn octets_of(challenges: usize) -> usize {
+    if challenges < 64 { 8 * challenges } else { 512 }
+}
+
+// An opening that was refused, with the challenge that it was lent.
+pub(crate) fn refused_opening(refusal: u8, challenge: [u8; 8]) {
+    put(b"      The box does not open with ");
+    say_octets(&challenge);
+    put(b"      Refusal ");
+    io::print_decimal(STDOUT_FILENO, refusal as u64);
+    if refusal == 16 {
+        put(b": it, or a successor of it, stands in the list");
+    }
+    say(b". No Challenge is sent.");
+}
+
+fn kind(code: u8) -> [u8; 15] {
+    match code {
+        1 => *b"Challenge      ",
+        2 => *b"Response       ",
+        3 => *b"Success        ",
+        4 => *b"Failure        ",
+        6 => *b"Change Password",
+        _ => *b"other          ",
+    }
+}
+
+// What a packet means; of a Failure the message itself.
+fn meaning(code: u8, octets: &[u8]) {
+    put(b"      ");
+    match code {
+        1 => say(
+            b"The box asks: show that you know the password, by answering these eight octets.",
+        ),
+        2 => say(b"The peer answers from a password, and says who it is: BENCH\\user."),
+        3 => say(b"The box lets the peer in."),
+        4 => say(octets::part_of(octets, 4, 256)),
+        6 => say(
+            b"The peer sends a new password, sealed under the old one's hash, to show that it knows both.",
+        ),
+        _ => say(b"This is no packet of MS-CHAP."),
+    }
+}
+
+// One packet: the way it goes, its kind, its identifier, its Length and its octets, and a line for
+// what it means.
+fn packet(way: &[u8], octets: &[u8]) {
+    let code = packets::octet(octets, 0);
+    let name = kind(code);
+    put(way);
+    put(&name);
+    put(b" id ");
+    io::print_decimal(STDOUT_FILENO, packets::octet(octets, 1) as u64);
+    put(b", ");
+    io::print_decimal(STDOUT_FILENO, packets::length(octets) as u64);
+    put(b" octets: ");
+    say_octets(octets);
+    meaning(code, octets);
+}
+
+pub(crate) fn from_box(octets: &[u8]) {
+    packet(b"   <- ", octets);
+}
+
+pub(crate) fn from_peer(octets: &[u8]) {
+    packet(b"   -> ", octets);
+}
+
+// Document 01's reasons.
+fn reason(e: u64) {
+    match e {
+        646 => put(b"not at this hour"),
+        647 => put(b"the account is disabled"),
+        648 => put(b"the password has expired"),
+        649 => put(b"no permission to dial in"),
+        691 => put(b"wrong name or password"),
+        709 => put(b"the change is not accepted"),
+        _ => put(b"another reason"),
+    }
+}
+
+fn call(c: Call) {
+    match c {
+        Call::Retry => say(
+            b"; try again, to the challenge grown by 23, under the next identifier.",
+        ),
+        Call::ChangeTwo => say(b"; change it, to the same challenge, under the next identifier."),
+        Call::ChangeOne => say(b"; a version 1 change is wanted, and nothing is sent."),
+        Call::End => say(b"; this is the end."),
+    }
+}
+
+fn failure(f: Failed) {
+    let c = f.call;
+    put(b"      The peer reads: ");
+    reason(f.e);
+    call(c)
+}
+
+// What the peer reads in a reply; a Success has been told.
+pub(crate) fn verdict(v: Verdict) {
+    match v {
+        Verdict::Success => {}
+        Verdict::Failure(f) => failure(f),
+        Verdict::Refused(_) => say(b"      The peer cannot read this."),
+    }
+}
