@@ -27,8 +27,8 @@ hashFrom none = noHash
 hashFrom (some h) = hashOf h
 
 -- NT hash, LM hash, and the marks disabled, barred by hours, no dial-in, expired
-abbrev pub accountOf : Hash → Hash → Bool → Bool → Bool → Bool → Account
-accountOf nt lm disabled hours dialin expired =
+abbrev pub accountWith : Hash → Hash → Bool → Bool → Bool → Bool → Account
+accountWith nt lm disabled hours dialin expired =
     record {
       nt = nt;
       lm = lm;
@@ -40,7 +40,7 @@ accountOf nt lm disabled hours dialin expired =
 
 -- neither hash, no mark
 abbrev pub blankAccount : Account
-blankAccount = accountOf noHash noHash false false false false
+blankAccount = accountWith noHash noHash false false false false
 
 -- ---- looked up
 
@@ -58,7 +58,7 @@ notFound = lookupOf false blankAccount
 -- after an accepted change: the new NT hash, no LM hash, expired cleared, the other marks kept
 abbrev pub changed : Account → List ℕ → Account
 changed a h =
-    accountOf (hashOf h) noHash (a .disabled) (a .«hours_denied») (a .«dialin_denied») false
+    accountWith (hashOf h) noHash (a .disabled) (a .«hours_denied») (a .«dialin_denied») false
 
 -- ---- the rightful user's
 

@@ -5,7 +5,7 @@ ghost use Rattle.accounts.specs.Account.{
   noHash,
   hashOf,
   hashIf,
-  accountOf,
+  accountWith,
   blankAccount,
   notFound,
   found,
@@ -56,7 +56,7 @@ pub fn no_hash() -> Hash
     hash_if(false, [0; 16])
 }
 
-pub fn account_of(
+pub fn account_with(
     nt: Hash,
     lm: Hash,
     disabled: bool,
@@ -64,7 +64,7 @@ pub fn account_of(
     dialin: bool,
     expired: bool,
 ) -> Account
-    ensures { λ r. ⌜ r ≡ accountOf nt lm disabled hours dialin expired ⌝ }
+    ensures { λ r. ⌜ r ≡ accountWith nt lm disabled hours dialin expired ⌝ }
 {
     Account {
         nt,
@@ -80,7 +80,7 @@ pub fn account_of(
 pub fn blank_account() -> Account
     ensures { λ r. ⌜ r ≡ blankAccount ⌝ }
 {
-    account_of(no_hash(), no_hash(), false, false, false, false)
+    account_with(no_hash(), no_hash(), false, false, false, false)
 }
 
 // ---- looked up
@@ -109,7 +109,7 @@ pub fn not_found() -> Lookup
 pub fn changed(account: Account, hash: [u8; 16]) -> Account
     ensures { λ r. ⌜ r ≡ changed account hash ⌝ }
 {
-    account_of(
+    account_with(
         hash_of(hash),
         no_hash(),
         account.disabled,

@@ -29,7 +29,7 @@ use Rattle.authenticator.specs.Judge.{
   judge,
 }
 use Rattle.authenticator.specs.Step.{Outcome}
-use Rattle.authenticator.specs.Steps.{Lent, stepOn, nextAfter, refusalAt, judged}
+use Rattle.authenticator.specs.Steps.{StepInput, stepOn, nextAfter, refusalAt, judged}
 use Rattle.authenticator.specs.declared.Conversation.{Conversation}
 use Rattle.authenticator.specs.declared.Phase.{Phase}
 use Rattle.authenticator.specs.declared.Phase.the-variants.{Response, Change, Ended}
@@ -87,7 +87,7 @@ unfolding judge
 judge-less c p l live = phase-less (c .phase) c p l refl live
 
 -- for any packet, record and buffer
-pub judged-less : (c : Conversation) (s : Lent) → judged stepOn c s + leftIn (nextAfter stepOn c s) ≤ leftIn c
+pub judged-less : (c : Conversation) (s : StepInput) → judged stepOn c s + leftIn (nextAfter stepOn c s) ≤ leftIn c
 judged-less c s = which (eqb (refusalAt stepOn c s) 0) refl
   where
     which : (t : Bool) → eqb (refusalAt stepOn c s) 0 ≡ t → judged stepOn c s + leftIn (nextAfter stepOn c s) ≤ leftIn c

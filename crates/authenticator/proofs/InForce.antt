@@ -22,7 +22,7 @@ use Rattle.verify.specs.Response.{responseReason}
 use Rattle.authenticator.specs.Judge.{afterReason, judgeResponse, changeJudgement, judgeChange, judgeIn, judge}
 use Rattle.verify.specs.Change.{newHash}
 use Rattle.authenticator.specs.Step.{Outcome}
-use Rattle.authenticator.specs.Steps.{Lent, stepOn, nextAfter, refusalAt}
+use Rattle.authenticator.specs.Steps.{StepInput, stepOn, nextAfter, refusalAt}
 use Rattle.accounts.specs.declared.Account.{Account}
 use Rattle.accounts.specs.declared.Lookup.{Lookup}
 use Rattle.authenticator.proofs.Steps.{judged-step, number-step, refused-same}
@@ -76,7 +76,7 @@ unfolding judge
 judge-adds-none c p l x h = phase-adds-none (c .phase) c p l x h
 
 -- for any packet, record and buffer
-pub step-adds-none : (c : Conversation) (s : Lent) (x : List ℕ) → CanBeInForce (nextAfter stepOn c s) x → CanBeInForce c x
+pub step-adds-none : (c : Conversation) (s : StepInput) (x : List ℕ) → CanBeInForce (nextAfter stepOn c s) x → CanBeInForce c x
 step-adds-none c s x h = which (eqb (refusalAt stepOn c s) 0) refl
   where
     which : (t : Bool) → eqb (refusalAt stepOn c s) 0 ≡ t → CanBeInForce c x

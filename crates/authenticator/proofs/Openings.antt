@@ -18,7 +18,7 @@ use Rattle.packets.specs.Reply.{challengePacket, badReplyBuffer}
 use Rattle.challenges.proofs.Laid.{length-challenges-from}
 use Rattle.packets.proofs.Writing.{taken}
 use Rattle.authenticator.specs.Conversation.{closed}
-use Rattle.authenticator.specs.Opening.{Opening, retriesOf, spends, openRefusal, openedIssued, firstConversation, openingPacket, openedBy, opened, openedBuffer, Opens}
+use Rattle.authenticator.specs.Opening.{Opening, retriesOf, spends, openRefusal, openedIssued, firstConversation, openingPacket, openedBy, opened, openedBuffer, OpenedAs}
 use Rattle.authenticator.specs.declared.Opened.{Opened}
 use Rattle.authenticator.proofs.Spends.{challenges-wide, challenges-distinct}
 
@@ -151,7 +151,7 @@ module _ (o : Opening) (few : retriesOf (o .retries) ≤ 7) (room : 17 ≤ lengt
 
 module _ (o : Opening) {r : Opened} {list counts buffer : List ℕ} where
   pub refused-promise : (n : ℕ) → openRefusal o ≡ n → n ≢ 0 → r ≡ record { refusal = n; conversation = closed; written = 0; used = o .issued .used }
-      → list ≡ o .issued .buffer → counts ≡ o .issued .counts → buffer ≡ o .buffer → Opens o r (record { buffer = list; used = r .used; counts = counts }) buffer
+      → list ≡ o .issued .buffer → counts ≡ o .issued .counts → buffer ≡ o .buffer → OpenedAs o r (record { buffer = list; used = r .used; counts = counts }) buffer
   refused-promise n e not e₁ e₂ e₃ e₄ =
       let k = opened-not o (λ f. not (sym e ∙ sym (opened-number o) ∙ f)) in
       let u = ap (λ (x : Opened). x .used) e₁ in
@@ -163,7 +163,7 @@ module _ (o : Opening) {r : Opened} {list counts buffer : List ℕ} where
 
   pub accepted-promise : openRefusal o ≡ 0 → record { buffer = list; used = r .used; counts = counts } ≡ spent 8 (spends o) (o .issued)
       → r ≡ record { refusal = 0; conversation = firstConversation o; written = length (openingPacket o); used = r .used }
-      → buffer ≡ headed (openingPacket o) (o .buffer) → Opens o r (record { buffer = list; used = r .used; counts = counts }) buffer
+      → buffer ≡ headed (openingPacket o) (o .buffer) → OpenedAs o r (record { buffer = list; used = r .used; counts = counts }) buffer
   accepted-promise e h e₁ e₂ =
       let ok = opened-number o ∙ e in
       let after = h ∙ sym (opened-spent o ok) in

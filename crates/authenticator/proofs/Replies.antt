@@ -36,7 +36,7 @@ use Rattle.authenticator.specs.Judge.{
 }
 use Rattle.authenticator.specs.Encode.{version, retryDigit, replyPacket}
 use Rattle.authenticator.specs.Step.{reasonIn, Outcome, judgedAs}
-use Rattle.authenticator.specs.Steps.{Lent, stepOn, refusalAt, replyOf}
+use Rattle.authenticator.specs.Steps.{StepInput, stepOn, refusalAt, replyOf}
 use Rattle.authenticator.specs.declared.Conversation.{Conversation}
 use Rattle.authenticator.specs.declared.Judgement.{Judgement}
 use Rattle.authenticator.specs.declared.Phase.{Phase}
@@ -99,7 +99,7 @@ read-reply id (Failure e true) behind small =
 read-reply id (Failure e false) behind small =
     failure-read id e 0 version behind small (omega arith) (omega arith)
 
-module _ (c : Conversation) (s : Lent) (ok : refusalAt stepOn c s ≡ 0) where
+module _ (c : Conversation) (s : StepInput) (ok : refusalAt stepOn c s ≡ 0) where
   abbrev reason : ℕ
   reason = reasonIn (stepOn c s .answer .kind)
 

@@ -26,7 +26,7 @@ use Rattle.authenticator.specs.Step.{
   step,
 }
 use Rattle.authenticator.specs.Steps.{
-  Lent,
+  StepInput,
   stepOn,
   drewReply,
   nextAfter,
@@ -73,14 +73,14 @@ module _ (c : Conversation) (p : List ℕ) (l : Lookup) (b : List ℕ) where
 
 -- a refused step leaves the conversation and the buffer as they were, writes nothing and updates no
 -- record
-pub refused-whole : (c : Conversation) (s : Lent) → refusalAt stepOn c s ≢ 0
+pub refused-whole : (c : Conversation) (s : StepInput) → refusalAt stepOn c s ≢ 0
     → stepOn c s ≡ refusedAs (refusalAt stepOn c s) c (s .buffer)
 refused-whole c s h =
     let n = number-step c (s .packet) (s .account) (s .buffer) in
     refused-step c (s .packet) (s .account) (s .buffer) (λ e. h (n ∙ e))
     ∙ ap (λ (k : ℕ). refusedAs k c (s .buffer)) (sym n)
 
-pub refused-same : (c : Conversation) (s : Lent) → refusalAt stepOn c s ≢ 0
+pub refused-same : (c : Conversation) (s : StepInput) → refusalAt stepOn c s ≢ 0
     → nextAfter stepOn c s ≡ c
 refused-same c s h = ap (λ (o : Outcome). o .answer .next) (refused-whole c s h)
 
@@ -94,7 +94,7 @@ reply-of c j b h =
     taken (replyPacket (c .id) (j .reply)) b (omega arith)
 
 -- "a packet is judged exactly when it draws a reply": 1 where the step is not refused, 0 where it is
-module _ (c : Conversation) (s : Lent) where
+module _ (c : Conversation) (s : StepInput) where
   abbrev countOf : Outcome → ℕ
   countOf o = cond (drewReply o (s .buffer)) 1 0
 

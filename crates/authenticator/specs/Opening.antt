@@ -81,7 +81,7 @@ unfoldable pub openedBuffer : Opening → List ℕ
 openedBuffer o = cond (eqb (openRefusal o) 0) (headed (openingPacket o) (o .buffer)) (o .buffer)
 
 -- what an opening answers (r), and leaves in the list and in the reply buffer
-pub record Opens (o : Opening) (r : Opened) (issued : Issued) (buffer : List ℕ) : Type 0 where
+pub record OpenedAs (o : Opening) (r : Opened) (issued : Issued) (buffer : List ℕ) : Type 0 where
   pub answer : r ≡ opened o
   pub list : issued ≡ openedIssued o
   pub reply : buffer ≡ openedBuffer o

@@ -4,7 +4,7 @@ ghost use Prim.Native.Nat.{suc, _≤_};
 ghost use Rattle.issued.specs.Issued.{spendRefusal, spent};
 ghost use Rattle.challenges.specs.Challenges.{challengesFrom};
 ghost use Rattle.authenticator.specs.Conversation.{closed};
-ghost use Rattle.authenticator.specs.Opening.{retriesOf, lmAllowed, Opens};
+ghost use Rattle.authenticator.specs.Opening.{retriesOf, lmAllowed, OpenedAs};
 use crate::Conversation;
 use crate::LmChoice;
 use crate::Opened;
@@ -71,7 +71,7 @@ impl Conversation {
         counts: &mut [u16],
         reply: &mut [u8],
     ) -> Opened
-        ensures { λ r. ⌜ Opens (record { id = id; challenge = challenge; retries = retries; lm = lm; issued = record { buffer = now (list .entry); used = used; counts = now (counts .entry) }; buffer = now (reply .entry) }) r (record { buffer = now (list .exit); used = r .used; counts = now (counts .exit) }) (now (reply .exit)) ⌝ }
+        ensures { λ r. ⌜ OpenedAs (record { id = id; challenge = challenge; retries = retries; lm = lm; issued = record { buffer = now (list .entry); used = used; counts = now (counts .entry) }; buffer = now (reply .entry) }) r (record { buffer = now (list .exit); used = r .used; counts = now (counts .exit) }) (now (reply .exit)) ⌝ }
     {
         let r = retries_of(retries);
         if 7 < r {

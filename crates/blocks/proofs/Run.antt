@@ -8,7 +8,7 @@ use native.Mathlib.Omega.{arith}
 use lib.ListN.{length, take, drop, replicate, length-drop, length-append, length-replicate}
 use lib.Seq.{take-append-le, drop-append-le, drop-drop, take-at}
 use Rattle.blocks.specs.declared.Tail.{Tail}
-use Rattle.blocks.specs.Blocks.{runBlocks, zeros, padded, hashed, tailLength, tailOf}
+use Rattle.blocks.specs.Blocks.{runBlocks, zeros, padded, hashBlocks, tailLength, tailOf}
 
 module _ {S : Type 0} (f : List ℕ → S → S) where
   -- of m octets, 64 at least: a block, and then the rest
@@ -90,11 +90,11 @@ module _ (e m : List ℕ) (eight : length e ≡ 8) where
   tail-fits = omega arith
 
 -- how a hash goes about it: r are the registers after the message's whole blocks, q those after the used octets of the tail t
-pub hashed-by-tail : {S : Type 0} (f : List ℕ → S → S) (len : ℕ → List ℕ) → ((x : ℕ) → length (len x) ≡ 8) → (s : S) (m : List ℕ) {r q : S} {t : Tail}
+pub hash-by-tail : {S : Type 0} (f : List ℕ → S → S) (len : ℕ → List ℕ) → ((x : ℕ) → length (len x) ≡ 8) → (s : S) (m : List ℕ) {r q : S} {t : Tail}
     → r ≡ runBlocks f (length m / 64) m s → t ≡ tailOf (len (length m * 8)) m
-    → q ≡ runBlocks f (length (take (t .used) (t .octets)) / 64) (take (t .used) (t .octets)) r → q ≡ hashed f len s m
-unfolding hashed
-hashed-by-tail {S} f len eight s m {r} {q} {t} er et eq =
+    → q ≡ runBlocks f (length (take (t .used) (t .octets)) / 64) (take (t .used) (t .octets)) r → q ≡ hashBlocks f len s m
+unfolding hashBlocks
+hash-by-tail {S} f len eight s m {r} {q} {t} er et eq =
     let e = len (length m * 8) in
     let e₈ = eight (length m * 8) in
     let tail = drop (length m / 64 * 64) (padded e m) in

@@ -5,7 +5,7 @@ use mathlib.Core.Path.{_≡_, refl}
 use mathlib.Core.List.{List, [], _∷_}
 use Prim.Native.Nat.{ℕ, zero, suc, _+_, _*_, _%_}
 use Rattle.octets.specs.Parts.{part}
-use Rattle.rc4.specs.Rc4.{swapped, upto, mixJ, mix, mixed, started, nextI, nextJ, next, octet, keystream, xors, ciphered, crypted}
+use Rattle.rc4.specs.Rc4.{swapped, upto, mixJ, mix, mixed, started, nextI, nextJ, nextState, outputOctet, keystream, xors, ciphered, crypted}
 use Rattle.des.specs.Tables.{ip, fp, expansion, permutation, s1, s2, s3, s4, s5, s6, s7, s8, boxes, pc1, pc2, shifts}
 use Rattle.des.specs.Des.{cipherF, crypt, roundKeys, expandKey, scheduleOf, desEncrypt}
 use Rattle.credentials.specs.Credentials.{oldUnderNew, plainBlock, sealedBlock}
@@ -30,5 +30,5 @@ filler (suc n) i = (7 * i + 3) % 256 ∷ filler n (suc i)
 -- slip 3: the length, 0E 00 00 00, goes on with the password's keystream and does not start it anew
 sealed : part 512 4 (sealedBlock old (filler 512 0) (0x4d ∷ 0 ∷ 0x79 ∷ 0 ∷ 0x4e ∷ 0 ∷ 0x65 ∷ 0 ∷ 0x77 ∷ 0 ∷ 0x50 ∷ 0 ∷ 0x77 ∷ 0 ∷ []))
     ≡ 0xae ∷ 0x36 ∷ 0xab ∷ 0x02 ∷ []
-unfolding sealedBlock plainBlock crypted ciphered xors keystream octet next nextI nextJ swapped upto mixJ mix mixed started
+unfolding sealedBlock plainBlock crypted ciphered xors keystream outputOctet nextState nextI nextJ swapped upto mixJ mix mixed started
 sealed = refl

@@ -10,7 +10,7 @@ use lib.Dec.{T}
 use lib.ListN.{getD}
 use lib.Pow.{pow-pos, mod-pow-add, shr-shr}
 use lib.Bits.{bitXor, xor-shifted}
-use Rattle.des.specs.Code.{placeTable}
+use Rattle.des.specs.Inner.{placeTable}
 use Rattle.des.proofs.Linear.{Linear, at-zero, agree, lin-id, lin-after, lin-mod, onBasis}
 use Rattle.des.proofs.Entries.{entry-at}
 

@@ -10,7 +10,7 @@ use lib.ListN.{getD}
 use lib.Bits.{bitXor, xor-shr, xor-mod}
 use Rattle.des.specs.Tables.{expansion, boxes}
 use Rattle.des.specs.Des.{permute, select, substitute}
-use Rattle.des.specs.Code.{spread}
+use Rattle.des.specs.Inner.{spread}
 use Rattle.des.proofs.Linear.{Linear, agree, onBasis, lin-id, lin-xor, lin-shr, lin-mod, lin-shl}
 use Rattle.des.proofs.Permute.{lin-permute}
 

@@ -8,7 +8,7 @@ use lib.Dec.{ltb, ltb→lt}
 use lib.ListN.{getD}
 use Rattle.des.specs.Tables.{boxes}
 use Rattle.des.specs.Des.{select}
-use Rattle.des.specs.Code.{boxTable}
+use Rattle.des.specs.Inner.{boxTable}
 use Rattle.des.proofs.Entries.{entry-at, every-at}
 
 pub selection-at : (i b : ℕ) → i < 8 → b < 64 → getD boxTable (i * 64 + b) 0 ≡ select (getD boxes i []) b

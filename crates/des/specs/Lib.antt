@@ -1,3 +1,3 @@
 pub mod Tables
 pub mod Des
-pub mod Code
+pub mod Inner

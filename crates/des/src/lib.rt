@@ -8,14 +8,14 @@ ghost use lib.ListN.{getD};
 ghost use Rattle.octets.specs.Numbers.{toBe};
 ghost use Rattle.des.specs.Tables.{ip, fp, permutation, boxes, pc1, pc2};
 ghost use Rattle.des.specs.Des.{permute, select, cipherF, crypt, rotate, roundKeys, half, expandKey, dropParity, scheduleOf, desEncrypt, desDecrypt, desThree};
-ghost use Rattle.des.specs.Code.{swapped, spread, boxTable, permutationTable, choiceTable};
+ghost use Rattle.des.specs.Inner.{bitsSwapped, spread, boxTable, permutationTable, choiceTable};
 
 // ---- the initial permutation and its inverse
 
 // Those bits of x that the mask m names change places with the bits n places above them.
 fn swap_bits(x: u64, n: u32, m: u64) -> u64
     requires { ⌜ n < 64 ⌝ }
-    ensures { λ r. ⌜ r ≡ swapped n m x ⌝ }
+    ensures { λ r. ⌜ r ≡ bitsSwapped n m x ⌝ }
 {
     let t = ((x >> n) ^ x) & m;
     x ^ t ^ (t << n)

@@ -2,7 +2,7 @@
 // every indexing.
 ghost use mathlib.Core.Path.{_≡_};
 ghost use Rattle.des.specs.Tables.{pc1, shifts};
-ghost use Rattle.des.specs.Code.{boxTable, permutationTable, choiceTable};
+ghost use Rattle.des.specs.Inner.{boxTable, permutationTable, choiceTable};
 
 // The numbers of left shifts before each round key.
 pub fn left_shifts() -> [u32; 16]

@@ -12,7 +12,7 @@ use lib.Seq.{ext-getD, getD-set-same, getD-set-other, set-out, append-snoc}
 use Rattle.octets.specs.Parts.{agrees}
 use Rattle.octets.proofs.Parts.{agrees-equal}
 use Rattle.issued.specs.Issued.{entries, holds, lastOf, ending, endings, countsOf}
-use Rattle.issued.specs.Code.{raisedAt, raised, Room}
+use Rattle.issued.specs.Inner.{raisedAt, raised, Room}
 use Rattle.issued.proofs.Listing.{Lie, entries-next, rest-part, rest-lies, last-first}
 
 -- ---- how many end in an octet

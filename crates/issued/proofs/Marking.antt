@@ -11,7 +11,7 @@ use lib.Dec.{eqb}
 use lib.ListN.{length, take, drop, getD, set, length-set}
 use lib.Seq.{getD-set-same, getD-set-other}
 use Rattle.issued.specs.Issued.{entries, holds, meets, lastOf, ending}
-use Rattle.issued.specs.Code.{Marked}
+use Rattle.issued.specs.Inner.{Marked}
 use Rattle.issued.proofs.Listing.{Lie, entries-next, rest-part, rest-lies, last-first, meets-next, meets-none}
 
 -- one more mark: an octet that is still unmarked was so before, and ends as many of the rest

@@ -1,2 +1,2 @@
 pub mod Issued
-pub mod Code
+pub mod Inner

@@ -3,7 +3,7 @@ ghost use mathlib.Core.Path.{_≡_};
 ghost use Prim.Native.Nat.{_<_};
 ghost use lib.ListN.{length, getD};
 ghost use Rattle.octets.specs.Parts.{agrees};
-ghost use Rattle.issued.specs.Code.{raisedAt};
+ghost use Rattle.issued.specs.Inner.{raisedAt};
 
 // Whether a and b are the same counts: `octets::agree` for another type, as no function is over the type.
 pub(crate) fn agree(a: &[u16], b: &[u16]) -> bool

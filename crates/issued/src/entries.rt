@@ -4,7 +4,7 @@ ghost use mathlib.Core.Bool.{false, _||_};
 ghost use Prim.Native.Nat.{_*_, _≤_, _<_};
 ghost use lib.ListN.{length, replicate};
 ghost use Rattle.issued.specs.Issued.{entries, holds, meets};
-ghost use Rattle.issued.specs.Code.{raised, Room, Marked};
+ghost use Rattle.issued.specs.Inner.{raised, Room, Marked};
 use crate::counts::raise;
 
 // Whether entry is one of the first n entries of run.

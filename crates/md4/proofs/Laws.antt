@@ -7,18 +7,18 @@ use Prim.Native.Nat.{ℕ, _≤_, _<_}
 use borrow.Author.Tests.{le-leb, lt-leb}
 use lib.ListN.{length, replicate}
 use Rattle.md4.specs.declared.Digested.{Digested}
-use Rattle.md4.specs.Md4.{md4Of, digestOf, answer}
+use Rattle.md4.specs.Md4.{md4Of, digestOf, md4Answer}
 
 pub length-md4 : (m : List ℕ) → length (md4Of m) ≡ 16
 unfolding md4Of digestOf
 length-md4 m = refl
 
-pub answered : (m : List ℕ) → length m ≤ 4096 → answer m ≡ record { refusal = 0; digest = md4Of m }
-unfolding answer
+pub answered : (m : List ℕ) → length m ≤ 4096 → md4Answer m ≡ record { refusal = 0; digest = md4Of m }
+unfolding md4Answer
 answered m h =
     ap (λ (b : Bool). cond {A = Digested} b (record { refusal = 0; digest = md4Of m }) (record { refusal = 8; digest = replicate 16 0 })) (le-leb (length m) 4096 h)
 
-pub refused : (m : List ℕ) → 4096 < length m → answer m ≡ record { refusal = 8; digest = replicate 16 0 }
-unfolding answer
+pub refused : (m : List ℕ) → 4096 < length m → md4Answer m ≡ record { refusal = 8; digest = replicate 16 0 }
+unfolding md4Answer
 refused m h =
     ap (λ (b : Bool). cond {A = Digested} b (record { refusal = 0; digest = md4Of m }) (record { refusal = 8; digest = replicate 16 0 })) (lt-leb (length m) 4096 h)

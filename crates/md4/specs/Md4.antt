@@ -8,7 +8,7 @@ use lib.Dec.{leb}
 use lib.ListN.{length, getD, replicate}
 use Rattle.octets.specs.Parts.{part}
 use Rattle.octets.specs.Numbers.{fromLe, toLe}
-use Rattle.blocks.specs.Blocks.{hashed}
+use Rattle.blocks.specs.Blocks.{hashBlocks}
 use Rattle.md4.specs.declared.Registers.{Registers}
 use Rattle.md4.specs.declared.Digested.{Digested}
 
@@ -31,18 +31,18 @@ auxH x y z = bitXor (bitXor x y) z
 
 -- [ABCD k s]: A becomes (A + aux(B,C,D) + X[k] + add) <<< s. The registers then move on by one place, so that the next operation,
 -- which the RFC writes [DABC k s], reads them in the same order.
-unfoldable pub step : (ℕ → ℕ → ℕ → ℕ) → ℕ → ℕ → ℕ → Registers → Registers
-step aux add s x r =
+unfoldable pub operation : (ℕ → ℕ → ℕ → ℕ) → ℕ → ℕ → ℕ → Registers → Registers
+operation aux add s x r =
     record { a = r .d; b = rotl s (plus (plus (plus (r .a) (aux (r .b) (r .c) (r .d))) x) add); c = r .b; d = r .c }
 
 -- the operations of a round, from its table of k and s; x is the block's words
-unfoldable pub run : (ℕ → ℕ → ℕ → ℕ) → ℕ → List ℕ → List (ℕ × ℕ) → Registers → Registers
-run aux add x [] r = r
-run aux add x (e ∷ t) r = run aux add x t (step aux add (e .1) (getD x (e .0) 0) r)
+unfoldable pub operations : (ℕ → ℕ → ℕ → ℕ) → ℕ → List ℕ → List (ℕ × ℕ) → Registers → Registers
+operations aux add x [] r = r
+operations aux add x (e ∷ t) r = operations aux add x t (operation aux add (e .1) (getD x (e .0) 0) r)
 
 -- four operations in a row, as the code does them; each register is then in its own place again
 unfoldable pub row : (ℕ → ℕ → ℕ → ℕ) → ℕ → ℕ → ℕ → ℕ → ℕ → ℕ → ℕ → ℕ → ℕ → Registers → Registers
-row aux add s₀ s₁ s₂ s₃ x₀ x₁ x₂ x₃ r = step aux add s₃ x₃ (step aux add s₂ x₂ (step aux add s₁ x₁ (step aux add s₀ x₀ r)))
+row aux add s₀ s₁ s₂ s₃ x₀ x₁ x₂ x₃ r = operation aux add s₃ x₃ (operation aux add s₂ x₂ (operation aux add s₁ x₁ (operation aux add s₀ x₀ r)))
 
 -- the tables of the three rounds, a row for each row of the RFC
 unfoldable pub table1 : List (ℕ × ℕ)
@@ -68,13 +68,13 @@ table3 =
 
 -- round 1 adds no constant, round 2 the square root of 2, round 3 that of 3
 unfoldable pub round1 : List ℕ → Registers → Registers
-round1 x = run auxF 0 x table1
+round1 x = operations auxF 0 x table1
 
 unfoldable pub round2 : List ℕ → Registers → Registers
-round2 x = run auxG 0x5a827999 x table2
+round2 x = operations auxG 0x5a827999 x table2
 
 unfoldable pub round3 : List ℕ → Registers → Registers
-round3 x = run auxH 0x6ed9eba1 x table3
+round3 x = operations auxH 0x6ed9eba1 x table3
 
 -- each register, increased by the value it had before the block
 unfoldable pub increased : Registers → Registers → Registers
@@ -94,8 +94,8 @@ unfoldable pub block : List ℕ → Registers → Registers
 block l s = increased s (round3 (wordsOf l) (round2 (wordsOf l) (round1 (wordsOf l) s)))
 
 -- section 3.3: the registers at the start
-unfoldable pub start : Registers
-start = record { a = 0x67452301; b = 0xefcdab89; c = 0x98badcfe; d = 0x10325476 }
+unfoldable pub initialRegisters : Registers
+initialRegisters = record { a = 0x67452301; b = 0xefcdab89; c = 0x98badcfe; d = 0x10325476 }
 
 -- section 3.5: the digest, the low-order octet of A first
 unfoldable pub digestOf : Registers → List ℕ
@@ -103,11 +103,11 @@ digestOf r = toLe 4 (r .a) ++ (toLe 4 (r .b) ++ (toLe 4 (r .c) ++ toLe 4 (r .d))
 
 -- the digest of a message; its length goes in as 64 bits, the low-order word and octet first (section 3.2)
 unfoldable pub md4Of : List ℕ → List ℕ
-md4Of m = digestOf (hashed block (toLe 8) start m)
+md4Of m = digestOf (hashBlocks block (toLe 8) initialRegisters m)
 
 -- what the public function answers: the digest of at most 4,096 octets, else refusal 8 and sixteen octets 0
-unfoldable pub answer : List ℕ → Digested
-answer m =
+unfoldable pub md4Answer : List ℕ → Digested
+md4Answer m =
     cond (leb (length m) 4096)
     (record { refusal = 0; digest = md4Of m })
     (record { refusal = 8; digest = replicate 16 0 })

@@ -5,7 +5,7 @@ ghost use lib.ListN.{length};
 ghost use Rattle.octets.specs.Parts.{part};
 ghost use Rattle.octets.specs.Numbers.{fromLe};
 ghost use Rattle.blocks.specs.Blocks.{runBlocks};
-ghost use Rattle.md4.specs.Md4.{plus, rotl, auxF, auxG, auxH, step, row, round1, round2, round3, increased, wordsOf, block, digestOf, md4Of, answer};
+ghost use Rattle.md4.specs.Md4.{plus, rotl, auxF, auxG, auxH, operation, row, round1, round2, round3, increased, wordsOf, block, digestOf, md4Of, md4Answer};
 use std::num::wrapping_add_u32;
 
 // The registers A, B, C and D.
@@ -61,9 +61,9 @@ fn mix(a: u32, f: u32, x: u32, add: u32, s: u32) -> u32
     )
 }
 
-fn step_f(r: Registers, s: u32, x: u32) -> Registers
+fn operation_f(r: Registers, s: u32, x: u32) -> Registers
     requires { ⌜ (0 < s) × (s < 32) ⌝ }
-    ensures { λ q. ⌜ q ≡ step auxF 0 s x r ⌝ }
+    ensures { λ q. ⌜ q ≡ operation auxF 0 s x r ⌝ }
 {
     let b = mix(r.a, choose(r.b, r.c, r.d), x, 0, s);
     Registers {
@@ -74,9 +74,9 @@ fn step_f(r: Registers, s: u32, x: u32) -> Registers
     }
 }
 
-fn step_g(r: Registers, s: u32, x: u32) -> Registers
+fn operation_g(r: Registers, s: u32, x: u32) -> Registers
     requires { ⌜ (0 < s) × (s < 32) ⌝ }
-    ensures { λ q. ⌜ q ≡ step auxG 0x5a827999 s x r ⌝ }
+    ensures { λ q. ⌜ q ≡ operation auxG 0x5a827999 s x r ⌝ }
 {
     let b = mix(r.a, majority(r.b, r.c, r.d), x, 0x5a827999, s);
     Registers {
@@ -87,9 +87,9 @@ fn step_g(r: Registers, s: u32, x: u32) -> Registers
     }
 }
 
-fn step_h(r: Registers, s: u32, x: u32) -> Registers
+fn operation_h(r: Registers, s: u32, x: u32) -> Registers
     requires { ⌜ (0 < s) × (s < 32) ⌝ }
-    ensures { λ q. ⌜ q ≡ step auxH 0x6ed9eba1 s x r ⌝ }
+    ensures { λ q. ⌜ q ≡ operation auxH 0x6ed9eba1 s x r ⌝ }
 {
     let b = mix(r.a, parity(r.b, r.c, r.d), x, 0x6ed9eba1, s);
     Registers {
@@ -103,19 +103,19 @@ fn step_h(r: Registers, s: u32, x: u32) -> Registers
 fn row_f(r: Registers, x0: u32, x1: u32, x2: u32, x3: u32) -> Registers
     ensures { λ q. ⌜ q ≡ row auxF 0 3 7 11 19 x0 x1 x2 x3 r ⌝ }
 {
-    step_f(step_f(step_f(step_f(r, 3, x0), 7, x1), 11, x2), 19, x3)
+    operation_f(operation_f(operation_f(operation_f(r, 3, x0), 7, x1), 11, x2), 19, x3)
 }
 
 fn row_g(r: Registers, x0: u32, x1: u32, x2: u32, x3: u32) -> Registers
     ensures { λ q. ⌜ q ≡ row auxG 0x5a827999 3 5 9 13 x0 x1 x2 x3 r ⌝ }
 {
-    step_g(step_g(step_g(step_g(r, 3, x0), 5, x1), 9, x2), 13, x3)
+    operation_g(operation_g(operation_g(operation_g(r, 3, x0), 5, x1), 9, x2), 13, x3)
 }
 
 fn row_h(r: Registers, x0: u32, x1: u32, x2: u32, x3: u32) -> Registers
     ensures { λ q. ⌜ q ≡ row auxH 0x6ed9eba1 3 9 11 15 x0 x1 x2 x3 r ⌝ }
 {
-    step_h(step_h(step_h(step_h(r, 3, x0), 9, x1), 11, x2), 15, x3)
+    operation_h(operation_h(operation_h(operation_h(r, 3, x0), 9, x1), 11, x2), 15, x3)
 }
 
 fn first_round(s: Registers, x: [u32; 16]) -> Registers
@@ -252,7 +252,7 @@ fn digest(input: &[u8]) -> [u8; 16]
 
 // The MD4 digest of input, or refusal 8 where it has more than 4,096 octets.
 pub fn md4(input: &[u8]) -> Digested
-    ensures { λ r. ⌜ r ≡ answer (now (input .entry)) ⌝ }
+    ensures { λ r. ⌜ r ≡ md4Answer (now (input .entry)) ⌝ }
 {
     if 4096 < input.len() {
         return Digested {

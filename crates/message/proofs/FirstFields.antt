@@ -18,9 +18,9 @@ use Rattle.message.specs.declared.WordKind.the-variants.{Text}
 use Rattle.message.specs.declared.Fields.{Fields}
 use Rattle.message.specs.Message.{words, digitsOf, isField, fieldOf, orElse}
 use Rattle.message.specs.Message.{fieldE, fieldR, fieldV, fieldC}
-use Rattle.message.specs.Walk.{ParsedFields, parsedIn, joined, wordAt, digitsAt, parsedAt}
-use Rattle.message.specs.Walk.{completed, kindIf, kindOf, isNowhere, lacks, isNew, withPlace}
-use Rattle.message.specs.Walk.{oneIf, missing, Noted}
+use Rattle.message.specs.Inner.{ParsedFields, parsedIn, joined, wordAt, digitsAt, parsedAt}
+use Rattle.message.specs.Inner.{completed, kindIf, kindOf, isNowhere, lacks, isNew, withPlace}
+use Rattle.message.specs.Inner.{oneIf, missing, Noted}
 use Rattle.message.proofs.Words.{behind, length-word, word-and-others, words-behind}
 
 -- ---- a word is of one kind

@@ -14,7 +14,7 @@ use Rattle.octets.specs.Digits.{digitOf}
 use Rattle.message.specs.declared.Place.{Place}
 use Rattle.message.specs.declared.Place.the-variants.{At}
 use Rattle.message.specs.Message.{allBelow, digitsOf, isField, fieldOf, fieldC, orElse, first}
-use Rattle.message.specs.Walk.{wordAt, digitsAt, IfSome, Small, Eight}
+use Rattle.message.specs.Inner.{wordAt, digitsAt, IfSome, Small, Eight}
 
 module _ (letter base low high : ℕ) where
   -- ---- by the octets of the word

@@ -14,7 +14,7 @@ use lib.ListN.{length, length-map, take, drop, getD, set, length-set, drop-of-le
 use lib.Seq.{drop-cons, take-suc-set, append-snoc, take-all}
 use Rattle.octets.specs.Digits.{digitOf}
 use Rattle.message.specs.Message.{allBelow, numberFrom, pairs}
-use Rattle.message.specs.Walk.{Small, Eight}
+use Rattle.message.specs.Inner.{Small, Eight}
 
 -- the values of the digits from the place k on
 abbrev pub left : List ℕ → ℕ → List ℕ

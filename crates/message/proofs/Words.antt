@@ -15,7 +15,7 @@ use lib.Seq.{drop-cons, drop-drop, append-snoc}
 use Rattle.octets.specs.Parts.{part}
 use Rattle.octets.proofs.Parts.{part-join}
 use Rattle.message.specs.Message.{withFirst, words, isField, fieldOf}
-use Rattle.message.specs.Walk.{ParsedFields, parsedIn, firstWord, wordAt}
+use Rattle.message.specs.Inner.{ParsedFields, parsedIn, firstWord, wordAt}
 
 -- ---- the first word, and the others
 

@@ -9,9 +9,9 @@ ghost use Prim.Native.Nat.{_%_, _≤_, _<_};
 ghost use lib.ListN.{length, drop};
 ghost use Rattle.octets.specs.Digits.{digitOf, hexOf};
 ghost use Rattle.message.specs.Message.{words, allBelow, isField, first, fieldE, numberFrom, numberOr, pairs, calledFor, numberOf, valuesOf, noC, givenAs, succeeded, refusedWith, readFields, readMessage, messageRefusal, messageValues, textOf};
-ghost use Rattle.message.specs.Walk.{kindOf, isNowhere, lacks, isNew, withPlace, Noted};
-ghost use Rattle.message.specs.Walk.{digitsAt, parsedAt, parsedIn, completed, wordAt};
-ghost use Rattle.message.specs.Walk.{IfSome, Small, Eight};
+ghost use Rattle.message.specs.Inner.{kindOf, isNowhere, lacks, isNew, withPlace, Noted};
+ghost use Rattle.message.specs.Inner.{digitsAt, parsedAt, parsedIn, completed, wordAt};
+ghost use Rattle.message.specs.Inner.{IfSome, Small, Eight};
 
 // What a failure calls for.
 pub enum Call {

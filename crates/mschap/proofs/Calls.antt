@@ -25,7 +25,7 @@ use Rattle.mschap.specs.Layout.{encodeRecord, decodeRecord}
 use Rattle.mschap.specs.Layout.{isEncodedConversation, isEncodedRecord}
 use Rattle.mschap.specs.Conversations.{isLmChoice, openArguments, OpenCall}
 use Rattle.mschap.specs.Conversations.{stepOf, stepArguments, StepCall}
-use Rattle.mschap.specs.Code.{AnswerPut}
+use Rattle.mschap.specs.Inner.{AnswerPut}
 use Rattle.mschap.proofs.Filling.{both, fills-number}
 use Rattle.mschap.proofs.ConversationLaws.{length-encoded-conversation}
 

@@ -20,7 +20,7 @@ use Rattle.mschap.specs.Call.{Fills, sized, numbered, left}
 use Rattle.mschap.specs.Layout.{peerSize, encodePeer, decodePeer, isEncodedPeer}
 use Rattle.mschap.specs.Fields.{fieldsSize, encodeReading}
 use Rattle.mschap.specs.Peers.{replyArguments, ReplyCall, WriteCall}
-use Rattle.mschap.specs.Code.{ReplyPut}
+use Rattle.mschap.specs.Inner.{ReplyPut}
 use Rattle.mschap.proofs.Filling.{both, fills-number}
 use Rattle.mschap.proofs.PeerLaws.{length-encoded-peer}
 

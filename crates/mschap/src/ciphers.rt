@@ -5,8 +5,8 @@ use crate::buffers::fill;
 use crate::buffers::wide;
 ghost use mathlib.Core.Path.{_≡_};
 ghost use mathlib.Core.Bool.{_&&_};
-ghost use Rattle.md4.specs.Md4.{answer};
-ghost use Rattle.rc4.specs.Rc4.{refusalOf, crypted};
+ghost use Rattle.md4.specs.Md4.{md4Answer};
+ghost use Rattle.rc4.specs.Rc4.{keyRefusal, crypted};
 ghost use Rattle.des.specs.Des.{desEncrypt, desDecrypt};
 ghost use Rattle.credentials.specs.Credentials.{responseOf, ntHashed, lmHashed};
 ghost use Rattle.mschap.specs.Call.{Fills, sized, bothSized};
@@ -25,7 +25,7 @@ const CHALLENGE_SIZE: usize = 8;
 #[no_mangle]
 pub extern "C" fn mschap_md4(input: &[u8], digest: &mut [u8]) -> u32
     ensures { λ r. ⌜ Fills (sized digestSize (now (digest .entry)))
-        (answer (now (input .entry)) .refusal) (answer (now (input .entry)) .digest)
+        (md4Answer (now (input .entry)) .refusal) (md4Answer (now (input .entry)) .digest)
         (now (digest .entry)) r (now (digest .exit)) ⌝ }
 {
     let done = md4::md4(input);
@@ -36,7 +36,7 @@ pub extern "C" fn mschap_md4(input: &[u8], digest: &mut [u8]) -> u32
 // RC4 in place, with a key of 1 to 256 bytes. 8: another key.
 #[no_mangle]
 pub extern "C" fn mschap_rc4(key: &[u8], octets: &mut [u8]) -> u32
-    ensures { λ r. ⌜ (r ≡ refusalOf (now (key .entry)))
+    ensures { λ r. ⌜ (r ≡ keyRefusal (now (key .entry)))
         × (now (octets .exit) ≡ crypted (now (key .entry)) (now (octets .entry))) ⌝ }
 {
     wide(rc4::rc4(key, octets))

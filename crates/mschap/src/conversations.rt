@@ -19,7 +19,7 @@ ghost use Rattle.authenticator.specs.Step.{numberOf};
 ghost use Rattle.mschap.specs.Layout.{conversationSize, recordSize};
 ghost use Rattle.mschap.specs.Conversations.{retriesFor, lmFor, isLmChoice, openingFor};
 ghost use Rattle.mschap.specs.Conversations.{openArguments, OpenCall, stepArguments, StepCall};
-ghost use Rattle.mschap.specs.Code.{AnswerPut};
+ghost use Rattle.mschap.specs.Inner.{AnswerPut};
 
 const CHALLENGE_SIZE: usize = 8;
 

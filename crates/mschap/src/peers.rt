@@ -15,7 +15,7 @@ ghost use Rattle.mschap.specs.Layout.{peerSize};
 ghost use Rattle.mschap.specs.Fields.{fieldsSize};
 ghost use Rattle.mschap.specs.Peers.{ChallengeCall, replyArguments, ReplyCall};
 ghost use Rattle.mschap.specs.Peers.{responseFrom, changeFrom, WriteCall};
-ghost use Rattle.mschap.specs.Code.{ReplyPut};
+ghost use Rattle.mschap.specs.Inner.{ReplyPut};
 
 // Reads a Challenge, and writes the peer that is to answer it. 3: the frame. 11: another kind, cut
 // short, or of a size other than 8.

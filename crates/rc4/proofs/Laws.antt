@@ -12,7 +12,7 @@ use lib.ListN.{length}
 use Rattle.octets.proofs.Xor.{xor-undo}
 use Rattle.rc4.specs.declared.State.{State}
 use Rattle.rc4.specs.declared.Keyed.{Keyed}
-use Rattle.rc4.specs.Rc4.{started, next, octet, keystream, later, xors, ciphered, keyFits, refusalOf, blank, keyed, crypted}
+use Rattle.rc4.specs.Rc4.{started, nextState, outputOctet, keystream, laterState, xors, ciphered, keyFits, keyRefusal, zeroState, keyed, crypted}
 
 -- ---- lengths
 
@@ -56,15 +56,15 @@ crypted-twice key d = which (keyFits key)
 
 -- ---- two parts: the second goes on from where the first ended
 
-later-add : (m n : ℕ) (w : State) → later (m + n) w ≡ later n (later m w)
-unfolding later
+later-add : (m n : ℕ) (w : State) → laterState (m + n) w ≡ laterState n (laterState m w)
+unfolding laterState
 later-add zero n w = rw zero-add
-later-add (suc m) n w = rw suc-add (later-add m n (next w))
+later-add (suc m) n w = rw suc-add (later-add m n (nextState w))
 
-pub ciphered-append : (w : State) (a b : List ℕ) → ciphered w (a ++ b) ≡ ciphered w a ++ ciphered (later (length a) w) b
-unfolding ciphered keystream xors later
+pub ciphered-append : (w : State) (a b : List ℕ) → ciphered w (a ++ b) ≡ ciphered w a ++ ciphered (laterState (length a) w) b
+unfolding ciphered keystream xors laterState
 ciphered-append w [] b = refl
-ciphered-append w (x ∷ a) b = ap (λ (l : List ℕ). bitXor x (octet (next w)) ∷ l) (ciphered-append (next w) a b)
+ciphered-append w (x ∷ a) b = ap (λ (l : List ℕ). bitXor x (outputOctet (nextState w)) ∷ l) (ciphered-append (nextState w) a b)
 
 -- ---- keys
 
@@ -81,8 +81,8 @@ module _ (key : List ℕ) (h : 1 ≤ length key) (k : length key ≤ 256) where
   unfolding crypted
   crypted-taken d = simp (fits key h k)
 
-pub crypted-refused : (key d : List ℕ) → (1 ≤ length key → length key ≤ 256 → ⊥) → (crypted key d ≡ d) × (refusalOf key ≡ 8)
-unfolding crypted refusalOf
+pub crypted-refused : (key d : List ℕ) → (1 ≤ length key → length key ≤ 256 → ⊥) → (crypted key d ≡ d) × (keyRefusal key ≡ 8)
+unfolding crypted keyRefusal
 crypted-refused key d n = which (keyFits key) refl
   where
     which : (b : Bool) → keyFits key ≡ b → (cond b (ciphered (started key) d) d ≡ d) × (_≡_ {A = ℕ} (cond b 0 8) 8)
@@ -91,9 +91,9 @@ crypted-refused key d n = which (keyFits key) refl
 
 -- one run by the refusal and the state that a key has
 pub crypted-keyed : (key d : List ℕ) {x : Keyed} → x ≡ keyed key → crypted key d ≡ cond (eqb (x .refusal) 0) (ciphered (x .state) d) d
-unfolding crypted keyed refusalOf
+unfolding crypted keyed keyRefusal
 crypted-keyed key d e = rw e (which (keyFits key))
   where
-    which : (b : Bool) → cond b (ciphered (started key) d) d ≡ cond (eqb (cond b 0 8) 0) (ciphered (cond b (started key) blank) d) d
+    which : (b : Bool) → cond b (ciphered (started key) d) d ≡ cond (eqb (cond b 0 8) 0) (ciphered (cond b (started key) zeroState) d) d
     which true = refl
     which false = refl

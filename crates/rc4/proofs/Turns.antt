@@ -12,7 +12,7 @@ use lib.Dec.{eqb}
 use lib.ListN.{length, take, drop, getD, set, length-set, drop-of-length-le}
 use lib.Seq.{drop-cons, take-suc-set, drop-set-lt, append-snoc, take-all}
 use Rattle.rc4.specs.declared.State.{State}
-use Rattle.rc4.specs.Rc4.{swapped, upto, mixJ, mix, mixed, nextI, nextJ, next, octet, keystream, later, xors, ciphered}
+use Rattle.rc4.specs.Rc4.{swapped, upto, mixJ, mix, mixed, nextI, nextJ, nextState, outputOctet, keystream, laterState, xors, ciphered}
 use Rattle.rc4.proofs.Exchange.{ahead, sum-swapped, length-swapped}
 
 -- ---- the identity
@@ -56,14 +56,14 @@ mixed-turn key {s} {s′} {n} {j} {a} {b} {j′} e r eb ej es =
 -- a step by what the look-ahead read: the state that it reaches, and the octet that this state gives
 pub step-turn : (w : State) {s′ : List ℕ} {a i′ j′ b x : ℕ} → i′ ≡ (w .i + 1) % 256 → Ready (w .s) i′ a → j′ ≡ (w .j + a) % 256
     → s′ ≡ swapped (w .s) i′ j′ → b ≡ getD (w .s) j′ 0 → x ≡ (a + b) % 256
-    → (_≡_ {A = State} (record { s = s′; i = i′; j = j′ }) (next w)) × (getD s′ x 0 ≡ octet (next w))
-unfolding octet next nextI nextJ
-step-turn w {s′} {a} {i′} {j′} {b} {x} ei r ej es eb ex = (reached, ap (λ (y : ℕ). getD s′ y 0) (ex ∙ total) ∙ ap octet reached)
+    → (_≡_ {A = State} (record { s = s′; i = i′; j = j′ }) (nextState w)) × (getD s′ x 0 ≡ outputOctet (nextState w))
+unfolding outputOctet nextState nextI nextJ
+step-turn w {s′} {a} {i′} {j′} {b} {x} ei r ej es eb ex = (reached, ap (λ (y : ℕ). getD s′ y 0) (ex ∙ total) ∙ ap outputOctet reached)
   where
     stepped : j′ ≡ (w .j + getD (w .s) ((w .i + 1) % 256) 0) % 256
     stepped = ej ∙ ap (λ (y : ℕ). (w .j + y) % 256) (r .first ∙ ap (λ (y : ℕ). getD (w .s) y 0) ei)
 
-    reached : _≡_ {A = State} (record { s = s′; i = i′; j = j′ }) (next w)
+    reached : _≡_ {A = State} (record { s = s′; i = i′; j = j′ }) (nextState w)
     reached = cc
 
     below : (y : ℕ) → y % 256 < length (w .s)
@@ -80,27 +80,27 @@ pub record Done (w₀ : State) (d₀ : List ℕ) (w : State) (d : List ℕ) (n :
   pub within : n ≤ length d
   pub long : length d ≡ length d₀
   pub text : take n d ++ ciphered w (drop n d) ≡ ciphered w₀ d₀
-  pub state : later (length (drop n d)) w ≡ later (length d₀) w₀
+  pub state : laterState (length (drop n d)) w ≡ laterState (length d₀) w₀
 
 pub none-done : (w : State) (d : List ℕ) → Done w d w d 0
 none-done w d = record { within = omega arith; long = refl; text = refl; state = refl }
 
 module _ {w₀ : State} {d₀ : List ℕ} {w : State} {d : List ℕ} {n : ℕ} (h : Done w₀ d₀ w d n) where
-  pub one-done : {w′ : State} {o : ℕ} → n < length d → (w′ ≡ next w) × (o ≡ octet (next w))
+  pub one-done : {w′ : State} {o : ℕ} → n < length d → (w′ ≡ nextState w) × (o ≡ outputOctet (nextState w))
       → Done w₀ d₀ w′ (set d n (bitXor (getD d n 0) o)) (n + 1)
-  unfolding ciphered keystream xors later
+  unfolding ciphered keystream xors laterState
   one-done {w′} {o} l e =
       let t : n < suc n = omega arith in rw (e .0, e .1) (record {
         within = simp length-set (omega arith);
         long = simp length-set (h .long);
         text =
             rw (add-one, take-suc-set d n, drop-set-lt (suc n) d n)
-            (append-snoc (take n d) (bitXor (getD d n 0) (octet (next w))) (ciphered (next w) (drop (suc n) d)) ∙ rw (drop-cons d n 0) at (h .text));
+            (append-snoc (take n d) (bitXor (getD d n 0) (outputOctet (nextState w))) (ciphered (nextState w) (drop (suc n) d)) ∙ rw (drop-cons d n 0) at (h .text));
         state = rw (add-one, drop-set-lt (suc n) d n) (rw (drop-cons d n 0) at (h .state));
       })
 
-  pub all-done : length d ≤ n → (w ≡ later (length d₀) w₀) × (d ≡ ciphered w₀ d₀)
-  unfolding later ciphered keystream xors
+  pub all-done : length d ≤ n → (w ≡ laterState (length d₀) w₀) × (d ≡ ciphered w₀ d₀)
+  unfolding laterState ciphered keystream xors
   all-done l =
       let e : drop n d ≡ [] = drop-of-length-le d l in
       let t : take n d ≡ d = take-all n d l in

@@ -47,22 +47,22 @@ unfoldable pub nextJ : State → ℕ
 nextJ w = (w .j + getD (w .s) (nextI w) 0) % 256
 
 -- the state after one step
-unfoldable pub next : State → State
-next w = record { s = swapped (w .s) (nextI w) (nextJ w); i = nextI w; j = nextJ w }
+unfoldable pub nextState : State → State
+nextState w = record { s = swapped (w .s) (nextI w) (nextJ w); i = nextI w; j = nextJ w }
 
 -- the octet that a state gives once it is reached
-unfoldable pub octet : State → ℕ
-octet w = getD (w .s) ((getD (w .s) (w .i) 0 + getD (w .s) (w .j) 0) % 256) 0
+unfoldable pub outputOctet : State → ℕ
+outputOctet w = getD (w .s) ((getD (w .s) (w .i) 0 + getD (w .s) (w .j) 0) % 256) 0
 
 -- the next n octets
 unfoldable pub keystream : ℕ → State → List ℕ
 keystream zero w = []
-keystream (suc n) w = octet (next w) ∷ keystream n (next w)
+keystream (suc n) w = outputOctet (nextState w) ∷ keystream n (nextState w)
 
 -- the state after n octets
-unfoldable pub later : ℕ → State → State
-later zero w = w
-later (suc n) w = later n (next w)
+unfoldable pub laterState : ℕ → State → State
+laterState zero w = w
+laterState (suc n) w = laterState n (nextState w)
 
 -- ---- data under the keystream
 
@@ -83,16 +83,16 @@ abbrev pub keyFits : List ℕ → Bool
 keyFits key = leb 1 (length key) && leb (length key) 256
 
 -- 8 refuses a key, 0 is no refusal
-unfoldable pub refusalOf : List ℕ → ℕ
-refusalOf key = cond (keyFits key) 0 8
+unfoldable pub keyRefusal : List ℕ → ℕ
+keyRefusal key = cond (keyFits key) 0 8
 
 -- the state of a key that is refused
-abbrev pub blank : State
-blank = record { s = replicate 256 0; i = 0; j = 0 }
+abbrev pub zeroState : State
+zeroState = record { s = replicate 256 0; i = 0; j = 0 }
 
 -- a key's refusal and state
 unfoldable pub keyed : List ℕ → Keyed
-keyed key = record { refusal = refusalOf key; state = cond (keyFits key) (started key) blank }
+keyed key = record { refusal = keyRefusal key; state = cond (keyFits key) (started key) zeroState }
 
 -- the data under the key's stream, and unchanged where the key is refused
 unfoldable pub crypted : List ℕ → List ℕ → List ℕ

@@ -5,7 +5,7 @@ ghost use mathlib.Core.Bool.{cond};
 ghost use Prim.Native.Nat.{_<_};
 ghost use lib.Dec.{eqb};
 ghost use lib.ListN.{length, getD};
-ghost use Rattle.rc4.specs.Rc4.{swapped, upto, started, later, ciphered, keyFits, refusalOf, keyed, crypted};
+ghost use Rattle.rc4.specs.Rc4.{swapped, upto, started, laterState, ciphered, keyFits, keyRefusal, keyed, crypted};
 
 // The permutation and its two indices.
 pub struct State {
@@ -109,7 +109,7 @@ pub fn new(key: &[u8]) -> Keyed
 
 // Puts the data under the keystream, in place. Answers the state after it, from which the next data go on.
 pub fn apply(state: State, data: &mut [u8]) -> State
-    ensures { λ r. ⌜ (r ≡ later (length (now («data» .entry))) state) × (now («data» .exit) ≡ ciphered state (now («data» .entry))) ⌝ }
+    ensures { λ r. ⌜ (r ≡ laterState (length (now («data» .entry))) state) × (now («data» .exit) ≡ ciphered state (now («data» .entry))) ⌝ }
 {
     // a struct by value at each octet is slow: the fields are locals
     let mut s = state.s;
@@ -133,7 +133,7 @@ pub fn apply(state: State, data: &mut [u8]) -> State
 
 // The data under a key's keystream from its start, in place. Answers the refusal; where it is not 0, the data are unchanged.
 pub fn rc4(key: &[u8], data: &mut [u8]) -> u8
-    ensures { λ r. ⌜ (r ≡ refusalOf (now (key .entry))) × (now («data» .exit) ≡ crypted (now (key .entry)) (now («data» .entry))) ⌝ }
+    ensures { λ r. ⌜ (r ≡ keyRefusal (now (key .entry))) × (now («data» .exit) ≡ crypted (now (key .entry)) (now («data» .entry))) ⌝ }
 {
     let keyed = new(key);
     let refusal = keyed.refusal;

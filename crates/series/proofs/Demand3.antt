@@ -15,7 +15,7 @@ use Rattle.accounts.specs.Account.{blankAccount, found, changed, Rightful}
 use Rattle.authenticator.specs.Judge.{validIn}
 use Rattle.authenticator.specs.Opening.{retriesOf, opened}
 use Rattle.authenticator.specs.Step.{Outcome, judgedAs, step}
-use Rattle.authenticator.specs.Steps.{Lent, stepOn, nextAfter, Refused, Leaves, judged}
+use Rattle.authenticator.specs.Steps.{StepInput, stepOn, nextAfter, Refused, Leaves, judged}
 use Rattle.accounts.specs.declared.Account.{Account}
 use Rattle.accounts.specs.declared.Lookup.{Lookup}
 use Rattle.authenticator.proofs.Steps.{refused-same, judged-none, refused-number, leaves}
@@ -29,7 +29,7 @@ use Rattle.peer.specs.Write.{Wrote, responseFor, writeResponse, writeChange}
 use Rattle.peer.specs.declared.Turn.{Turn}
 use Rattle.peer.proofs.Left.{response-written, name-fits, response-left, change-written, new-fits, filler-full, change-left}
 use Rattle.series.specs.Course.{end, Along}
-use Rattle.series.specs.Series.{invalid, right, renewal, Lending, Step, ours, other, Kind, Invalid, Right, Renewal, kindsOf, plan, State, start, reaching, Exchange, exchange, next, judgedAt, TryWithin, ChangeWithin, Allowed, Draws, DrawsFailure, DrawsSuccess, LetsIn, Answered, Claimed, Demand3}
+use Rattle.series.specs.Series.{invalid, right, passwordChange, ExchangeInput, Step, ours, other, PacketKind, Invalid, Right, PasswordChange, packetKinds, plan, SeriesState, start, reaching, Exchange, exchange, next, judgedAt, TryWithin, ChangeWithin, Allowed, Draws, DrawsFailure, DrawsSuccess, LetsIn, Answered, Claimed, Demand3}
 use Rattle.series.specs.Boxes.{ourBox}
 use Rattle.series.specs.Writers.{ourWriter}
 use Rattle.series.proofs.RoundTrips.{challenge-read}
@@ -45,12 +45,12 @@ not-valid false v h = refl
 
 -- ---- our peer's packets, within the limits
 
-module _ (p : State) (h : InStep (p .conversation) (p .peer .turn)) where
+module _ (p : SeriesState) (h : InStep (p .conversation) (p .peer .turn)) where
   abbrev turn : Turn
   turn = p .peer .turn
 
   -- a try
-  module _ (password name : List ℕ) (l : Lending) (kept : TryWithin password name l) (ph : p .conversation .phase ≡ Response) where
+  module _ (password name : List ℕ) (l : ExchangeInput) (kept : TryWithin password name l) (ph : p .conversation .phase ≡ Response) where
     abbrev wrote : Wrote
     wrote = writeResponse turn password name (l .out)
 
@@ -73,53 +73,53 @@ module _ (p : State) (h : InStep (p .conversation) (p .peer .turn)) where
 
     right-exchanged : (a : Account) → Rightful a → ntHashOf password ≡ a .nt .octets → l .account ≡ found a
         → Exchanged p wrote l (drawnRight (a .expired) (p .conversation) a)
-    right-exchanged a g hash lent =
+    right-exchanged a g hash input =
         exchanged p wrote l (drawnRight (a .expired) (p .conversation) a) (h .id) try-written (kept .not2)
         (right-small (a .expired) (p .conversation) a)
-        (ap₂ (λ (x : List ℕ) (y : Lookup). step (p .conversation) x y (l .buffer)) try-left lent
+        (ap₂ (λ (x : List ℕ) (y : Lookup). step (p .conversation) x y (l .buffer)) try-left input
         ∙ right-taken (p .conversation) turn h ph password name (l .packetPadding) (l .buffer) (kept .not2) try-name a g hash)
 
   -- the change
-  module _ (old new filler : List ℕ) (l : Lending) (kept : ChangeWithin old new filler l) (ph : p .conversation .phase ≡ Change) where
+  module _ (old new filler : List ℕ) (l : ExchangeInput) (kept : ChangeWithin old new filler l) (ph : p .conversation .phase ≡ Change) where
     abbrev changeWrote : Wrote
     changeWrote = writeChange turn old new filler (l .out)
 
-    renewal-written : changeWrote .answer .refusal ≡ 0
-    renewal-written = change-written turn old new filler (l .out) (kept .oldNot8) (kept .newNot8) (kept .not12) (kept .not9)
+    change-is-written : changeWrote .answer .refusal ≡ 0
+    change-is-written = change-written turn old new filler (l .out) (kept .oldNot8) (kept .newNot8) (kept .not12) (kept .not9)
 
     module _ (there : p .conversation .kept .nt .present ≡ true) (hash : ntHashOf old ≡ p .conversation .kept .nt .octets) where
       change-outcome : stepOn (p .conversation) (reaching changeWrote l) ≡ judgedAs (p .conversation) (changedTo (p .conversation) (ntHashOf new)) (l .buffer)
       change-outcome =
-          ap (λ (x : List ℕ). step (p .conversation) (x ++ l .packetPadding) (l .account) (l .buffer)) (change-left turn old new filler (l .out) renewal-written)
+          ap (λ (x : List ℕ). step (p .conversation) (x ++ l .packetPadding) (l .account) (l .buffer)) (change-left turn old new filler (l .out) change-is-written)
           ∙ change-taken (p .conversation) turn h ph old new filler (l .packetPadding) (l .buffer) (kept .not2)
-          (filler-full turn old new filler (l .out) renewal-written) (new-fits turn old new filler (l .out) renewal-written) there hash (l .account)
+          (filler-full turn old new filler (l .out) change-is-written) (new-fits turn old new filler (l .out) change-is-written) there hash (l .account)
 
       change-exchanged : Exchanged p changeWrote l (changedTo (p .conversation) (ntHashOf new))
       change-exchanged =
-          exchanged p changeWrote l (changedTo (p .conversation) (ntHashOf new)) (h .id) renewal-written (kept .not2)
+          exchanged p changeWrote l (changedTo (p .conversation) (ntHashOf new)) (h .id) change-is-written (kept .not2)
           (omega arith) change-outcome
 
 -- ---- a later conversation
 
-through : (c : Conversation) (ss : List Lent) → Along (nextAfter stepOn) (Refused stepOn) c ss → end (nextAfter stepOn) c ss ≡ c
+through : (c : Conversation) (ss : List StepInput) → Along (nextAfter stepOn) (Refused stepOn) c ss → end (nextAfter stepOn) c ss ≡ c
 through c [] h = refl
 through c (s ∷ ss) h = through (nextAfter stepOn c s) ss (h .1) ∙ refused-same c s (refused-number c s (h .0))
 
 lets-in : (a : Account) (password : List ℕ) → Rightful a → a .expired ≡ false → ntHashOf password ≡ a .nt .octets → LetsIn stepOn ourWriter a password
-lets-in a password g fresh hash o behind name ss l ok eight quiet lent kept =
+lets-in a password g fresh hash o behind name ss l ok eight quiet input kept =
     let first = opened o .conversation in
     let back = through first ss quiet in
-    let p : State = record { conversation = end (nextAfter stepOn) first ss; peer = start o behind .peer } in
+    let p : SeriesState = record { conversation = end (nextAfter stepOn) first ss; peer = start o behind .peer } in
     let i : InStep (p .conversation) (p .peer .turn) = subst (λ (c : Conversation). InStep c (start o behind .peer .turn)) (sym back) (opened-in-step o ok eight behind) in
     let ph : p .conversation .phase ≡ Response = ap (λ (c : Conversation). c .phase) (back ∙ opened-first o ok) in
-    let d = right-exchanged p i password name l kept ph a g hash lent .draws in
+    let d = right-exchanged p i password name l kept ph a g hash input .draws in
     let id : p .conversation .id ≡ o .id = ap (λ (c : Conversation). c .id) (back ∙ opened-first o ok) in
     let reply = ap (λ (x : Bool). drawnRight x (p .conversation) a .reply) fresh in
     (d .0 ∙ ap (replyPacket (p .conversation .id)) reply ∙ ap successPacket id, d .1 ∙ ap readingFor reply)
 
 -- ---- each step
 
-abbrev Ready : Account → List Kind → State → Type 0
+abbrev Ready : Account → List PacketKind → SeriesState → Type 0
 Ready a due p = FitIn a due (p .conversation) × InStep (p .conversation) (p .peer .turn)
 
 right-answered : (x : Bool) (e : Exchange) (c : Conversation) (a : Account) → Draws e (replyPacket (c .id) (drawnRight x c a .reply)) (readingFor (drawnRight x c a .reply))
@@ -128,8 +128,8 @@ right-answered true e c a h = h
 right-answered false e c a h = h
 
 module _ (a : Account) (g : Rightful a) where
-  law : (due : List Kind) (p : State) (m : Step) → Ready a (kindsOf m ++ due) p → Allowed stepOn ourWriter a p m
-      → Claimed stepOn ourWriter a p m × (judgedAt stepOn ourWriter p m ≡ length (kindsOf m)) × Ready a due (next stepOn ourWriter p m)
+  law : (due : List PacketKind) (p : SeriesState) (m : Step) → Ready a (packetKinds m ++ due) p → Allowed stepOn ourWriter a p m
+      → Claimed stepOn ourWriter a p m × (judgedAt stepOn ourWriter p m ≡ length (packetKinds m)) × Ready a due (next stepOn ourWriter p m)
   law due p (other s) (f, i) h =
       let n = refused-number (p .conversation) s h in (
         tt,
@@ -155,7 +155,7 @@ module _ (a : Account) (g : Rightful a) where
         x .judges,
         subst (Ready a due) (sym (x .leads)) (right-fit (a .expired) (p .conversation) a a due (f .1), right-in-step (p .conversation) (p .peer .turn) i (a .expired) a),
       )
-  law due p (ours (renewal old new filler) l) (f, i) h =
+  law due p (ours (passwordChange old new filler) l) (f, i) h =
       let kept : Rightful (p .conversation .kept) = subst Rightful (sym (f .1)) g in
       let hash : ntHashOf old ≡ p .conversation .kept .nt .octets = h .1 ∙ sym (ap (λ (b : Account). b .nt .octets) (f .1)) in
       let x = change-exchanged p i old new filler l (h .0) (f .0) (kept .nt) hash in
@@ -163,28 +163,28 @@ module _ (a : Account) (g : Rightful a) where
       let n = changed-rightful (p .conversation .kept) (ntHashOf new) kept in (
         (
           (
-            subst (λ (n : ℕ). DrawsSuccess (exchange stepOn ourWriter p (renewal old new filler) l) n) (i .id) (x .draws),
+            subst (λ (n : ℕ). DrawsSuccess (exchange stepOn ourWriter p (passwordChange old new filler) l) n) (i .id) (x .draws),
             ap (λ (b : Lookup). b .found) updated,
             subst (λ (b : Lookup). LetsIn stepOn ourWriter (b .account) new) (sym updated)
                 (lets-in (changed (p .conversation .kept) (ntHashOf new)) new (n .0) (n .1) (sym (n .2))),
           ),
-          renewal-written p i old new filler l (h .0) (f .0),
+          change-is-written p i old new filler l (h .0) (f .0),
         ),
         x .judges,
         subst (Ready a due) (sym (x .leads)) (f .2, ended-in-step (p .conversation) (p .peer .turn) i),
       )
 
-  invariant : Invariant (next stepOn ourWriter) kindsOf (judgedAt stepOn ourWriter) (Allowed stepOn ourWriter a) (Claimed stepOn ourWriter a)
+  invariant : Invariant (next stepOn ourWriter) packetKinds (judgedAt stepOn ourWriter) (Allowed stepOn ourWriter a) (Claimed stepOn ourWriter a)
   invariant = record { Ready = Ready a; law = law }
 
 -- ---- the whole
 
 count : (k : ℕ) (x : Bool) → length (plan k x) ≡ k + cond x 2 1
 count k x =
-    length-append (replicate k Invalid) (Right ∷ cond x (Renewal ∷ []) [])
+    length-append (replicate k Invalid) (Right ∷ cond x (PasswordChange ∷ []) [])
     ∙ ap₂ (λ (m n : ℕ). m + n) (length-replicate k Invalid) (last x)
   where
-    last : (x : Bool) → length (Right ∷ cond x (Renewal ∷ []) []) ≡ cond x 2 1
+    last : (x : Bool) → length (Right ∷ cond x (PasswordChange ∷ []) []) ≡ cond x 2 1
     last true = refl
     last false = refl
 
@@ -194,7 +194,7 @@ demand3 o ok eight = (
   (λ behind. challenge-read o ok eight behind),
   (λ a k behind ms g few due h.
       let fit = subst (FitIn a (plan k (a .expired))) (sym (opened-first o ok)) (fit-plan k a (retriesOf (o .retries)) blankAccount few) in
-      let ready = subst (λ (ks : List Kind). Ready a ks (start o behind)) (sym due) (fit, opened-in-step o ok eight behind) in
+      let ready = subst (λ (ks : List PacketKind). Ready a ks (start o behind)) (sym due) (fit, opened-in-step o ok eight behind) in
       let all = whole (invariant a g) (start o behind) ms ready h in
       (all .0, all .1 ∙ ap length due ∙ count k (a .expired), all .2 .0)),
   (λ ss.

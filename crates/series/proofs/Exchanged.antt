@@ -20,27 +20,27 @@ use Rattle.peer.specs.Write.{Wrote}
 use Rattle.peer.specs.Peer.{sending, reads, receiving}
 use Rattle.peer.specs.declared.Peer.{Peer}
 use Rattle.peer.specs.declared.Turn.{Turn}
-use Rattle.series.specs.Series.{Lending, State, reaching, carried, Draws}
+use Rattle.series.specs.Series.{ExchangeInput, SeriesState, reaching, carried, Draws}
 
 -- our peer once the packet of a turn was sent
 abbrev pub sentBy : Turn → Peer
 sentBy t = record { sent = sentFor t; turn = t }
 
 place-same : {b b' : Conversation} {q q' : Peer} {r r' : Reading} → b ≡ b' → q ≡ q' → r ≡ r'
-    → _≡_ {A = State} (record { conversation = b; peer = record { sent = q .sent; turn = nextTurn q r } })
+    → _≡_ {A = SeriesState} (record { conversation = b; peer = record { sent = q .sent; turn = nextTurn q r } })
     (record { conversation = b'; peer = record { sent = q' .sent; turn = nextTurn q' r' } })
 place-same e f g = cc
 
 -- the judgement d is drawn, and our peer reads its reply
-pub record Exchanged (p : State) (w : Wrote) (l : Lending) (d : Judgement) : Type 0 where
+pub record Exchanged (p : SeriesState) (w : Wrote) (l : ExchangeInput) (d : Judgement) : Type 0 where
   pub draws : Draws (carried stepOn p w l) (replyPacket (p .conversation .id) (d .reply))
       (readingFor (d .reply))
   pub judges : judged stepOn (p .conversation) (reaching w l) ≡ 1
-  pub leads : _≡_ {A = State}
+  pub leads : _≡_ {A = SeriesState}
       (record { conversation = carried stepOn p w l .outcome .answer .next; peer = receiving (carried stepOn p w l .peer) (carried stepOn p w l .reply) })
       (record { conversation = d .next; peer = record { sent = sentFor (p .peer .turn); turn = nextTurn (sentBy (p .peer .turn)) (readingFor (d .reply)) } })
 
-module _ (p : State) (w : Wrote) (l : Lending) (d : Judgement) (same-id : p .conversation .id ≡ p .peer .turn .id)
+module _ (p : SeriesState) (w : Wrote) (l : ExchangeInput) (d : Judgement) (same-id : p .conversation .id ≡ p .peer .turn .id)
     (zero : w .answer .refusal ≡ 0) (room : longestReply ≤ length (l .buffer)) (small : reasonOf (d .reply) < 1000)
     (took : stepOn (p .conversation) (reaching w l) ≡ judgedAs (p .conversation) d (l .buffer))
   where

@@ -23,7 +23,7 @@ use Rattle.verify.specs.Response.{answers, valid}
 use Rattle.authenticator.specs.Judge.{validIn, newHashIn}
 use Rattle.authenticator.specs.Conversation.{isEnded}
 use Rattle.authenticator.specs.Opening.{Opening, spends, opened, openedIssued}
-use Rattle.authenticator.specs.Steps.{Lent, stepOn, nextAfter}
+use Rattle.authenticator.specs.Steps.{StepInput, stepOn, nextAfter}
 use Rattle.accounts.specs.declared.Account.{Account}
 use Rattle.accounts.specs.declared.Hash.{Hash}
 use Rattle.verify.proofs.Accepted.{accepted-only}
@@ -34,7 +34,7 @@ use Rattle.authenticator.proofs.Openings.{opened-first, opened-written, opened-
 use Rattle.authenticator.proofs.InForce.{CanBeInForce, now-in-force, step-adds-none}
 use Rattle.series.specs.Course.{end, Along}
 use Rattle.series.specs.Openers.{spendsAll, ourOpener}
-use Rattle.series.specs.OneList.{LentTo, leftBy, OnOneList, Opens, Two, reached, NoneTwice, NoneAnsweredTwice, NoneValidTwice, NoneChangedTwice, MayOpen, OneList}
+use Rattle.series.specs.OneList.{PassedOn, leftBy, OnOneList, Opens, Two, reached, NoneTwice, NoneAnsweredTwice, NoneValidTwice, NoneChangedTwice, MayOpen, OneList}
 use Rattle.series.proofs.Invariant.{along-behind}
 
 -- ---- an opening that hands out a conversation that goes on was not refused
@@ -50,11 +50,11 @@ opens o live = which (eqb (opened o .refusal) 0) refl
 
 -- ---- what a conversation can put in force is what its opening spent
 
-steps-add-none : (c : Conversation) (ss : List Lent) (x : List ℕ) → CanBeInForce (end (nextAfter stepOn) c ss) x → CanBeInForce c x
+steps-add-none : (c : Conversation) (ss : List StepInput) (x : List ℕ) → CanBeInForce (end (nextAfter stepOn) c ss) x → CanBeInForce c x
 steps-add-none c [] x h = h
 steps-add-none c (s ∷ ss) x h = step-adds-none c s x (steps-add-none (nextAfter stepOn c s) ss x h)
 
-reached-spent : (o : Opening) → opened o .refusal ≡ 0 → (ss : List Lent) → holds (spends o) (reached spendsAll o ss .challenge) ≡ true
+reached-spent : (o : Opening) → opened o .refusal ≡ 0 → (ss : List StepInput) → holds (spends o) (reached spendsAll o ss .challenge) ≡ true
 reached-spent o ok ss =
     subst (λ (c : Conversation). CanBeInForce c (reached spendsAll o ss .challenge)) (opened-first o ok)
     (steps-add-none (opened o .conversation) ss (reached spendsAll o ss .challenge) (now-in-force (reached spendsAll o ss)))
@@ -73,11 +73,11 @@ module _ (i : Issued) (first second : Opening) (two : Two spendsAll i first seco
   second-opens : opened second .refusal ≡ 0
   second-opens = opens second (two .secondOpens)
 
-  from-first : Along (leftBy spendsAll) LentTo (end (leftBy spendsAll) i (two .before)) (first ∷ two .between ++ (second ∷ two .after))
-  from-first = along-behind (leftBy spendsAll) LentTo i (two .before) (first ∷ two .between ++ (second ∷ two .after)) (two .run)
+  from-first : Along (leftBy spendsAll) PassedOn (end (leftBy spendsAll) i (two .before)) (first ∷ two .between ++ (second ∷ two .after))
+  from-first = along-behind (leftBy spendsAll) PassedOn i (two .before) (first ∷ two .between ++ (second ∷ two .after)) (two .run)
 
-  of-second : Along (leftBy spendsAll) LentTo (end (leftBy spendsAll) (openedIssued first) (two .between)) (second ∷ two .after)
-  of-second = along-behind (leftBy spendsAll) LentTo (openedIssued first) (two .between) (second ∷ two .after) (from-first .1)
+  of-second : Along (leftBy spendsAll) PassedOn (end (leftBy spendsAll) (openedIssued first) (two .between)) (second ∷ two .after)
+  of-second = along-behind (leftBy spendsAll) PassedOn (openedIssued first) (two .between) (second ∷ two .after) (from-first .1)
 
   -- what the first opening spent, the second did not
   apart : (x : List ℕ) → holds (spends first) x ≡ true → holds (spends second) x ≡ true → ⊥
@@ -85,7 +85,7 @@ module _ (i : Issued) (first second : Opening) (two : Two spendsAll i first seco
       let there = listed-stays (openedIssued first) (two .between) second (two .after) x (from-first .1) (opened-holds first (from-first .0 .eight) first-opens x h) in
       false≢true (sym (not-met (spends second) (listed 8 (second .issued)) x (opened-fresh second second-opens) k) ∙ there)
 
-  module _ (ss ts : List Lent) where
+  module _ (ss ts : List StepInput) where
     abbrev inFirst : Conversation
     inFirst = reached spendsAll first ss
 
@@ -99,7 +99,7 @@ module _ (i : Issued) (first second : Opening) (two : Two spendsAll i first seco
 
     -- ---- a recorded answer
 
-    eight-octets : (o : Opening) → length (o .challenge) ≡ 8 → Octets (o .challenge) → opened o .refusal ≡ 0 → (us : List Lent)
+    eight-octets : (o : Opening) → length (o .challenge) ≡ 8 → Octets (o .challenge) → opened o .refusal ≡ 0 → (us : List StepInput)
         → (length (reached spendsAll o us .challenge) ≡ 8) × Octets (reached spendsAll o us .challenge)
     eight-octets o e k ok us = challenges-octets _ (o .challenge) (reached spendsAll o us .challenge) e k (reached-spent o ok us)
 

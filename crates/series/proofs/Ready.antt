@@ -24,23 +24,23 @@ use Rattle.authenticator.specs.declared.Phase.the-variants.{Response, Change, E
 use Rattle.authenticator.proofs.Openings.{opened-first}
 use Rattle.peer.specs.Turn.{nextTurn}
 use Rattle.peer.specs.declared.Turn.{Turn}
-use Rattle.series.specs.Series.{Kind, Invalid, Right, Renewal, plan, start}
+use Rattle.series.specs.Series.{PacketKind, Invalid, Right, PasswordChange, plan, start}
 use Rattle.series.proofs.RoundTrips.{challenge-read}
 use Rattle.series.proofs.Taken.{InStep}
 use Rattle.series.proofs.Exchanged.{sentBy}
 
 -- ---- the conversation is fit for the packets that are due
 
-abbrev pub Fit : Account → List Kind → Phase → ℕ → Account → Type 0
+abbrev pub Fit : Account → List PacketKind → Phase → ℕ → Account → Type 0
 Fit a [] ph r kept = ph ≡ Ended
 Fit a (Invalid ∷ ks) ph r kept = (ph ≡ Response) × (0 < r) × Fit a ks ph (r - 1) kept
 Fit a (Right ∷ ks) ph r kept = (ph ≡ Response) × Fit a ks (cond (a .expired) Change Ended) r (cond (a .expired) a blankAccount)
-Fit a (Renewal ∷ ks) ph r kept = (ph ≡ Change) × (kept ≡ a) × Fit a ks Ended r blankAccount
+Fit a (PasswordChange ∷ ks) ph r kept = (ph ≡ Change) × (kept ≡ a) × Fit a ks Ended r blankAccount
 
-abbrev pub FitIn : Account → List Kind → Conversation → Type 0
+abbrev pub FitIn : Account → List PacketKind → Conversation → Type 0
 FitIn a due c = Fit a due (c .phase) (c .retries) (c .kept)
 
-fit-last : (x : Bool) (a : Account) (r : ℕ) → Fit a (cond x (Renewal ∷ []) []) (cond x Change Ended) r (cond x a blankAccount)
+fit-last : (x : Bool) (a : Account) (r : ℕ) → Fit a (cond x (PasswordChange ∷ []) []) (cond x Change Ended) r (cond x a blankAccount)
 fit-last true a r = (refl, refl, refl)
 fit-last false a r = refl
 
@@ -88,7 +88,7 @@ module _ (c : Conversation) (t : Turn) (h : InStep c t) where
   right-in-step true a = kept-in-step a
   right-in-step false a = ended-in-step
 
-pub right-fit : (x : Bool) (c : Conversation) (a b : Account) (due : List Kind) → Fit b due (cond x Change Ended) (c .retries) (cond x a blankAccount)
+pub right-fit : (x : Bool) (c : Conversation) (a b : Account) (due : List PacketKind) → Fit b due (cond x Change Ended) (c .retries) (cond x a blankAccount)
     → FitIn b due (drawnRight x c a .next)
 right-fit true c a b due f = f
 right-fit false c a b due f = f

@@ -20,7 +20,7 @@ use Rattle.packets.proofs.Lookup.{lookup-parts, lookup-home}
 use Rattle.authenticator.specs.Opening.{Opening, opened}
 use Rattle.authenticator.specs.Judge.{replyFor}
 use Rattle.authenticator.specs.Step.{reasonIn}
-use Rattle.authenticator.specs.Steps.{Lent, stepOn, refusalAt, replyOf}
+use Rattle.authenticator.specs.Steps.{StepInput, stepOn, refusalAt, replyOf}
 use Rattle.authenticator.proofs.Replies.{readingFor, judged-read}
 use Rattle.authenticator.specs.declared.Conversation.{Conversation}
 use Rattle.authenticator.proofs.Openings.{opened-written}
@@ -41,7 +41,7 @@ challenge-read o ok eight behind =
     ap (λ (x : List ℕ). readChallenge (x ++ behind)) (opened-written o ok eight) ∙ challenge-back (o .id) (o .challenge) behind eight
 
 -- Success, or the Failure with the reason (646 to 649, 691, 709), R, no C and V=2: what our peer reads of the reply to its last packet
-pub reply-read : (c : Conversation) (s : Lent) (q : Peer) (behind : List ℕ) → refusalAt stepOn c s ≡ 0 → q .sent .present ≡ true → q .sent .id ≡ c .id
+pub reply-read : (c : Conversation) (s : StepInput) (q : Peer) (behind : List ℕ) → refusalAt stepOn c s ≡ 0 → q .sent .present ≡ true → q .sent .id ≡ c .id
     → reads q (replyOf (stepOn c s) ++ behind) ≡ readingFor (replyFor c (reasonIn (stepOn c s .answer .kind)))
 reply-read c s q behind ok sent id =
     rw sent (ap (λ (i : ℕ). readReply i (replyOf (stepOn c s) ++ behind)) id ∙ judged-read c s ok behind)

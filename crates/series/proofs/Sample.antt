@@ -24,7 +24,7 @@ use Rattle.authenticator.specs.declared.Retries.{Retries}
 use Rattle.authenticator.specs.declared.Retries.the-variants.{Default, Count}
 use Rattle.authenticator.specs.declared.LmChoice.the-variants.{Disallowed}
 use Rattle.authenticator.proofs.Openings.{may-open-empty}
-use Rattle.series.specs.Series.{Packet, invalid, right, renewal, Lending, Step, ours, State, exchange, TryWithin, ChangeWithin, Allowed}
+use Rattle.series.specs.Series.{Packet, invalid, right, passwordChange, ExchangeInput, Step, ours, SeriesState, exchange, TryWithin, ChangeWithin, Allowed}
 use Rattle.series.specs.Writers.{Writer}
 
 -- ---- openings, passwords, records
@@ -83,7 +83,7 @@ rightful expired = record { nt = refl; enabled = refl; hours = refl; dialin = re
 -- ---- our peer's packets
 
 -- an output buffer of n octets, and padding behind the packet and behind the reply
-abbrev pub line : ℕ → Lookup → Lending
+abbrev pub line : ℕ → Lookup → ExchangeInput
 line n l = record { out = replicate n 0; packetPadding = 9 ∷ []; account = l; buffer = replicate 17 0; replyPadding = 9 ∷ 9 ∷ [] }
 
 abbrev pub badTry : Lookup → Step
@@ -93,7 +93,7 @@ abbrev pub rightTry : Bool → Step
 rightTry expired = ours (right old user) (line 55 (found (account expired)))
 
 abbrev pub newPassword : Packet
-newPassword = renewal old new (replicate 512 7)
+newPassword = passwordChange old new (replicate 512 7)
 
 abbrev pub change : Lookup → Step
 change l = ours newPassword (line 1118 l)
@@ -112,18 +112,18 @@ no-hash c f = which (eqb (f .flag) 1) (c .terms .lm)
     which false false = refl
 
 -- the limits of a try, with a name of one octet, and of the change
-pub try-within : (password : List ℕ) (l : Lending) → badNtPassword password ≡ false → 55 ≤ length (l .out) → 17 ≤ length (l .buffer)
+pub try-within : (password : List ℕ) (l : ExchangeInput) → badNtPassword password ≡ false → 55 ≤ length (l .out) → 17 ≤ length (l .buffer)
     → TryWithin password user l
 try-within password l good out room = record { not8 = good; not10 = refl; not9 = out; not2 = room }
 
-change-within : (l : Lending) → 1118 ≤ length (l .out) → 17 ≤ length (l .buffer) → ChangeWithin old new (replicate 512 7) l
+change-within : (l : ExchangeInput) → 1118 ≤ length (l .out) → 17 ≤ length (l .buffer) → ChangeWithin old new (replicate 512 7) l
 change-within l out room = record { oldNot8 = refl; newNot8 = refl; not12 = refl; not9 = out; not2 = room }
 
 pub new-within : (l : Lookup) → TryWithin new user (line 55 l)
 new-within l = try-within new (line 55 l) refl (omega arith) (omega arith)
 
 -- at any place, with any box and writer
-module _ (box : Box) (writer : Writer) (p : State) where
+module _ (box : Box) (writer : Writer) (p : SeriesState) where
   -- lent no record, or one with no hash
   pub bad-allowed : (a : Account) → Allowed box writer a p (badTry notFound)
   bad-allowed a = (try-within bad (line 60 notFound) refl (omega arith) (omega arith), λ e. absurd (false≢true e))
@@ -131,7 +131,7 @@ module _ (box : Box) (writer : Writer) (p : State) where
   pub blank-allowed : (a : Account) → Allowed box writer a p (badTry (found blankAccount))
   blank-allowed a = (
     try-within bad (line 60 (found blankAccount)) refl (omega arith) (omega arith),
-    λ e. no-hash (p .conversation) (responseIn (exchange box writer p (invalid bad user) (line 60 (found blankAccount)) .lent .packet)),
+    λ e. no-hash (p .conversation) (responseIn (exchange box writer p (invalid bad user) (line 60 (found blankAccount)) .input .packet)),
   )
 
   pub right-allowed : (expired : Bool) → Allowed box writer (account expired) p (rightTry expired)

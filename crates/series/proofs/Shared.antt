@@ -20,7 +20,7 @@ use Rattle.authenticator.specs.declared.Retries.the-variants.{Default, Count}
 use Rattle.authenticator.specs.declared.LmChoice.the-variants.{Silent}
 use Rattle.authenticator.proofs.Openings.{opened-first, may-open-empty}
 use Rattle.series.specs.Openers.{ourOpener}
-use Rattle.series.specs.OneList.{LentTo, Two}
+use Rattle.series.specs.OneList.{PassedOn, Two}
 
 -- ---- openings
 
@@ -64,8 +64,8 @@ octets (x ∷ l) h k = which (ltb x 256) refl h k (octets l)
     which false p q k next = absurd (false≢true q)
 
 -- lent the very list that was left
-pub lent : (o : Opening) → small (o .challenge) ≡ true → length (o .challenge) ≡ 8 → LentTo (o .issued) o
-lent o s e = record { kept = λ x h. h; eight = e; octets = octets (o .challenge) s }
+pub input : (o : Opening) → small (o .challenge) ≡ true → length (o .challenge) ≡ 8 → PassedOn (o .issued) o
+input o s e = record { kept = λ x h. h; eight = e; octets = octets (o .challenge) s }
 
 -- an opening that is not refused hands out a conversation that goes on
 pub opens-live : (o : Opening) → opened o .refusal ≡ 0 → isEnded (opened o .conversation .phase) ≡ false
@@ -77,7 +77,7 @@ two =
       before = [];
       between = [];
       after = [];
-      run = (lent first refl refl, (lent second refl refl, tt));
+      run = (input first refl refl, (input second refl refl, tt));
       firstOpens = opens-live first first-opens;
       secondOpens = opens-live second second-opens;
     }

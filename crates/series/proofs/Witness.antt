@@ -13,7 +13,7 @@ use Rattle.accounts.specs.Account.{blankAccount, notFound, found}
 use Rattle.authenticator.specs.Conversation.{isEnded}
 use Rattle.authenticator.specs.Opening.{Opening, opened}
 use Rattle.authenticator.specs.Admit.{stepRefusal}
-use Rattle.authenticator.specs.Steps.{Lent, stepOn, Refused}
+use Rattle.authenticator.specs.Steps.{StepInput, stepOn, Refused}
 use Rattle.accounts.specs.declared.Account.{Account}
 use Rattle.authenticator.specs.declared.Conversation.{Conversation}
 use Rattle.authenticator.specs.declared.Phase.the-variants.{Ended}
@@ -21,7 +21,7 @@ use Rattle.authenticator.specs.declared.Retries.the-variants.{Default, Count}
 use Rattle.authenticator.specs.declared.LmChoice.the-variants.{Silent}
 use Rattle.authenticator.proofs.Openings.{may-open-empty}
 use Rattle.series.specs.Course.{end, Along, total}
-use Rattle.series.specs.Series.{right, Step, other, State, start, exchange, next, judgedAt, Allowed, DrawsSuccess, later, LetsIn, Claimed}
+use Rattle.series.specs.Series.{right, Step, other, SeriesState, start, exchange, next, judgedAt, Allowed, DrawsSuccess, later, LetsIn, Claimed}
 use Rattle.series.specs.Boxes.{ourBox}
 use Rattle.series.specs.Writers.{ourWriter}
 use Rattle.series.proofs.Sample.{opening, three-places, opens-once, new, user, account, rightful, line, badTry, rightTry, newPassword, change, blank-allowed, right-allowed, change-allowed, new-within}
@@ -30,10 +30,10 @@ use Rattle.series.proofs.Demand3.{demand3}
 -- ---- the series
 
 -- a packet that is too short, and a buffer that is
-abbrev short : Lent
+abbrev short : StepInput
 short = record { packet = 1 ∷ 2 ∷ 3 ∷ []; account = notFound; buffer = replicate 20 0 }
 
-abbrev narrow : Lent
+abbrev narrow : StepInput
 narrow = record { packet = replicate 60 2; account = found (account true); buffer = replicate 16 0 }
 
 abbrev pub steps : List Step
@@ -42,7 +42,7 @@ steps = other short ∷ badTry (found blankAccount) ∷ other narrow ∷ rightTr
 -- ---- the premises
 
 -- a short packet and a narrow buffer are refused in any conversation, with 1 where it has ended and else with n
-refused : (c : Conversation) (s : Lent) (n : ℕ) → 0 < n → stepRefusal c (s .packet) (s .buffer) ≡ cond (isEnded (c .phase)) 1 n → Refused stepOn c s
+refused : (c : Conversation) (s : StepInput) (n : ℕ) → 0 < n → stepRefusal c (s .packet) (s .buffer) ≡ cond (isEnded (c .phase)) 1 n → Refused stepOn c s
 refused c s n pos e = inr (λ z. which (isEnded (c .phase)) (sym e ∙ z))
   where
     which : (t : Bool) → cond t 1 n ≡ 0 → ⊥
@@ -60,16 +60,16 @@ narrow-refused c = refused c narrow 2 (omega arith) refl
 -- what is allowed at any place is allowed along any course
 abbrev Anywhere : List Step → Type 0
 Anywhere [] = Unit {0}
-Anywhere (m ∷ ms) = ((p : State) → Allowed ourBox ourWriter (account true) p m) × Anywhere ms
+Anywhere (m ∷ ms) = ((p : SeriesState) → Allowed ourBox ourWriter (account true) p m) × Anywhere ms
 
-along : (p : State) (ms : List Step) → Anywhere ms → Along (next ourBox ourWriter) (Allowed ourBox ourWriter (account true)) p ms
+along : (p : SeriesState) (ms : List Step) → Anywhere ms → Along (next ourBox ourWriter) (Allowed ourBox ourWriter (account true)) p ms
 along p [] h = tt
 along p (m ∷ ms) h = (h .0 p, along (next ourBox ourWriter p m) ms (h .1))
 
 allowed : Anywhere steps
 allowed =
-    let noise : (p : State) → Allowed ourBox ourWriter (account true) p (other short) = λ p. short-refused (p .conversation) in
-    let tight : (p : State) → Allowed ourBox ourWriter (account true) p (other narrow) = λ p. narrow-refused (p .conversation) in (
+    let noise : (p : SeriesState) → Allowed ourBox ourWriter (account true) p (other short) = λ p. short-refused (p .conversation) in
+    let tight : (p : SeriesState) → Allowed ourBox ourWriter (account true) p (other narrow) = λ p. narrow-refused (p .conversation) in (
       noise,
       (
         (λ p. blank-allowed ourBox ourWriter p (account true)),
@@ -97,7 +97,7 @@ claimed = demand3 (opening (Count 1)) opens-once refl .1 (account true) 1 [] ste
 -- ---- a later conversation, with the record that the change handed out
 
 -- the place of the change
-abbrev place : State
+abbrev place : SeriesState
 place = end (next ourBox ourWriter) (start (opening (Count 1)) []) (take 5 steps)
 
 abbrev handed : Account

@@ -25,7 +25,7 @@ use Rattle.authenticator.specs.Encode.{version}
 use Rattle.verify.specs.Response.{firstReason, responseReason}
 use Rattle.authenticator.specs.Judge.{afterReason, replyFor, judgeResponse, judge, validIn}
 use Rattle.authenticator.specs.Step.{Outcome, judgedAs, step}
-use Rattle.authenticator.specs.Steps.{Lent, stepOn, replyOf, refusalAt, judged, nextAfter}
+use Rattle.authenticator.specs.Steps.{StepInput, stepOn, replyOf, refusalAt, judged, nextAfter}
 use Rattle.accounts.specs.declared.Account.{Account}
 use Rattle.accounts.specs.declared.Lookup.{Lookup}
 use Rattle.authenticator.proofs.Steps.{refused-whole, reply-of}
@@ -61,7 +61,7 @@ not-refusing n h =
 
 module _ (d : Judge) where
   -- a packet that draws a reply was judged
-  drew : (c : Conversation) (s : Lent) {n : ℕ} → octet 0 (replyOf (judging d c s)) ≡ n → 0 < n → judging d c s ≡ judgedAs c (d c s) (s .buffer)
+  drew : (c : Conversation) (s : StepInput) {n : ℕ} → octet 0 (replyOf (judging d c s)) ≡ n → 0 < n → judging d c s ≡ judgedAs c (d c s) (s .buffer)
   drew c s {n} e pos = which (eqb (refusalAt stepOn c s) 0) refl e
     where
       which : (t : Bool) → eqb (refusalAt stepOn c s) 0 ≡ t → octet 0 (replyOf (cond t (judgedAs c (d c s) (s .buffer)) (stepOn c s))) ≡ n
@@ -72,7 +72,7 @@ module _ (d : Judge) where
           absurd (omega arith)
 
   -- and the reply is the one that it draws
-  code-drawn : (c : Conversation) (s : Lent) {n : ℕ} → 17 ≤ length (s .buffer) → octet 0 (replyOf (judging d c s)) ≡ n → 0 < n
+  code-drawn : (c : Conversation) (s : StepInput) {n : ℕ} → 17 ≤ length (s .buffer) → octet 0 (replyOf (judging d c s)) ≡ n → 0 < n
       → octet 0 (replyPacket (c .id) (d c s .reply)) ≡ n
   code-drawn c s room e pos =
       ap (octet 0) (sym (reply-of c (d c s) (s .buffer) room))
@@ -97,7 +97,7 @@ not-finding h =
     let p = start (opening Default) [] in
     let all = h (opening Default) opens-default refl .1 (account false) 0 [] (rightTry false ∷ []) (rightful false) (omega arith) refl
     (right-allowed (judging findsNone) ourWriter p false, tt) in
-    let s = exchange (judging findsNone) ourWriter p (right old user) (line 55 (found (account false))) .lent in
+    let s = exchange (judging findsNone) ourWriter p (right old user) (line 55 (found (account false))) .input in
     let reply = none-drawn (s .packet) in
     let code = code-drawn findsNone (p .conversation) s (omega arith)
     (ap (octet 0) (all .0 .0 .0 .0) ∙ success-code _) (omega arith) in
@@ -111,18 +111,18 @@ not-accepting h =
     let p = start (opening Default) [] in
     let all = h (opening Default) opens-default refl .1 (account false) 1 [] (badTry notFound ∷ rightTry false ∷ []) (rightful false) (omega arith) refl
     (bad-allowed box ourWriter p (account false), (right-allowed box ourWriter (next box ourWriter p (badTry notFound)) false, tt)) in
-    let code = code-drawn accepts (p .conversation) (exchange box ourWriter p (invalid bad user) (line 60 notFound) .lent) (omega arith)
+    let code = code-drawn accepts (p .conversation) (exchange box ourWriter p (invalid bad user) (line 60 notFound) .input) (omega arith)
     (ap (octet 0) (all .0 .0 .0 .0) ∙ failure-code _ (textOf 691 1 version)) (omega arith) in
     omega (arith, code, success-code (p .conversation .id))
 
 -- ---- pretends on retries
 
 -- the first invalid try leaves one retry
-one-first : (s : Lent) → s .account ≡ notFound → pretends 2 (firstConversation (opening Default)) s .next .retries ≡ 1
+one-first : (s : StepInput) → s .account ≡ notFound → pretends 2 (firstConversation (opening Default)) s .next .retries ≡ 1
 unfolding judge judgeResponse responseReason firstReason
 one-first s e = rw e
 
-one-left : (s : Lent) → s .account ≡ notFound → pretends 2 (opened (opening Default) .conversation) s .next .retries ≡ 1
+one-left : (s : StepInput) → s .account ≡ notFound → pretends 2 (opened (opening Default) .conversation) s .next .retries ≡ 1
 one-left s e = ap (λ (c : Conversation). pretends 2 c s .next .retries) first-default ∙ one-first s e
 
 -- the second one draws Success
@@ -135,8 +135,8 @@ not-pretending h =
       bad-allowed box ourWriter p (account false),
       (bad-allowed box ourWriter q (account false), (right-allowed box ourWriter (next box ourWriter q (badTry notFound)) false, tt)),
     ) in
-    let s = exchange box ourWriter p (invalid bad user) (line 60 notFound) .lent in
-    let t = exchange box ourWriter q (invalid bad user) (line 60 notFound) .lent in
+    let s = exchange box ourWriter p (invalid bad user) (line 60 notFound) .input in
+    let t = exchange box ourWriter q (invalid bad user) (line 60 notFound) .input in
     let first = drew (pretends 2) (p .conversation) s (ap (octet 0) (all .0 .0 .0 .0) ∙ failure-code _ (textOf 691 1 version)) (omega arith) in
     let left = ap (λ (o : Outcome). o .answer .next .retries) first ∙ one-left s refl in
     let pretended = ap (λ (n : ℕ). cond (ltb n 2) (accepts (q .conversation) t) (judge (q .conversation) (t .packet) notFound) .reply) left in
@@ -188,14 +188,14 @@ not-leaving-record h =
     let q = next box ourWriter p (rightTry true) in
     let all = h (opening Default) opens-default refl .1 (account true) 0 [] (rightTry true ∷ change l ∷ []) (rightful true) (omega arith) refl
     (right-allowed box ourWriter p true, (change-allowed box ourWriter q true l, tt)) in
-    let s = exchange box ourWriter p (right old user) (line 55 l) .lent in
+    let s = exchange box ourWriter p (right old user) (line 55 l) .input in
     let first = drew leavesRecord (p .conversation) s (ap (octet 0) (all .0 .0 .0 .0) ∙ failure-code _ (textOf 648 0 version)) (omega arith) in
     let expired = expired-drawn (s .packet) in
     let four = ap (octet 7) (sym (reply-of (p .conversation) (leavesRecord (p .conversation) s) (s .buffer) (omega arith))
     ∙ ap replyOf (sym first) ∙ all .0 .0 .0 .0) ∙ four-of _ in
     let kept = ap (λ (o : Outcome). o .answer .next .kept) first ∙ expired .1 four in
     let answered = all .0 .1 .0 .0 in
-    let t = exchange box ourWriter q newPassword (line 1118 l) .lent in
+    let t = exchange box ourWriter q newPassword (line 1118 l) .input in
     let changed = ap (λ (o : Outcome). o .answer .updated) (drew leavesRecord (q .conversation) t (ap (octet 0) (answered .0 .0) ∙ success-code _)
     (omega arith)) in
     let updated = ap (λ (b : Lookup). b .account) changed
@@ -203,7 +203,7 @@ not-leaving-record h =
     (sym (ap (λ (b : Lookup). b .found) changed) ∙ answered .1) ∙ kept in
     let lets = subst (λ (b : Account). LetsIn box ourWriter b new) updated (answered .2) in
     let r = later box ourWriter (opening Default) [] [] in
-    let u = exchange box ourWriter r (right new user) (line 55 l) .lent in
+    let u = exchange box ourWriter r (right new user) (line 55 l) .input in
     let draws = lets (opening Default) [] user [] (line 55 l) opens-default refl tt refl (new-within l) in
     let again = expired-drawn (u .packet) in
     let code = code-drawn leavesRecord (r .conversation) u (omega arith) (ap (octet 0) (draws .0) ∙ success-code 255) (omega arith) in
@@ -212,10 +212,10 @@ not-leaving-record h =
 -- ---- retries do not fall
 
 -- a Response that is lent no record, with an identifier
-abbrev pub try : ℕ → Lent
+abbrev pub try : ℕ → StepInput
 try id = record { packet = 2 ∷ id ∷ 0 ∷ 55 ∷ 49 ∷ (replicate 48 0 ++ (1 ∷ 117 ∷ [])); account = notFound; buffer = replicate 17 0 }
 
-abbrev tries : List Lent
+abbrev tries : List StepInput
 tries = try 255 ∷ try 0 ∷ try 1 ∷ try 2 ∷ []
 
 -- with r = 1, all four are judged

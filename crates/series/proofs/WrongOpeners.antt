@@ -19,14 +19,14 @@ use Rattle.authenticator.specs.Admit.{stepRefusal}
 use Rattle.verify.specs.Response.{firstReason, responseReason}
 use Rattle.authenticator.specs.Judge.{judgeResponse, judge}
 use Rattle.authenticator.specs.Step.{step}
-use Rattle.authenticator.specs.Steps.{Lent, nextAfter}
+use Rattle.authenticator.specs.Steps.{StepInput, nextAfter}
 use Rattle.authenticator.specs.declared.Conversation.{Conversation}
 use Rattle.authenticator.specs.declared.Retries.the-variants.{Default, Count}
 use Rattle.authenticator.proofs.Openings.{opened-first, may-open-empty}
 use Rattle.series.specs.Boxes.{withRetries, ourBox}
 use Rattle.series.specs.Openers.{refusesToOpen, opensRefused, leavesList, noRetries, spendsOne}
 use Rattle.series.specs.OneList.{Openable, Two, NoneTwice, OneList}
-use Rattle.series.proofs.Shared.{openingOn, challenge, first, six-places, first-opens, lent, opens-live}
+use Rattle.series.proofs.Shared.{openingOn, challenge, first, six-places, first-opens, input, opens-live}
 
 -- ---- refuses everything
 
@@ -64,7 +64,7 @@ not-opening-refused claim = claim (emptyList 8 6) first again both [] [] refl
           before = [];
           between = [];
           after = [];
-          run = (lent first refl refl, (lent again refl refl, tt));
+          run = (input first refl refl, (input again refl refl, tt));
           firstOpens = refl;
           secondOpens = refl;
         }
@@ -81,7 +81,7 @@ not-leaving-list claim = claim (emptyList 8 6) first first twice [] [] refl
           before = [];
           between = [];
           after = [];
-          run = (lent first refl refl, (lent first refl refl, tt));
+          run = (input first refl refl, (input first refl refl, tt));
           firstOpens = opens-live first first-opens;
           secondOpens = opens-live first first-opens;
         }
@@ -103,7 +103,7 @@ unfolding opened openedIssued openRefusal spendRefusal badBuffer flatten over ag
 following-opens = refl
 
 -- a Response that is lent no record: it draws 691 with R=1
-abbrev try : Lent
+abbrev try : StepInput
 try = record { packet = 2 ∷ 7 ∷ 0 ∷ 55 ∷ 49 ∷ (replicate 48 0 ++ (1 ∷ 117 ∷ [])); account = notFound; buffer = replicate 17 0 }
 
 abbrev afterTry : Conversation → List ℕ
@@ -126,7 +126,7 @@ not-spending-one claim =
           before = [];
           between = [];
           after = [];
-          run = (lent retrying refl refl, (lent following refl refl, tt));
+          run = (input retrying refl refl, (input following refl refl, tt));
           firstOpens = opens-live (noRetries retrying) retrying-opens;
           secondOpens = opens-live (noRetries following) following-opens;
         }

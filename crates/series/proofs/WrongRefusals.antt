@@ -22,7 +22,7 @@ use Rattle.authenticator.specs.Admit.{stepRefusal}
 use Rattle.verify.specs.Response.{firstReason, responseReason}
 use Rattle.authenticator.specs.Judge.{judgeResponse, judge}
 use Rattle.authenticator.specs.Step.{Outcome, step}
-use Rattle.authenticator.specs.Steps.{Lent, Box, replyOf, drewReply, nextAfter, judged, Leaves}
+use Rattle.authenticator.specs.Steps.{StepInput, Box, replyOf, drewReply, nextAfter, judged, Leaves}
 use Rattle.authenticator.specs.declared.Conversation.{Conversation}
 use Rattle.authenticator.specs.declared.Retries.the-variants.{Count}
 use Rattle.authenticator.proofs.Openings.{opened-first}
@@ -41,7 +41,7 @@ first-once = opened-first (opening (Count 1)) opens-once
 
 -- a Response under another identifier than 255, which the first conversation awaits: our box
 -- refuses it with 5
-abbrev stray : Lent
+abbrev stray : StepInput
 stray = try 9
 
 -- ---- lays the reply into the buffer
@@ -62,11 +62,11 @@ not-laying-replies h =
 -- ---- a step that draws no reply leaves all as it was
 
 -- what a box is held to, of one step of the first conversation
-left-by : (box : Box) → Demand3 box ourWriter → (s : Lent) → Leaves box first s
+left-by : (box : Box) → Demand3 box ourWriter → (s : StepInput) → Leaves box first s
 left-by box h s = subst (λ (c : Conversation). Leaves box c s) first-once (h (opening (Count 1)) opens-once refl .2 (s ∷ []) .1 .0)
 
 -- a stray packet that is lent a record
-abbrev lentRecord : Lent
+abbrev lentRecord : StepInput
 lentRecord = record { packet = stray .packet; account = found (account true); buffer = stray .buffer }
 
 pub not-handing-out : Demand3 (answeringRefused handsOutRecord) ourWriter → ⊥

@@ -27,7 +27,7 @@ use Rattle.authenticator.specs.Encode.{version, replyPacket}
 use Rattle.verify.specs.Response.{valid, firstReason, responseReason}
 use Rattle.authenticator.specs.Judge.{mayRetry, replyFor, judgeResponse, judgeIn, judge, validIn}
 use Rattle.authenticator.specs.Step.{Outcome, step}
-use Rattle.authenticator.specs.Steps.{Lent, stepOn, replyOf, refusalAt}
+use Rattle.authenticator.specs.Steps.{StepInput, stepOn, replyOf, refusalAt}
 use Rattle.authenticator.proofs.Steps.{number-step, judged-step, refused-whole, reply-of}
 use Rattle.authenticator.proofs.Written.{reply-fits}
 use Rattle.authenticator.specs.declared.Conversation.{Conversation}
@@ -66,7 +66,7 @@ not-refusing-to-write n h =
 
 -- with the flag 0, where LM is not allowed, no Response draws Success: it is refused, or draws a
 -- Failure
-module _ (c : Conversation) (lm : c .terms .lm ≡ false) (ph : c .phase ≡ Response) (s : Lent) (flag : responseIn (s .packet) .flag ≡ 0)
+module _ (c : Conversation) (lm : c .terms .lm ≡ false) (ph : c .phase ≡ Response) (s : StepInput) (flag : responseIn (s .packet) .flag ≡ 0)
     (room : 17 ≤ length (s .buffer)) where
   not-valid : validIn c (s .account .account) (responseIn (s .packet)) ≡ false
   unfolding valid
@@ -105,7 +105,7 @@ not-asking-for-lm h =
     (right-allowed ourBox asksForLm p false, tt) in
     let f = lmFields (responseFields (p .peer .turn .challenge) old) in
     let packet = responsePacket (p .peer .turn .id) f user in
-    let s = exchange ourBox asksForLm p (right old user) (line 55 (found (account false))) .lent in
+    let s = exchange ourBox asksForLm p (right old user) (line 55 (found (account false))) .input in
     let nt = length-response (ntHashOf old) (p .peer .turn .challenge) in
     let long = writing.length-response (p .peer .turn .id) f user refl nt in
     let same = ap (λ (x : List ℕ). x ++ 9 ∷ []) (left-good 0 packet (replicate 55 0) refl (omega (arith, long))) in

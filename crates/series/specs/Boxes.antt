@@ -13,7 +13,7 @@ use Rattle.authenticator.specs.Conversation.{ended}
 use Rattle.authenticator.specs.declared.Judgement.{Judgement}
 use Rattle.authenticator.specs.Judge.{judgementFor, judge}
 use Rattle.authenticator.specs.Step.{judgedAs, refusedAs}
-use Rattle.authenticator.specs.Steps.{Lent, Box, stepOn, refusalAt}
+use Rattle.authenticator.specs.Steps.{StepInput, Box, stepOn, refusalAt}
 use Rattle.authenticator.specs.declared.Conversation.{Conversation}
 use Rattle.authenticator.specs.declared.Kind.the-variants.{Refused, Judged}
 
@@ -23,7 +23,7 @@ refusing n c s = refusedAs n c (s .buffer)
 
 -- what a judged packet draws, and a box that refuses what ours refuses and judges the rest so
 abbrev pub Judge : Type 0
-Judge = Conversation → Lent → Judgement
+Judge = Conversation → StepInput → Judgement
 
 abbrev pub judging : Judge → Box
 judging d c s = cond (eqb (refusalAt stepOn c s) 0) (judgedAs c (d c s) (s .buffer)) (stepOn c s)

@@ -15,7 +15,7 @@ use Rattle.verify.specs.Response.{answers}
 use Rattle.authenticator.specs.Judge.{validIn, newHashIn}
 use Rattle.authenticator.specs.Conversation.{isEnded}
 use Rattle.authenticator.specs.Opening.{Opening, retriesOf, spends, firstConversation, openingPacket}
-use Rattle.authenticator.specs.Steps.{Lent, nextAfter}
+use Rattle.authenticator.specs.Steps.{StepInput, nextAfter}
 use Rattle.accounts.specs.declared.Account.{Account}
 use Rattle.accounts.specs.declared.Hash.{Hash}
 use Rattle.authenticator.specs.declared.Conversation.{Conversation}
@@ -24,7 +24,7 @@ use Rattle.series.specs.Boxes.{ourBox}
 use Rattle.series.specs.Openers.{Opener}
 
 -- An opening is lent what the one before it left in the list, or more: nobody took an entry out. Its challenge has eight octets.
-pub record LentTo (i : Issued) (o : Opening) : Type 0 where
+pub record PassedOn (i : Issued) (o : Opening) : Type 0 where
   pub kept : (x : List ℕ) → holds (listed 8 i) x ≡ true → holds (listed 8 (o .issued)) x ≡ true
   pub eight : length (o .challenge) ≡ 8
   pub octets : (k : ℕ) → getD (o .challenge) k 0 < 256
@@ -45,7 +45,7 @@ module _ (opener : Opener) where
 
   -- A run of openings, of any boxes, on one list that nobody empties. What the boxes do between them does not touch the list.
   abbrev pub OnOneList : Issued → List Opening → Type 0
-  OnOneList i os = Along leftBy LentTo i os
+  OnOneList i os = Along leftBy PassedOn i os
 
   -- An opening was not refused, by what is seen of it: it hands out a conversation that goes on.
   -- The number that it answers counts for nothing here: one that names a refusal and hands out a
@@ -63,25 +63,25 @@ module _ (opener : Opener) where
     pub secondOpens : Opens second
 
   -- the conversation that an opening and any steps after it led to
-  abbrev pub reached : Opening → List Lent → Conversation
+  abbrev pub reached : Opening → List StepInput → Conversation
   reached o ss = end (nextAfter ourBox) (opener .answer o .conversation) ss
 
   -- No challenge that one opening can put in force, its own or a retry's, is ever put in force by another: whatever packets, records and buffers
   -- the two conversations were lent.
   abbrev pub NoneTwice : Type 0
   NoneTwice =
-      (i : Issued) (first second : Opening) → Two i first second → (ss ts : List Lent) → reached first ss .challenge ≢ reached second ts .challenge
+      (i : Issued) (first second : Opening) → Two i first second → (ss ts : List StepInput) → reached first ss .challenge ≢ reached second ts .challenge
 
   -- So one recorded answer opens no second box: octets that are a hash's response in one conversation, NT or LM, are not in another.
   abbrev pub NoneAnsweredTwice : Type 0
   NoneAnsweredTwice =
-      (i : Issued) (first second : Opening) → Two i first second → (ss ts : List Lent) (h : Hash) (response : List ℕ)
+      (i : Issued) (first second : Opening) → Two i first second → (ss ts : List StepInput) (h : Hash) (response : List ℕ)
       → answers h (reached first ss .challenge) response ≡ true → answers h (reached second ts .challenge) response ≡ false
 
   -- And a whole Response that is valid in one is not valid in another for the same account.
   abbrev pub NoneValidTwice : Type 0
   NoneValidTwice =
-      (i : Issued) (first second : Opening) → Two i first second → (ss ts : List Lent) (a : Account) (f : Response)
+      (i : Issued) (first second : Opening) → Two i first second → (ss ts : List StepInput) (a : Account) (f : Response)
       → validIn (reached first ss) a f ≡ true → validIn (reached second ts) a f ≡ false
 
   -- Nor does a recorded change: one that is accepted in one conversation gives that new hash in no
@@ -89,7 +89,7 @@ module _ (opener : Opener) where
   -- same NT hash.
   abbrev pub NoneChangedTwice : Type 0
   NoneChangedTwice =
-      (i : Issued) (first second : Opening) → Two i first second → (ss ts : List Lent) (f : Change) (h : List ℕ)
+      (i : Issued) (first second : Opening) → Two i first second → (ss ts : List StepInput) (f : Change) (h : List ℕ)
       → newHashIn (reached first ss) f ≡ some h
       → (newHashIn (reached second ts) f ≢ some h)
       × (reached second ts .kept .nt .octets ≡ reached first ss .kept .nt .octets → newHashIn (reached second ts) f ≡ none)

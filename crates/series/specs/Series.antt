@@ -17,7 +17,7 @@ use Rattle.authenticator.specs.Judge.{validIn}
 use Rattle.authenticator.specs.Opening.{Opening, retriesOf, opened, openedBuffer}
 use Rattle.authenticator.specs.Encode.{version}
 use Rattle.authenticator.specs.Step.{Outcome}
-use Rattle.authenticator.specs.Steps.{Lent, Box, replyOf, nextAfter, Refused, Leaves, judged}
+use Rattle.authenticator.specs.Steps.{StepInput, Box, replyOf, nextAfter, Refused, Leaves, judged}
 use Rattle.accounts.specs.declared.Account.{Account}
 use Rattle.accounts.specs.declared.Lookup.{Lookup}
 use Rattle.authenticator.specs.declared.Conversation.{Conversation}
@@ -35,11 +35,11 @@ use Rattle.series.specs.Writers.{Writer}
 pub data Packet : Type 0 where
   invalid : (password name : List ℕ) → Packet
   right : (password name : List ℕ) → Packet
-  renewal : (old new filler : List ℕ) → Packet
+  passwordChange : (old new filler : List ℕ) → Packet
 
 -- What is lent with it: our peer's output buffer and padding behind the packet; the step's record or none and its reply buffer; padding
 -- behind the reply.
-pub record Lending : Type 0 where
+pub record ExchangeInput : Type 0 where
   pub out : List ℕ
   pub packetPadding : List ℕ
   pub account : Lookup
@@ -48,29 +48,29 @@ pub record Lending : Type 0 where
 
 -- A step of the "series": it takes our peer's next packet, or it is "any other step".
 pub data Step : Type 0 where
-  ours : Packet → Lending → Step
-  other : Lent → Step
+  ours : Packet → ExchangeInput → Step
+  other : StepInput → Step
 
-pub data Kind : Type 0 where
-  Invalid Right Renewal : Kind
+pub data PacketKind : Type 0 where
+  Invalid Right PasswordChange : PacketKind
 
-abbrev pub kindOf : Packet → Kind
-kindOf (invalid w n) = Invalid
-kindOf (right w n) = Right
-kindOf (renewal o n f) = Renewal
+abbrev pub packetKind : Packet → PacketKind
+packetKind (invalid w n) = Invalid
+packetKind (right w n) = Right
+packetKind (passwordChange o n f) = PasswordChange
 
-abbrev pub kindsOf : Step → List Kind
-kindsOf (ours t l) = kindOf t ∷ []
-kindsOf (other s) = []
+abbrev pub packetKinds : Step → List PacketKind
+packetKinds (ours t l) = packetKind t ∷ []
+packetKinds (other s) = []
 
 -- our peer's packets in their order: "k invalid tries", the right password and, "after 648", the change
-abbrev pub plan : ℕ → Bool → List Kind
-plan k expired = replicate k Invalid ++ (Right ∷ cond expired (Renewal ∷ []) [])
+abbrev pub plan : ℕ → Bool → List PacketKind
+plan k expired = replicate k Invalid ++ (Right ∷ cond expired (PasswordChange ∷ []) [])
 
 -- ---- a packet on its way
 
 -- "the conversation that the opening or the step before gave back", and our peer
-pub record State : Type 0 where
+pub record SeriesState : Type 0 where
   pub conversation : Conversation
   pub peer : Peer
 
@@ -78,23 +78,23 @@ pub record State : Type 0 where
 abbrev pub challengeRead : Opening → List ℕ → Asked
 challengeRead o behind = readChallenge (take (opened o .written) (openedBuffer o) ++ behind)
 
-abbrev pub start : Opening → List ℕ → State
+abbrev pub start : Opening → List ℕ → SeriesState
 start o behind = record { conversation = opened o .conversation; peer = asked (challengeRead o behind) }
 
 -- our peer "writes its next packet from" its turn
 abbrev pub writes : Writer → Turn → Packet → List ℕ → Wrote
 writes w t (invalid p n) out = w .response t p n out
 writes w t (right p n) out = w .response t p n out
-writes w t (renewal o n f) out = w .change t o n f out
+writes w t (passwordChange o n f) out = w .change t o n f out
 
 -- "it reaches the box as written": what the writer left in its output buffer, with padding behind it
-abbrev pub reaching : Wrote → Lending → Lent
+abbrev pub reaching : Wrote → ExchangeInput → StepInput
 reaching w l = record { packet = take (w .answer .length) (w .out) ++ l .packetPadding; account = l .account; buffer = l .buffer }
 
 -- A packet with what comes of it: what the writer left, the step that takes it, our peer once it wrote, and what reaches our peer.
 pub record Exchange : Type 0 where
   pub wrote : Wrote
-  pub lent : Lent
+  pub input : StepInput
   pub outcome : Outcome
   pub peer : Peer
   pub reply : List ℕ
@@ -104,23 +104,23 @@ pub record Exchange : Type 0 where
 -- "The limits are kept when our peer's calls and the steps that take its packets meet none of 2, 8,
 -- 9, 10 and 12." They are said of what is lent, by the rules of these refusals, and not of what box
 -- or writer answers: so neither gets out of the claim by refusing.
-pub record TryWithin (password name : List ℕ) (l : Lending) : Type 0 where
+pub record TryWithin (password name : List ℕ) (l : ExchangeInput) : Type 0 where
   pub not8 : badNtPassword password ≡ false
   pub not10 : badName name ≡ false
   pub not9 : 54 + length name ≤ length (l .out)
   pub not2 : 17 ≤ length (l .buffer)
 
-pub record ChangeWithin (old new filler : List ℕ) (l : Lending) : Type 0 where
+pub record ChangeWithin (old new filler : List ℕ) (l : ExchangeInput) : Type 0 where
   pub oldNot8 : badNtPassword old ≡ false
   pub newNot8 : badNtPassword new ≡ false
   pub not12 : badFiller filler ≡ false
   pub not9 : 1118 ≤ length (l .out)
   pub not2 : 17 ≤ length (l .buffer)
 
-abbrev pub Within : Packet → Lending → Type 0
+abbrev pub Within : Packet → ExchangeInput → Type 0
 Within (invalid w n) l = TryWithin w n l
 Within (right w n) l = TryWithin w n l
-Within (renewal o n f) l = ChangeWithin o n f l
+Within (passwordChange o n f) l = ChangeWithin o n f l
 
 -- ---- the claim
 
@@ -137,56 +137,56 @@ DrawsSuccess x id = Draws x (successPacket id) succeeded
 
 -- ---- a series with a box and a writer
 
-abbrev pub carried : Box → State → Wrote → Lending → Exchange
+abbrev pub carried : Box → SeriesState → Wrote → ExchangeInput → Exchange
 carried box p w l =
     record {
       wrote = w;
-      lent = reaching w l;
+      input = reaching w l;
       outcome = box (p .conversation) (reaching w l);
       peer = sending (p .peer) (w .answer);
       reply = replyOf (box (p .conversation) (reaching w l)) ++ l .replyPadding;
     }
 
 module _ (box : Box) (writer : Writer) where
-  abbrev pub exchange : State → Packet → Lending → Exchange
+  abbrev pub exchange : SeriesState → Packet → ExchangeInput → Exchange
   exchange p t l = carried box p (writes writer (p .peer .turn) t (l .out)) l
 
   -- where a step leads
-  abbrev pub next : State → Step → State
+  abbrev pub next : SeriesState → Step → SeriesState
   next p (ours t l) =
       record { conversation = exchange p t l .outcome .answer .next; peer = receiving (exchange p t l .peer) (exchange p t l .reply) }
   next p (other s) = record { conversation = nextAfter box (p .conversation) s; peer = p .peer }
 
   -- what a step is lent, and whether its packet is judged
-  abbrev pub lentAt : State → Step → Lent
-  lentAt p (ours t l) = exchange p t l .lent
-  lentAt p (other s) = s
+  abbrev pub inputAt : SeriesState → Step → StepInput
+  inputAt p (ours t l) = exchange p t l .input
+  inputAt p (other s) = s
 
-  abbrev pub judgedAt : State → Step → ℕ
-  judgedAt p m = judged box (p .conversation) (lentAt p m)
+  abbrev pub judgedAt : SeriesState → Step → ℕ
+  judgedAt p m = judged box (p .conversation) (inputAt p m)
 
   -- An invalid try is lent a record for which it is invalid, or none. "The right password is one whose NT hash is the record's", and that record
   -- is lent. The change is "written with the right password as the old one", and lent any record or none.
-  abbrev pub Meant : Account → State → Packet → Lending → Type 0
+  abbrev pub Meant : Account → SeriesState → Packet → ExchangeInput → Type 0
   Meant a p (invalid w n) l =
-      l .account .found ≡ true → validIn (p .conversation) (l .account .account) (responseIn (exchange p (invalid w n) l .lent .packet)) ≡ false
+      l .account .found ≡ true → validIn (p .conversation) (l .account .account) (responseIn (exchange p (invalid w n) l .input .packet)) ≡ false
   Meant a p (right w n) l = (ntHashOf w ≡ a .nt .octets) × (l .account ≡ found a)
-  Meant a p (renewal o n f) l = ntHashOf o ≡ a .nt .octets
+  Meant a p (passwordChange o n f) l = ntHashOf o ≡ a .nt .octets
 
   -- "Any other step may have any packet, record and buffer with which the box refuses it."
-  abbrev pub Allowed : Account → State → Step → Type 0
+  abbrev pub Allowed : Account → SeriesState → Step → Type 0
   Allowed a p (ours t l) = Within t l × Meant a p t l
   Allowed a p (other s) = Refused box (p .conversation) s
 
   -- "after any opening not refused and any refused steps"
-  abbrev pub later : Opening → List ℕ → List Lent → State
+  abbrev pub later : Opening → List ℕ → List StepInput → SeriesState
   later o behind ss = record { conversation = end (nextAfter box) (opened o .conversation) ss; peer = start o behind .peer }
 
   -- A record "lets a password in at the first Response of a later conversation", "under the same
   -- limits".
   abbrev pub LetsIn : Account → List ℕ → Type 0
   LetsIn a password =
-      (o : Opening) (behind name : List ℕ) (ss : List Lent) (l : Lending) → opened o .refusal ≡ 0 → length (o .challenge) ≡ 8
+      (o : Opening) (behind name : List ℕ) (ss : List StepInput) (l : ExchangeInput) → opened o .refusal ≡ 0 → length (o .challenge) ≡ 8
       → Along (nextAfter box) (Refused box) (opened o .conversation) ss → l .account ≡ found a → TryWithin password name l
       → DrawsSuccess (exchange (later o behind ss) (right password name) l) (o .id)
 
@@ -195,11 +195,11 @@ module _ (box : Box) (writer : Writer) where
   abbrev pub Answered : Account → ℕ → Packet → Exchange → Type 0
   Answered a id (invalid w n) x = DrawsFailure x id authenticationFailure 1
   Answered a id (right w n) x = cond (a .expired) (DrawsFailure x id passwordExpired 0) (DrawsSuccess x id)
-  Answered a id (renewal o n f) x =
+  Answered a id (passwordChange o n f) x =
       DrawsSuccess x id × (x .outcome .answer .updated .found ≡ true) × LetsIn (x .outcome .answer .updated .account) n
 
   -- each packet of our peer is written, not refused, and is answered
-  abbrev pub Claimed : Account → State → Step → Type 0
+  abbrev pub Claimed : Account → SeriesState → Step → Type 0
   Claimed a p (ours t l) = Answered a (p .peer .turn .id) t (exchange p t l) × (exchange p t l .wrote .answer .refusal ≡ 0)
   Claimed a p (other s) = Unit {0}
 
@@ -214,9 +214,9 @@ module _ (box : Box) (writer : Writer) where
       (o : Opening) → opened o .refusal ≡ 0 → length (o .challenge) ≡ 8
       → ((behind : List ℕ) → challengeRead o behind ≡ record { refusal = 0; id = o .id; challenge = o .challenge })
       × ((a : Account) (k : ℕ) (behind : List ℕ) (ms : List Step)
-      → Rightful a → k ≤ retriesOf (o .retries) → collect kindsOf ms ≡ plan k (a .expired) → Along next (Allowed a) (start o behind) ms
+      → Rightful a → k ≤ retriesOf (o .retries) → collect packetKinds ms ≡ plan k (a .expired) → Along next (Allowed a) (start o behind) ms
       → Along next (Claimed a) (start o behind) ms
       × (total next judgedAt (start o behind) ms ≡ k + cond (a .expired) 2 1)
       × (end next (start o behind) ms .conversation .phase ≡ Ended))
-      × ((ss : List Lent) → (total (nextAfter box) (judged box) (opened o .conversation) ss ≤ retriesOf (o .retries) + 2)
+      × ((ss : List StepInput) → (total (nextAfter box) (judged box) (opened o .conversation) ss ≤ retriesOf (o .retries) + 2)
       × Along (nextAfter box) (Leaves box) (opened o .conversation) ss)

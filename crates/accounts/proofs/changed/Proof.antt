@@ -3,7 +3,7 @@
 use borrow.Author.Needs.{needs}
 use mathlib.Core.Bool.{false}
 use mathlib.Core.Path.{ap₂, _∙_}
-use Rattle.accounts.specs.Account.{accountOf}
+use Rattle.accounts.specs.Account.{accountWith}
 use Rattle.accounts.specs.declared.Hash.{Hash}
 use Rattle.accounts.proofs.changed.Statement.{statement}
 use Rattle.accounts.proofs.changed.Tie as tie
@@ -11,8 +11,8 @@ use Rattle.accounts.proofs.changed.Tie as tie
 returns : tie.Need-returns
 returns c =
     let a = c .before .before .before .args .account in
-    c .account-of .ensures
-    ∙ ap₂ (λ (n l : Hash). accountOf n l (a .disabled) (a .«hours_denied») (a .«dialin_denied») false)
+    c .account-with .ensures
+    ∙ ap₂ (λ (n l : Hash). accountWith n l (a .disabled) (a .«hours_denied») (a .«dialin_denied») false)
     (c .before .before .hash-of .ensures) (c .before .no-hash .ensures)
 
 pub changed-spec : {M : Type 1} → statement M

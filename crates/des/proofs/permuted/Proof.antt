@@ -10,7 +10,7 @@ use lib.Bits.{bitXor}
 use lib.ListN.{getD}
 use Rattle.des.specs.Tables.{permutation}
 use Rattle.des.specs.Des.{permute}
-use Rattle.des.specs.Code.{permutationTable}
+use Rattle.des.specs.Inner.{permutationTable}
 use Rattle.des.proofs.Permute.{lin-permute}
 use Rattle.des.proofs.Groups.{found, next-group, looked-up}
 use borrow.Author.Needs.{needs}

@@ -1,7 +1,7 @@
 -- `des::spread_bits` meets its contract.
 -- Assumes nothing.
 use mathlib.Core.Path.{refl}
-use Rattle.des.specs.Code.{spread}
+use Rattle.des.specs.Inner.{spread}
 use Rattle.des.proofs.spread_bits.Statement.{statement}
 use Rattle.des.proofs.spread_bits.Tie as tie
 

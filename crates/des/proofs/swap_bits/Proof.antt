@@ -1,13 +1,13 @@
 -- `des::swap_bits` meets its contract.
 -- Assumes nothing.
 use mathlib.Core.Path.{refl}
-use Rattle.des.specs.Code.{swapped}
+use Rattle.des.specs.Inner.{bitsSwapped}
 use borrow.Author.Needs.{needs}
 use Rattle.des.proofs.swap_bits.Statement.{statement}
 use Rattle.des.proofs.swap_bits.Tie as tie
 
 returns : tie.Need-returns
-unfolding swapped
+unfolding bitsSwapped
 returns c = refl
 
 pub swap-bits-spec : {M : Type 1} → statement M

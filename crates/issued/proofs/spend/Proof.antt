@@ -9,7 +9,7 @@ use borrow.Author.Needs.{needs}
 use lib.ListN.{length}
 use Rattle.octets.specs.Parts.{overAt}
 use Rattle.issued.specs.Issued.{Issued, entriesIn, listed, spendRefusal}
-use Rattle.issued.specs.Code.{raised, Room}
+use Rattle.issued.specs.Inner.{raised, Room}
 use Rattle.issued.proofs.Listing.{length-entries, flatten-entries}
 use Rattle.issued.proofs.Counting.{length-endings, raised-counts, counts-room}
 use Rattle.issued.proofs.Spending.{Accepted, accepted, places-fit, same-issued, spent-added, spent-refused}

@@ -9,8 +9,8 @@ use lib.Seq.{length-take-le}
 use Rattle.octets.specs.Numbers.{toLe}
 use Rattle.octets.proofs.Numbers.{length-toLe}
 use Rattle.blocks.specs.Blocks.{tailOf}
-use Rattle.blocks.proofs.Run.{hashed-by-tail, tail-fits}
-use Rattle.md4.specs.Md4.{block, start, digestOf, md4Of}
+use Rattle.blocks.proofs.Run.{hash-by-tail, tail-fits}
+use Rattle.md4.specs.Md4.{block, initialRegisters, digestOf, md4Of}
 use Rattle.md4.proofs.digest.Statement.{statement}
 use Rattle.md4.proofs.digest.Tie as tie
 
@@ -24,13 +24,13 @@ slice-aggregate-whole-blocks c =
     sym (length-take-le (c .before .before .tail-of .result .used) (c .before .before .tail-of .result .octets) (array-share-prefix-end (c .before)))
 
 returns : tie.Need-returns
-unfolding md4Of start
+unfolding md4Of initialRegisters
 returns c =
     let k = c .before .before .before .before in
     let m : List ℕ = k .before .before .before .before .args .input .now in
     let t : k .tail-of .result ≡ tailOf (toLe 8 (length m * 8)) m = k .tail-of .ensures ∙ ap (λ (e : List ℕ). tailOf e m) (k .before .u64-to-le .ensures) in
     c .digest-of .ensures
-    ∙ ap digestOf (hashed-by-tail block (toLe 8) (length-toLe 8) start m (k .before .before .whole-blocks .ensures) t (c .before .whole-blocks2 .ensures))
+    ∙ ap digestOf (hash-by-tail block (toLe 8) (length-toLe 8) initialRegisters m (k .before .before .whole-blocks .ensures) t (c .before .whole-blocks2 .ensures))
 
 pub digest-spec : {M : Type 1} → statement M
 digest-spec =

@@ -4,13 +4,13 @@ use borrow.Author.Needs.{needs}
 use Prim.Native.Nat.{ℕ}
 use lib.ListN.{getD}
 use Rattle.md4.specs.declared.Registers.{Registers}
-use Rattle.md4.specs.Md4.{auxF, row, run, table1, round1}
+use Rattle.md4.specs.Md4.{auxF, row, operations, table1, round1}
 use Rattle.md4.proofs.Rounds.{four}
 use Rattle.md4.proofs.first_round.Statement.{statement}
 use Rattle.md4.proofs.first_round.Tie as tie
 
 returns : tie.Need-returns
-unfolding round1 run table1 row
+unfolding round1 operations table1 row
 returns c =
     let a = c .before .before .before .before .args in
     let x : ℕ → ℕ = λ k. getD (a .t2) k 0 in

@@ -3,7 +3,7 @@
 use borrow.Author.Needs.{needs}
 use Prim.Native.Nat.{ℕ}
 use Rattle.md4.specs.declared.Registers.{Registers}
-use Rattle.md4.specs.Md4.{auxH, step, row}
+use Rattle.md4.specs.Md4.{auxH, operation, row}
 use Rattle.md4.proofs.Rounds.{four}
 use Rattle.md4.proofs.row_h.Statement.{statement}
 use Rattle.md4.proofs.row_h.Tie as tie
@@ -12,9 +12,9 @@ returns : tie.Need-returns
 unfolding row
 returns c =
     let a = c .before .before .before .before .args in
-    let f : ℕ → ℕ → Registers → Registers = step auxH 0x6ed9eba1 in
+    let f : ℕ → ℕ → Registers → Registers = operation auxH 0x6ed9eba1 in
     four (f 3 (a .x0)) (f 9 (a .x1)) (f 11 (a .x2)) (f 15 (a .x3)) (a .r)
-    (c .before .before .before .step-h .ensures) (c .before .before .step-h2 .ensures) (c .before .step-h3 .ensures) (c .step-h4 .ensures)
+    (c .before .before .before .operation-h .ensures) (c .before .before .operation-h2 .ensures) (c .before .operation-h3 .ensures) (c .operation-h4 .ensures)
 
 pub row-h-spec : {M : Type 1} → statement M
 row-h-spec =

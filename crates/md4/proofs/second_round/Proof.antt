@@ -4,13 +4,13 @@ use borrow.Author.Needs.{needs}
 use Prim.Native.Nat.{ℕ}
 use lib.ListN.{getD}
 use Rattle.md4.specs.declared.Registers.{Registers}
-use Rattle.md4.specs.Md4.{auxG, row, run, table2, round2}
+use Rattle.md4.specs.Md4.{auxG, row, operations, table2, round2}
 use Rattle.md4.proofs.Rounds.{four}
 use Rattle.md4.proofs.second_round.Statement.{statement}
 use Rattle.md4.proofs.second_round.Tie as tie
 
 returns : tie.Need-returns
-unfolding round2 run table2 row
+unfolding round2 operations table2 row
 returns c =
     let a = c .before .before .before .before .args in
     let x : ℕ → ℕ = λ k. getD (a .t2) k 0 in

@@ -4,13 +4,13 @@ use borrow.Author.Needs.{needs}
 use Prim.Native.Nat.{ℕ}
 use lib.ListN.{getD}
 use Rattle.md4.specs.declared.Registers.{Registers}
-use Rattle.md4.specs.Md4.{auxH, row, run, table3, round3}
+use Rattle.md4.specs.Md4.{auxH, row, operations, table3, round3}
 use Rattle.md4.proofs.Rounds.{four}
 use Rattle.md4.proofs.third_round.Statement.{statement}
 use Rattle.md4.proofs.third_round.Tie as tie
 
 returns : tie.Need-returns
-unfolding round3 run table3 row
+unfolding round3 operations table3 row
 returns c =
     let a = c .before .before .before .before .args in
     let x : ℕ → ℕ = λ k. getD (a .t2) k 0 in

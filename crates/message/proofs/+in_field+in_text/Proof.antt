@@ -10,7 +10,7 @@ use borrow.Author.Needs.{needs}
 use borrow.Fn.Kinds.{In}
 use borrow.Fn.PlainCycle.{Measures, is, falls, and}
 use lib.ListN.{length}
-use Rattle.message.specs.Walk.{wordAt, completed, isNew}
+use Rattle.message.specs.Inner.{wordAt, completed, isNew}
 use Rattle.message.proofs.Words.{length-word}
 use Rattle.message.proofs.FirstFields.{new-within, new-field, skipped, no-words}
 use Rattle.message.proofs.in_field.Reads as in-field

@@ -2,7 +2,7 @@
 -- Assumes nothing.
 use mathlib.Core.Path.{subst}
 use borrow.Author.Needs.{needs}
-use Rattle.message.specs.Walk.{IfSome, Eight}
+use Rattle.message.specs.Inner.{IfSome, Eight}
 use Rattle.message.proofs.Formed.{found}
 use Rattle.message.proofs.given_at.Statement.{statement}
 use Rattle.message.proofs.given_at.Tie as tie

@@ -2,7 +2,7 @@
 -- Assumes nothing.
 use mathlib.Core.Path.{ap, _∙_}
 use borrow.Author.Needs.{needs}
-use Rattle.message.specs.Walk.{lacks}
+use Rattle.message.specs.Inner.{lacks}
 use Rattle.message.proofs.is_new.Statement.{statement}
 use Rattle.message.proofs.is_new.Tie as tie
 

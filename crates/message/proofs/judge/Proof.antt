@@ -8,7 +8,7 @@ use lib.Dec.{lit<, lit≤}
 use borrow.Author.Needs.{needs}
 use Rattle.message.specs.declared.Place.{Place}
 use Rattle.message.specs.Message.{words, digitsOf, first, fieldE, fieldR, fieldV, fieldC, numberFrom, numberOr, givenAs}
-use Rattle.message.specs.Walk.{ParsedFields, wordAt, digitsAt, IfSome, Small, Eight}
+use Rattle.message.specs.Inner.{ParsedFields, wordAt, digitsAt, IfSome, Small, Eight}
 use Rattle.message.proofs.Formed.{first-small, first-eight}
 use Rattle.message.proofs.judge.Statement.{statement}
 use Rattle.message.proofs.judge.Tie as tie

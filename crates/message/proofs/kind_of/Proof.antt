@@ -3,7 +3,7 @@
 use mathlib.Core.Path.{sym, _∙_}
 use borrow.Author.Needs.{needs}
 use Rattle.message.specs.Message.{fieldOf}
-use Rattle.message.specs.Walk.{kindOf}
+use Rattle.message.specs.Inner.{kindOf}
 use Rattle.message.proofs.kind_of.Statement.{statement}
 use Rattle.message.proofs.kind_of.Tie as tie
 

@@ -5,7 +5,7 @@ use borrow.Author.Needs.{needs}
 use Rattle.message.specs.declared.WordKind.{WordKind}
 use Rattle.message.specs.declared.Place.the-variants.{At}
 use Rattle.message.specs.declared.Fields.{Fields}
-use Rattle.message.specs.Walk.{withPlace}
+use Rattle.message.specs.Inner.{withPlace}
 use Rattle.message.proofs.FirstFields.{noted}
 use Rattle.message.proofs.note.Statement.{statement}
 use Rattle.message.proofs.note.Tie as tie

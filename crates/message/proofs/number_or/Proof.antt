@@ -6,7 +6,7 @@ use mathlib.Core.Option.{Option}
 use Prim.Native.Nat.{ℕ}
 use borrow.Author.Needs.{needs}
 use Rattle.message.specs.Message.{numberOr}
-use Rattle.message.specs.Walk.{IfSome, Small}
+use Rattle.message.specs.Inner.{IfSome, Small}
 use Rattle.message.proofs.Formed.{found}
 use Rattle.message.proofs.number_or.Statement.{statement}
 use Rattle.message.proofs.number_or.Tie as tie

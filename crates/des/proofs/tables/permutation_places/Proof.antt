@@ -2,7 +2,7 @@
 -- Assumes nothing.
 use mathlib.Core.Path.{refl}
 use Rattle.des.specs.Tables.{permutation}
-use Rattle.des.specs.Code.{permutationTable}
+use Rattle.des.specs.Inner.{permutationTable}
 use Rattle.des.proofs.tables.permutation_places.Statement.{statement}
 use Rattle.des.proofs.tables.permutation_places.Tie as tie
 

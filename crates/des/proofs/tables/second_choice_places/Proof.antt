@@ -2,7 +2,7 @@
 -- Assumes nothing.
 use mathlib.Core.Path.{refl}
 use Rattle.des.specs.Tables.{pc2}
-use Rattle.des.specs.Code.{choiceTable}
+use Rattle.des.specs.Inner.{choiceTable}
 use Rattle.des.proofs.tables.second_choice_places.Statement.{statement}
 use Rattle.des.proofs.tables.second_choice_places.Tie as tie
 

@@ -2,7 +2,7 @@
 -- Assumes nothing.
 use mathlib.Core.Path.{refl}
 use Rattle.des.specs.Tables.{boxes}
-use Rattle.des.specs.Code.{boxTable}
+use Rattle.des.specs.Inner.{boxTable}
 use Rattle.des.proofs.tables.selections.Statement.{statement}
 use Rattle.des.proofs.tables.selections.Tie as tie
 

@@ -4,7 +4,7 @@ use mathlib.Core.Path.{refl, sym, _∙_}
 use native.Mathlib.Omega.{arith}
 use borrow.Author.Needs.{needs}
 use Rattle.issued.specs.Issued.{entries}
-use Rattle.issued.specs.Code.{raised}
+use Rattle.issued.specs.Inner.{raised}
 use Rattle.issued.proofs.Listing.{first-fits}
 use Rattle.issued.proofs.Counting.{Uncounted, raise-fits, raise-next, all-counted}
 use Rattle.issued.proofs.entries.count.Statement.{statement}

@@ -9,7 +9,7 @@ use borrow.Author.Needs.{needs}
 use lib.ListN.{length, take}
 use lib.Seq.{length-take-le}
 use Rattle.issued.specs.Issued.{entries, holds, meets}
-use Rattle.issued.specs.Code.{raised, Marked}
+use Rattle.issued.specs.Inner.{raised, Marked}
 use Rattle.issued.proofs.Listing.{first-fits}
 use Rattle.issued.proofs.Counting.{Uncounted, raise-fits, raise-next, all-counted}
 use Rattle.issued.proofs.Marking.{met-next, met-all}
