@@ -1,4 +1,5 @@
--- The frame of every packet (RFC 1994, section 4): code, identifier, Length (two octets, the most significant first, of the whole packet), data.
+-- The frame of every packet (RFC 1994, section 4): code, identifier, Length (two octets, the most
+-- significant first, of the whole packet), data.
 -- Assumes nothing: these are definitions.
 use mathlib.Core.Bool.{Bool, cond, not, _||_}
 use mathlib.Core.List.{List, [], _∷_, _++_}
@@ -34,7 +35,8 @@ dataOf p = part 4 (lengthOf p - 4) p
 
 -- ---- a packet at the front of a lent buffer
 
--- the buffer afterwards: the packet and then the octets that lay there before or, with too little room, all as it was
+-- the buffer afterwards: the packet and then the octets that lay there before or, with too little
+-- room, all as it was
 unfoldable pub headed : List ℕ → List ℕ → List ℕ
 headed packet out = cond (leb (length packet) (length out)) (packet ++ drop (length packet) out) out
 

@@ -33,7 +33,8 @@ badResponseFlag p = ltb 1 (octet 53 p)
 unfoldable pub responseRefusal : List ℕ → ℕ
 responseRefusal p = cond (badResponseSize p) 6 (cond (badResponseFlag p) 7 0)
 
--- ---- writing one: refusal 10 for a name that is empty or over 256 octets, then 9 for too little room
+-- ---- writing one: refusal 10 for a name that is empty or over 256 octets, then 9 for too little
+-- room
 
 abbrev pub badName : List ℕ → Bool
 badName name = ltb (length name) 1 || ltb 256 (length name)

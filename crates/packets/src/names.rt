@@ -53,7 +53,8 @@ fn part_from(packet: &[u8], at: usize) -> Part
     }
 }
 
-// Where the domain stands: before the first backslash. Nowhere where there is none, or the packet is refused.
+// Where the domain stands: before the first backslash. Nowhere where there is none, or the packet
+// is refused.
 pub fn domain_part(packet: &[u8]) -> Part
     ensures { λ r. ⌜ r ≡ domainPart (now (packet .entry)) ⌝ }
 {
@@ -71,7 +72,8 @@ pub fn domain_part(packet: &[u8]) -> Part
     no_part()
 }
 
-// Where the account stands: behind the first backslash or, where there is none, the whole name. Nowhere where the packet is refused.
+// Where the account stands: behind the first backslash or, where there is none, the whole name.
+// Nowhere where the packet is refused.
 pub fn account_part(packet: &[u8]) -> Part
     ensures { λ r. ⌜ r ≡ accountPart (now (packet .entry)) ⌝ }
 {
@@ -86,7 +88,8 @@ pub fn account_part(packet: &[u8]) -> Part
     part_from(packet, 54)
 }
 
-// The domain: what stands before the first backslash or, where there is none, the home domain. Empty for a packet that is refused.
+// The domain: what stands before the first backslash or, where there is none, the home domain.
+// Empty for a packet that is refused.
 pub fn domain<'a>(packet: &'a [u8], home: &'a [u8]) -> &'a [u8]
     ensures { λ r. ⌜ now r ≡ domainOf (now (packet .entry)) (now (home .entry)) ⌝ }
 {

@@ -1,4 +1,5 @@
--- `packets::changes::put_change` meets its contract. The pieces lie one behind the other, and are the packet.
+-- `packets::changes::put_change` meets its contract. The pieces lie one behind the other, and are
+-- the packet.
 -- Assumes nothing.
 use mathlib.Core.Path.{sym, ap}
 use mathlib.Core.List.{_++_}

@@ -1,4 +1,5 @@
--- `packets::responses::put_response` meets its contract. The pieces lie one behind the other, and are the packet.
+-- `packets::responses::put_response` meets its contract. The pieces lie one behind the other, and
+-- are the packet.
 -- Assumes nothing.
 use mathlib.Core.Path.{_≡_, refl, sym, ap}
 use mathlib.Core.List.{[], _∷_, _++_}
