@@ -6,6 +6,7 @@ use crate::frames::octet;
 use crate::responses::bad_flag;
 use crate::responses::bad_size;
 use crate::responses::name;
+use crate::sizes::NAME_OFFSET;
 ghost use mathlib.Core.Path.{_≡_};
 ghost use lib.ListN.{length};
 ghost use Rattle.packets.specs.Name.{isUnfit, beforeSplit, noPart, partFrom, domainPart, accountPart, domainOf, accountOf};
@@ -24,7 +25,7 @@ fn split_at(name: &[u8]) -> usize
 {
     let mut i = 0;
     while i < name.len() {
-        if name[i] == 92 {
+        if name[i] == b'\\' {
             return i;
         }
         i += 1;
@@ -65,7 +66,7 @@ pub fn domain_part(packet: &[u8]) -> Part
     let k = split_at(name);
     if k < name.len() {
         return Part {
-            offset: 54,
+            offset: NAME_OFFSET,
             length: k,
         };
     }
@@ -83,9 +84,9 @@ pub fn account_part(packet: &[u8]) -> Part
     let name = name(packet);
     let k = split_at(name);
     if k < name.len() {
-        return part_from(packet, 55 + k);
+        return part_from(packet, NAME_OFFSET + 1 + k);
     }
-    part_from(packet, 54)
+    part_from(packet, NAME_OFFSET)
 }
 
 // The domain: what stands before the first backslash or, where there is none, the home domain.
