@@ -1,5 +1,5 @@
--- The challenges that follow one another in a conversation, and the identifiers of the packets that answer them (RFC 2433, section 8, section 10 for
--- a change and B.1 for a retry).
+-- The challenges that follow one another in a conversation, and the identifiers of the packets that
+-- answer them (RFC 2433, section 8, section 10 for a change and B.1 for a retry).
 -- Assumes nothing: these are definitions.
 use mathlib.Core.List.{List, [], _∷_}
 use Prim.Native.Nat.{ℕ, zero, suc, _+_, _%_}

@@ -1,5 +1,5 @@
-// The challenges that follow one another in a conversation by the 23 rule, and the identifier of the
-// packet that answers a Failure (RFC 2433, section 8 and B.1).
+// The challenges that follow one another in a conversation by the 23 rule, and the identifier of
+// the packet that answers a Failure (RFC 2433, section 8 and B.1).
 ghost use mathlib.Core.Path.{_≡_};
 ghost use mathlib.Core.List.{flatten};
 ghost use Rattle.challenges.specs.Challenges.{nextId, incremented, challengesFrom};

@@ -1,4 +1,5 @@
--- What the code puts together piece by piece: the upper-cased password, and two blocks under the halves of a key.
+-- What the code puts together piece by piece: the upper-cased password, and two blocks under the
+-- halves of a key.
 -- Assumes nothing.
 use mathlib.Core.Path.{_≡_, refl, sym, ap, ap₂, _∙_}
 use mathlib.Core.List.{List, [], _∷_, _++_, map, append-nil}

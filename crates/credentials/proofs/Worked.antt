@@ -1,5 +1,5 @@
--- Fixed octets against slips that both ends could make alike, so that no round trip would show them. The passwords are MyPw, of RFC 2433 B.2,
--- and MyNewPw.
+-- Fixed octets against slips that both ends could make alike, so that no round trip would show
+-- them. The passwords are MyPw, of RFC 2433 B.2, and MyNewPw.
 -- Assumes nothing.
 use mathlib.Core.Path.{_≡_, refl}
 use mathlib.Core.List.{List, [], _∷_}

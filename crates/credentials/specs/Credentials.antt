@@ -21,7 +21,8 @@ use Rattle.credentials.specs.declared.Sealed.{Sealed}
 
 -- ---- hashes
 
--- A.6, NtPasswordHash(): MD4 of the password as 16-bit characters, the least significant octet first, with no terminator
+-- A.6, NtPasswordHash(): MD4 of the password as 16-bit characters, the least significant octet
+-- first, with no terminator
 unfoldable pub ntHashOf : List ℕ → List ℕ
 ntHashOf password = md4Of password
 
@@ -64,17 +65,20 @@ lmHashed password = hashed (badLmPassword password) (lmHashOf password)
 
 -- ---- responses
 
--- A.7, ChallengeResponse(): the hash zero-padded to 21 octets, three keys, each encrypting the challenge
+-- A.7, ChallengeResponse(): the hash zero-padded to 21 octets, three keys, each encrypting the
+-- challenge
 unfoldable pub responseOf : List ℕ → List ℕ → List ℕ
 responseOf hash challenge = desThree (fixed 21 hash) challenge
 
--- A.17, NtPasswordHashEncryptedWithBlock(): the first half under the new hash's octets 0 to 6, the second under 7 to 13
+-- A.17, NtPasswordHashEncryptedWithBlock(): the first half under the new hash's octets 0 to 6, the
+-- second under 7 to 13
 unfoldable pub oldUnderNew : List ℕ → List ℕ → List ℕ
 oldUnderNew old new = desEncrypt (part 0 7 new) (part 0 8 old) ++ desEncrypt (part 7 7 new) (part 8 8 old)
 
 -- ---- the sealed password
 
--- A.11, PWBLOCK: 512 octets, the password at their end and before it the first octets of the filler, and then the password's length in octets
+-- A.11, PWBLOCK: 512 octets, the password at their end and before it the first octets of the
+-- filler, and then the password's length in octets
 unfoldable pub plainBlock : List ℕ → List ℕ → List ℕ
 plainBlock filler password = take (512 - length password) filler ++ (password ++ toLe 4 (length password))
 

@@ -26,8 +26,8 @@ pub enum Content {
     Password(usize),
 }
 
-// An opened block: what it holds, and its octets, of which a password is the last. (An enum can hold
-// no array.)
+// An opened block: what it holds, and its octets, of which a password is the last. (An enum can
+// hold no array.)
 pub struct Unsealed {
     pub content: Content,
     pub octets: [u8; 512],

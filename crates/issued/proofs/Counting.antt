@@ -1,4 +1,5 @@
--- Counts of last octets: what they are of more entries, how large they get, and how the code raises them.
+-- Counts of last octets: what they are of more entries, how large they get, and how the code raises
+-- them.
 -- Assumes nothing.
 use mathlib.Core.Bool.{Bool, true, false, cond, _||_}
 use mathlib.Core.List.{List, [], _∷_, _++_, append-nil}

@@ -1,4 +1,5 @@
--- Entries that are not refused: what is known then, and that the list has them behind those that it had, with counts that are true.
+-- Entries that are not refused: what is known then, and that the list has them behind those that it
+-- had, with counts that are true.
 -- Assumes nothing.
 use mathlib.Core.Bool.{Bool, true, false, cond, not, _||_, or-true, false≢true}
 use mathlib.Core.List.{List, [], _++_, flatten}

@@ -1,5 +1,5 @@
--- The list of issued challenges. Words in quotes are document 02's, request 2026-03. All is said over w, the octets of an entry, which are 8
--- in MS-CHAP version 1.
+-- The list of issued challenges. Words in quotes are document 02's, request 2026-03. All is said
+-- over w, the octets of an entry, which are 8 in MS-CHAP version 1.
 -- Assumes nothing: these are definitions.
 use mathlib.Core.Bool.{Bool, false, cond, not, _||_}
 use mathlib.Core.List.{List, [], _∷_, _++_, flatten}
@@ -86,13 +86,13 @@ untrue w i = not (agrees (countsOf (listed w i)) (i .counts))
 abbrev pub full : ℕ → List (List ℕ) → Issued → Bool
 full w cs i = ltb (places w (i .buffer) - i .used) (length cs)
 
--- 24, "16 for a challenge spent, then 17"; 0 is none
+-- 24, "16 for a challenge spent, then 17"; 0 is none. What one pass over the list finds, and first
+-- the buffer.
+abbrev pub passRefusal : ℕ → List (List ℕ) → Issued → ℕ
+passRefusal w cs i = cond (untrue w i) 24 (cond (meets cs (listed w i)) 16 (cond (full w cs i) 17 0))
+
 unfoldable pub spendRefusal : ℕ → List (List ℕ) → Issued → ℕ
-spendRefusal w cs i =
-    cond (badBuffer w (i .buffer) (i .used)) 24
-    (cond (untrue w i) 24
-    (cond (meets cs (listed w i)) 16
-    (cond (full w cs i) 17 0)))
+spendRefusal w cs i = cond (badBuffer w (i .buffer) (i .used)) 24 (passRefusal w cs i)
 
 -- "else all are added, in that order", and the counts are true of the list as it is then
 abbrev pub added : ℕ → List (List ℕ) → Issued → Issued

@@ -5,7 +5,8 @@ ghost use lib.ListN.{length, getD};
 ghost use Rattle.octets.specs.Parts.{agrees};
 ghost use Rattle.issued.specs.Inner.{raisedAt};
 
-// Whether a and b are the same counts: `octets::agree` for another type, as no function is over the type.
+// Whether a and b are the same counts: `octets::agree` for another type, as no function is over the
+// type.
 pub(crate) fn agree(a: &[u16], b: &[u16]) -> bool
     ensures { λ r. ⌜ r ≡ agrees (now (a .entry)) (now (b .entry)) ⌝ }
 {

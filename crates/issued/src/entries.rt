@@ -1,4 +1,5 @@
-// Entries of a buffer, one behind the other. Each loop takes the next one off the front of what is left.
+// Entries of a buffer, one behind the other. Each loop takes the next one off the front of what is
+// left.
 ghost use mathlib.Core.Path.{_≡_};
 ghost use mathlib.Core.Bool.{false, _||_};
 ghost use Prim.Native.Nat.{_*_, _≤_, _<_};
@@ -64,8 +65,8 @@ fn either(a: bool, b: bool) -> bool
     b
 }
 
-// Whether entry is one of the first n entries of run. The octets in which those end are marked: an entry whose last octet is not marked needs no
-// comparison.
+// Whether entry is one of the first n entries of run. The octets in which those end are marked: an
+// entry whose last octet is not marked needs no comparison.
 fn is_sought(entry: &[u8], run: &[u8], n: usize, marks: &[bool]) -> bool
     requires { ⌜ (0 < length (now entry)) × (length (now entry) * n ≤ length (now run)) × (length (now marks) ≡ 256) × Marked (now marks) (entries (length (now entry)) n (now run)) ⌝ }
     ensures { λ r. ⌜ r ≡ holds (entries (length (now (entry .entry))) n (now (run .entry))) (now (entry .entry)) ⌝ }
@@ -77,8 +78,8 @@ fn is_sought(entry: &[u8], run: &[u8], n: usize, marks: &[bool]) -> bool
     holds(run, n, entry)
 }
 
-// One pass over the list, which is the first used entries of buffer: raises the counts of their last octets, and tells whether one of them is among
-// the first n of run.
+// One pass over the list, which is the first used entries of buffer: raises the counts of their
+// last octets, and tells whether one of them is among the first n of run.
 pub(crate) fn scan(
     buffer: &[u8],
     used: usize,

@@ -1,12 +1,15 @@
-// The list of issued challenges: entries of one width in a lent buffer, and counts of their last octets. An opening spends entries: they are
-// added, unless one of them was issued before. Every public function is total.
+// The list of issued challenges: entries of one width in a lent buffer, and counts of their last
+// octets. An opening spends entries: they are added, unless one of them was issued before. Every
+// public function is total.
 mod counts;
 mod entries;
 
+use refusals::refuse_if;
+ghost use mathlib.Core.Bool.{false};
 ghost use mathlib.Core.Path.{_≡_};
 ghost use Prim.Native.Nat.{_-_, _≤_, _<_};
 ghost use lib.Dec.{ltb};
-ghost use Rattle.issued.specs.Issued.{entriesIn, places, badBuffer, spendRefusal, spent};
+ghost use Rattle.issued.specs.Issued.{entriesIn, places, badBuffer, passRefusal, spendRefusal, spent};
 
 // What spending answers: the refusal (0 is none), and how many places are used then.
 pub struct Spent {
@@ -14,7 +17,8 @@ pub struct Spent {
     pub used: usize,
 }
 
-// Whether a buffer is not whole places of width octets, has over 4,096 of them, or fewer than are used.
+// Whether a buffer is not whole places of width octets, has over 4,096 of them, or fewer than are
+// used.
 fn is_bad_buffer(buffer: &[u8], used: usize, width: usize) -> bool
     ensures { λ r. ⌜ r ≡ badBuffer width (now (buffer .entry)) used ⌝ }
 {
@@ -39,34 +43,36 @@ fn is_full(buffer: &[u8], used: usize, width: usize, n: usize) -> bool
     buffer.len() / width - used < n
 }
 
-// The refusal of the entries of run, 24, 16 or 17 in that order; 0 is none. There is one pass over the list.
-fn refusal(buffer: &[u8], used: usize, counts: &[u16], width: usize, run: &[u8]) -> u8
-    ensures { λ r. ⌜ r ≡ spendRefusal width (entriesIn width (now (run .entry))) (record { buffer = now (buffer .entry); used = used; counts = now (counts .entry) }) ⌝ }
+// The refusal of the entries of run where the buffer is good, 24 (by the counts), 16 or 17 in that
+// order; 0 is none. There is one pass over the list.
+fn pass_refusal(buffer: &[u8], used: usize, counts: &[u16], width: usize, run: &[u8]) -> u8
+    requires { ⌜ badBuffer width (now buffer) used ≡ false ⌝ }
+    ensures { λ r. ⌜ r ≡ passRefusal width (entriesIn width (now (run .entry))) (record { buffer = now (buffer .entry); used = used; counts = now (counts .entry) }) ⌝ }
 {
-    if is_bad_buffer(buffer, used, width) {
-        return 24;
-    }
     let n = run.len() / width;
     let mut marks = [false; 256];
     entries::mark(run, n, width, &mut marks);
     let mut tally = [0u16; 256];
     let met = entries::scan(buffer, used, width, run, n, &marks, &mut tally);
     let full = is_full(buffer, used, width, n);
-    if !counts::agree(&tally, counts) {
-        return 24;
-    }
-    if met {
-        return 16;
-    }
-    if full {
-        return 17;
-    }
-    0
+    let untrue = !counts::agree(&tally, counts);
+    refuse_if(untrue, 24, refuse_if(met, 16, refuse_if(full, 17, 0)))
 }
 
-// Spends the entries of run, width octets each: adds them behind the used places of buffer and raises the counts of their last octets. What of run is
-// no whole entry is left out. Refusals, which leave all as it was: 24 (the buffer, used or the counts), 16 (one of them stands in the list), 17 (too
-// few places are left). Entries of run are not compared with each other.
+// The refusal of the entries of run: 24 for a bad buffer, else what the pass finds.
+fn refusal(buffer: &[u8], used: usize, counts: &[u16], width: usize, run: &[u8]) -> u8
+    ensures { λ r. ⌜ r ≡ spendRefusal width (entriesIn width (now (run .entry))) (record { buffer = now (buffer .entry); used = used; counts = now (counts .entry) }) ⌝ }
+{
+    if is_bad_buffer(buffer, used, width) {
+        return 24;
+    }
+    pass_refusal(buffer, used, counts, width, run)
+}
+
+// Spends the entries of run, width octets each: adds them behind the used places of buffer and
+// raises the counts of their last octets. What of run is no whole entry is left out. Refusals,
+// which leave all as it was: 24 (the buffer, used or the counts), 16 (one of them stands in the
+// list), 17 (too few places are left). Entries of run are not compared with each other.
 pub fn spend(buffer: &mut [u8], used: usize, counts: &mut [u16], width: usize, run: &[u8]) -> Spent
     ensures { λ r. ⌜ (r .refusal ≡ spendRefusal width (entriesIn width (now (run .entry))) (record { buffer = now (buffer .entry); used = used; counts = now (counts .entry) })) × (record { buffer = now (buffer .exit); used = r .used; counts = now (counts .exit) } ≡ spent width (entriesIn width (now (run .entry))) (record { buffer = now (buffer .entry); used = used; counts = now (counts .entry) })) ⌝ }
 {

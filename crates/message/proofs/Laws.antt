@@ -1,5 +1,6 @@
--- The laws of a Failure message for other crates to cite: the text that is written reads as its numbers, what a failure calls for is the one
--- call that fits it, and a reading's number and values.
+-- The laws of a Failure message for other crates to cite: the text that is written reads as its
+-- numbers, what a failure calls for is the one call that fits it, and a reading's number and
+-- values.
 -- Assumes nothing.
 use mathlib.Core.Path.{_≡_, refl, sym, ap, _∙_}
 use mathlib.Core.Bool.{Bool, true, false, cond, not, _&&_, _||_, and-eq-true-iff, false≢true}

@@ -1,5 +1,5 @@
--- The message of a Failure packet (RFC 2433, section 8; document 01, "What the peer reads"): what it
--- says, and the text that the authenticator writes.
+-- The message of a Failure packet (RFC 2433, section 8; document 01, "What the peer reads"): what
+-- it says, and the text that the authenticator writes.
 -- Assumes nothing: these are definitions.
 use mathlib.Core.Bool.{Bool, true, false, cond, not, _&&_, _||_}
 use mathlib.Core.List.{List, [], _∷_, map}

@@ -1,5 +1,5 @@
-// The message of a Failure packet (RFC 2433, section 8): what the peer reads in it, and the text that
-// the authenticator writes.
+// The message of a Failure packet (RFC 2433, section 8): what the peer reads in it, and the text
+// that the authenticator writes.
 pub mod reasons;
 
 ghost use mathlib.Core.Path.{_≡_};

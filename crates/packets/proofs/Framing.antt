@@ -1,4 +1,5 @@
--- Laws of the frame. What is framed is found again, with any padding t behind it, and a good frame is what it frames.
+-- Laws of the frame. What is framed is found again, with any padding t behind it, and a good frame
+-- is what it frames.
 -- Assumes nothing.
 use mathlib.Core.Path.{_≡_, refl, sym, ap, _∙_}
 use mathlib.Core.Bool.{Bool, true, false, _||_, false≢true}

@@ -1,4 +1,5 @@
--- The domain and the account that the lookup finds in a Response that is written, with any padding t behind it.
+-- The domain and the account that the lookup finds in a Response that is written, with any padding
+-- t behind it.
 -- Assumes nothing.
 use mathlib.Core.Path.{_≡_, refl, sym, ap, _∙_}
 use mathlib.Core.Bool.{Bool, true, false, _||_, false≢true}

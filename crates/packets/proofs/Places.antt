@@ -1,4 +1,5 @@
--- Where the two parts of a name stand: the packet cut there has the domain and the account, and each lies within the packet.
+-- Where the two parts of a name stand: the packet cut there has the domain and the account, and
+-- each lies within the packet.
 -- Assumes nothing.
 use mathlib.Core.Path.{_≡_, refl, sym, ap, ap₂, _∙_}
 use mathlib.Core.Bool.{Bool, true, false, cond, not, _||_, false≢true}

@@ -1,5 +1,5 @@
--- The refusal number and the values of a reply by document 01 are those of the verdict read, and a reply that is not refused has the identifier of
--- the last packet.
+-- The refusal number and the values of a reply by document 01 are those of the verdict read, and a
+-- reply that is not refused has the identifier of the last packet.
 -- Assumes nothing.
 use mathlib.Core.Path.{_≡_, refl, ap, _∙_}
 use mathlib.Core.Bool.{Bool, true, false, cond, not, _||_}

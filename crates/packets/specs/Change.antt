@@ -1,13 +1,14 @@
--- The Change Password packet, version 2 (RFC 2433, section 10): Length 1118.
+-- The Change Password packet, version 2 (RFC 2433, section 10).
 -- Assumes nothing: these are definitions.
 use mathlib.Core.Bool.{Bool, cond, not}
 use mathlib.Core.List.{List, [], _∷_, _++_}
-use Prim.Native.Nat.{ℕ}
+use Prim.Native.Nat.{ℕ, _+_}
 use lib.Dec.{eqb, ltb}
 use lib.ListN.{length}
 use Rattle.octets.specs.Parts.{part, fixed}
 use Rattle.octets.specs.Numbers.{fromBe, toBe}
 use Rattle.packets.specs.Frame.{octet, lengthOf, framed, answerBy, outBy}
+use Rattle.packets.specs.Sizes.{headSize, answerSize, hashSize, blockSize, verifierOffset, lmBlockOffset, lmVerifierOffset, lmAnswerOffset, ntAnswerOffset, flagsOffset, changeSize}
 use Rattle.packets.specs.declared.Change.{Change}
 use Rattle.packets.specs.declared.Written.{Written}
 
@@ -20,18 +21,18 @@ changePacket id f =
 abbrev pub changeIn : List ℕ → Change
 changeIn p =
     record {
-      block = fixed 516 (part 4 516 p);
-      verifier = fixed 16 (part 520 16 p);
-      lmblock = fixed 516 (part 536 516 p);
-      lmverifier = fixed 16 (part 1052 16 p);
-      lm = fixed 24 (part 1068 24 p);
-      nt = fixed 24 (part 1092 24 p);
-      flags = fromBe (octet 1116 p ∷ octet 1117 p ∷ []);
+      block = fixed blockSize (part headSize blockSize p);
+      verifier = fixed hashSize (part verifierOffset hashSize p);
+      lmblock = fixed blockSize (part lmBlockOffset blockSize p);
+      lmverifier = fixed hashSize (part lmVerifierOffset hashSize p);
+      lm = fixed answerSize (part lmAnswerOffset answerSize p);
+      nt = fixed answerSize (part ntAnswerOffset answerSize p);
+      flags = fromBe (octet flagsOffset p ∷ octet (flagsOffset + 1) p ∷ []);
     }
 
 -- refusal 6
 abbrev pub badChangeSize : List ℕ → Bool
-badChangeSize p = not (eqb (lengthOf p) 1118)
+badChangeSize p = not (eqb (lengthOf p) changeSize)
 
 -- refusal 7: one of the bits 2 to 15 is set
 abbrev pub badChangeFlags : List ℕ → Bool
@@ -44,7 +45,7 @@ changeRefusal p = cond (badChangeSize p) 6 (cond (badChangeFlags p) 7 0)
 -- ---- writing one: refusal 9 for too little room
 
 abbrev pub shortForChange : List ℕ → Bool
-shortForChange out = ltb (length out) 1118
+shortForChange out = ltb (length out) changeSize
 
 unfoldable pub changeWriteRefusal : List ℕ → ℕ
 changeWriteRefusal out = cond (shortForChange out) 9 0

@@ -1,4 +1,5 @@
--- The frame of every packet (RFC 1994, section 4): code, identifier, Length (two octets, the most significant first, of the whole packet), data.
+-- The frame of every packet (RFC 1994, section 4): code, identifier, Length (two octets, the most
+-- significant first, of the whole packet), data.
 -- Assumes nothing: these are definitions.
 use mathlib.Core.Bool.{Bool, cond, not, _||_}
 use mathlib.Core.List.{List, [], _∷_, _++_}
@@ -7,6 +8,7 @@ use lib.Dec.{eqb, leb, ltb}
 use lib.ListN.{length, getD, drop}
 use Rattle.octets.specs.Parts.{part}
 use Rattle.octets.specs.Numbers.{fromBe, toBe}
+use Rattle.packets.specs.Sizes.{headSize}
 use Rattle.packets.specs.declared.Written.{Written}
 
 -- the octet at the place i, 0 where p does not reach it
@@ -18,11 +20,11 @@ lengthOf p = fromBe (octet 2 p ∷ octet 3 p ∷ [])
 
 -- a packet with the data d
 abbrev pub framed : ℕ → ℕ → List ℕ → List ℕ
-framed code id d = code ∷ id ∷ (toBe 2 (4 + length d) ++ d)
+framed code id d = code ∷ id ∷ (toBe 2 (headSize + length d) ++ d)
 
 -- refusal 3: under 4 octets, or Length under 4 or over what was lent
 abbrev pub badFrame : List ℕ → Bool
-badFrame p = ltb (length p) 4 || (ltb (lengthOf p) 4 || ltb (length p) (lengthOf p))
+badFrame p = ltb (length p) headSize || (ltb (lengthOf p) headSize || ltb (length p) (lengthOf p))
 
 -- refusal 5: another identifier than this one
 abbrev pub badId : ℕ → List ℕ → Bool
@@ -30,11 +32,12 @@ badId id p = not (eqb (octet 1 p) id)
 
 -- the data end at Length: the octets after it are padding
 abbrev pub dataOf : List ℕ → List ℕ
-dataOf p = part 4 (lengthOf p - 4) p
+dataOf p = part headSize (lengthOf p - headSize) p
 
 -- ---- a packet at the front of a lent buffer
 
--- the buffer afterwards: the packet and then the octets that lay there before or, with too little room, all as it was
+-- the buffer afterwards: the packet and then the octets that lay there before or, with too little
+-- room, all as it was
 unfoldable pub headed : List ℕ → List ℕ → List ℕ
 headed packet out = cond (leb (length packet) (length out)) (packet ++ drop (length packet) out) out
 

@@ -1,3 +1,4 @@
+pub mod Sizes
 pub mod Frame
 pub mod Response
 pub mod Change

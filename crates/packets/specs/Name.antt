@@ -1,4 +1,5 @@
--- The two parts of a Response's name, for the lookup (document 01, "Frame and packets"): split at its first backslash, which is in neither.
+-- The two parts of a Response's name, for the lookup (document 01, "Frame and packets"): split at
+-- its first backslash, which is in neither.
 -- Assumes nothing: these are definitions.
 use mathlib.Core.Bool.{Bool, false, cond, not, _||_}
 use mathlib.Core.List.{List, [], _∷_}
@@ -6,6 +7,7 @@ use Prim.Native.Nat.{ℕ, _+_, _-_}
 use lib.Dec.{eqb}
 use lib.ListN.{length}
 use Rattle.packets.specs.Frame.{octet, lengthOf, badFrame}
+use Rattle.packets.specs.Sizes.{nameOffset}
 use Rattle.packets.specs.Response.{nameIn, badResponseSize, badResponseFlag}
 use Rattle.packets.specs.declared.Part.{Part}
 
@@ -27,7 +29,8 @@ afterSplit (x ∷ n) = cond (eqb x 92) n (afterSplit n)
 abbrev pub isUnfit : List ℕ → Bool
 isUnfit p = badFrame p || (not (eqb (octet 0 p) 2) || (badResponseSize p || badResponseFlag p))
 
--- the domain: the part of the name before the backslash (empty before a leading one) or, where there is none, the whole home domain
+-- the domain: the part of the name before the backslash (empty before a leading one) or, where
+-- there is none, the whole home domain
 unfoldable pub domainOf : List ℕ → List ℕ → List ℕ
 domainOf p home = cond (isUnfit p) [] (cond (isSplit (nameIn p)) (beforeSplit (nameIn p)) home)
 
@@ -35,7 +38,8 @@ domainOf p home = cond (isUnfit p) [] (cond (isSplit (nameIn p)) (beforeSplit (n
 unfoldable pub accountOf : List ℕ → List ℕ
 accountOf p = cond (isUnfit p) [] (cond (isSplit (nameIn p)) (afterSplit (nameIn p)) (nameIn p))
 
--- ---- where the two parts stand in the packet; a name begins at 54, so offset 0 says that the part is not there
+-- ---- where the two parts stand in the packet; no name begins at 0, so offset 0 says that the part
+-- is not there
 
 abbrev pub noPart : Part
 noPart = record { offset = 0; length = 0 }
@@ -46,7 +50,7 @@ partFrom a p = record { offset = a; length = lengthOf p - a }
 
 -- not there where the name has no backslash: the home domain counts
 unfoldable pub domainPart : List ℕ → Part
-domainPart p = cond (isUnfit p) noPart (cond (isSplit (nameIn p)) (record { offset = 54; length = length (beforeSplit (nameIn p)) }) noPart)
+domainPart p = cond (isUnfit p) noPart (cond (isSplit (nameIn p)) (record { offset = nameOffset; length = length (beforeSplit (nameIn p)) }) noPart)
 
 unfoldable pub accountPart : List ℕ → Part
-accountPart p = cond (isUnfit p) noPart (cond (isSplit (nameIn p)) (partFrom (55 + length (beforeSplit (nameIn p))) p) (partFrom 54 p))
+accountPart p = cond (isUnfit p) noPart (cond (isSplit (nameIn p)) (partFrom (nameOffset + 1 + length (beforeSplit (nameIn p))) p) (partFrom nameOffset p))

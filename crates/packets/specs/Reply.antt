@@ -10,6 +10,7 @@ use Rattle.octets.specs.Parts.{part, fixed}
 use Rattle.message.specs.Message.{readMessage, messageRefusal, messageValues, refusedWith, succeeded}
 use Rattle.message.specs.declared.Reading.{Reading}
 use Rattle.packets.specs.Frame.{octet, lengthOf, framed, badFrame, badId, dataOf}
+use Rattle.packets.specs.Sizes.{headSize, challengeSize, challengeOffset, challengeLength, messageSize}
 use Rattle.packets.specs.declared.Asked.{Asked}
 
 -- a Challenge with no name, a Success with no message, a Failure with its message
@@ -22,9 +23,9 @@ successPacket id = framed 3 id []
 unfoldable pub failurePacket : ℕ → List ℕ → List ℕ
 failurePacket id message = framed 4 id message
 
--- the longest of them is the Failure: 4 octets before its message, which has 13
+-- the longest of them is a Failure with its message
 abbrev pub longestReply : ℕ
-longestReply = 4 + 13
+longestReply = headSize + messageSize
 
 -- refusal 2: a reply buffer that cannot hold it
 abbrev pub badReplyBuffer : List ℕ → Bool
@@ -34,19 +35,19 @@ badReplyBuffer reply = ltb (length reply) longestReply
 
 -- no Challenge: the refusal, with fixed values
 abbrev pub notAsked : ℕ → Asked
-notAsked n = record { refusal = n; id = 0; challenge = replicate 8 0 }
+notAsked n = record { refusal = n; id = 0; challenge = replicate challengeSize 0 }
 
 -- refusal 11: of another kind, cut short, or of a size other than 8. A name may follow and is
 -- ignored.
 abbrev pub badChallenge : List ℕ → Bool
-badChallenge p = not (eqb (octet 0 p) 1) || (ltb (lengthOf p) (5 + 8) || not (eqb (octet 4 p) 8))
+badChallenge p = not (eqb (octet 0 p) 1) || (ltb (lengthOf p) challengeLength || not (eqb (octet headSize p) challengeSize))
 
 -- 3, then 11
 unfoldable pub readChallenge : List ℕ → Asked
 readChallenge p =
     cond (badFrame p) (notAsked 3)
     (cond (badChallenge p) (notAsked 11)
-    (record { refusal = 0; id = octet 1 p; challenge = fixed 8 (part 5 8 p) }))
+    (record { refusal = 0; id = octet 1 p; challenge = fixed challengeSize (part challengeOffset challengeSize p) }))
 
 -- what a packet says, by its code
 abbrev pub bodyRead : List ℕ → Reading

@@ -5,27 +5,39 @@ use crate::frames::head;
 use crate::frames::length;
 use crate::frames::octet;
 use crate::responses::response_at;
+use crate::sizes::ANSWER_SIZE;
+use crate::sizes::BLOCK_SIZE;
+use crate::sizes::CHANGE_SIZE;
+use crate::sizes::FLAGS_OFFSET;
+use crate::sizes::HASH_SIZE;
+use crate::sizes::HEAD_SIZE;
+use crate::sizes::LM_ANSWER_OFFSET;
+use crate::sizes::LM_BLOCK_OFFSET;
+use crate::sizes::LM_VERIFIER_OFFSET;
+use crate::sizes::NT_ANSWER_OFFSET;
+use crate::sizes::VERIFIER_OFFSET;
 use refusals::refuse_if;
 ghost use mathlib.Core.Path.{_≡_};
 ghost use mathlib.Core.List.{[], _∷_, _++_};
-ghost use Prim.Native.Nat.{_≤_, _<_};
+ghost use Prim.Native.Nat.{_+_, _≤_, _<_};
 ghost use lib.ListN.{length};
 ghost use Rattle.octets.specs.Parts.{part, fixed, overAt};
 ghost use Rattle.octets.specs.Numbers.{fromBe, toBe};
 ghost use Rattle.packets.specs.Frame.{octet, headed};
+ghost use Rattle.packets.specs.Sizes.{hashSize, blockSize, lmAnswerOffset, flagsOffset, changeSize};
 ghost use Rattle.packets.specs.Change.{changePacket, badChangeSize, badChangeFlags, shortForChange, changeRefusal, changeIn, changeWritten, changeOut};
 
 // The flags, the most significant octet first.
 fn flags(packet: &[u8]) -> u16
-    ensures { λ r. ⌜ r ≡ fromBe (octet 1116 (now (packet .entry)) ∷ octet 1117 (now (packet .entry)) ∷ []) ⌝ }
+    ensures { λ r. ⌜ r ≡ fromBe (octet flagsOffset (now (packet .entry)) ∷ octet (flagsOffset + 1) (now (packet .entry)) ∷ []) ⌝ }
 {
-    octets::u16_from_be(octet(packet, 1116), octet(packet, 1117))
+    octets::u16_from_be(octet(packet, FLAGS_OFFSET), octet(packet, FLAGS_OFFSET + 1))
 }
 
 fn bad_size(packet: &[u8]) -> bool
     ensures { λ r. ⌜ r ≡ badChangeSize (now (packet .entry)) ⌝ }
 {
-    length(packet) != 1118
+    length(packet) != CHANGE_SIZE
 }
 
 // One of the bits 2 to 15 is set.
@@ -43,23 +55,23 @@ pub fn change_refusal(packet: &[u8]) -> u8
 }
 
 // A sealed block, from the place at on; 0 where the packet does not reach.
-fn block_at(packet: &[u8], at: usize) -> [u8; 516]
-    ensures { λ r. ⌜ r ≡ fixed 516 (part at 516 (now (packet .entry))) ⌝ }
+fn block_at(packet: &[u8], at: usize) -> [u8; BLOCK_SIZE]
+    ensures { λ r. ⌜ r ≡ fixed blockSize (part at blockSize (now (packet .entry))) ⌝ }
 {
-    let mut block = [0u8; 516];
-    octets::copy(&mut block, octets::part_of(packet, at, 516));
+    let mut block = [0u8; BLOCK_SIZE];
+    octets::copy(&mut block, octets::part_of(packet, at, BLOCK_SIZE));
     block
 }
 
 pub fn read_change(packet: &[u8]) -> Change
     ensures { λ r. ⌜ r ≡ changeIn (now (packet .entry)) ⌝ }
 {
-    let block = block_at(packet, 4);
-    let verifier = octets::sixteen_at(packet, 520);
-    let lmblock = block_at(packet, 536);
-    let lmverifier = octets::sixteen_at(packet, 1052);
-    let lm = response_at(packet, 1068);
-    let nt = response_at(packet, 1092);
+    let block = block_at(packet, HEAD_SIZE);
+    let verifier = octets::sixteen_at(packet, VERIFIER_OFFSET);
+    let lmblock = block_at(packet, LM_BLOCK_OFFSET);
+    let lmverifier = octets::sixteen_at(packet, LM_VERIFIER_OFFSET);
+    let lm = response_at(packet, LM_ANSWER_OFFSET);
+    let nt = response_at(packet, NT_ANSWER_OFFSET);
     let flags = flags(packet);
     Change {
         block,
@@ -72,49 +84,49 @@ pub fn read_change(packet: &[u8]) -> Change
     }
 }
 
-// Puts a block and the hash behind it at the place at, one of 4 and 536.
-fn put_pair(out: &mut [u8], at: usize, block: [u8; 516], verifier: [u8; 16])
-    requires { ⌜ at < 1118 ⌝ }
-    ensures { λ _. ⌜ (now (out .exit) ≡ overAt at (block ++ verifier) (now (out .entry))) × (length (block ++ verifier) ≡ 532) ⌝ }
+// Puts a block and the hash behind it at the place at.
+fn put_pair(out: &mut [u8], at: usize, block: [u8; BLOCK_SIZE], verifier: [u8; HASH_SIZE])
+    requires { ⌜ at < changeSize ⌝ }
+    ensures { λ _. ⌜ (now (out .exit) ≡ overAt at (block ++ verifier) (now (out .entry))) × (length (block ++ verifier) ≡ blockSize + hashSize) ⌝ }
 {
     octets::copy_at(out, at, &block);
-    octets::copy_at(out, at + 516, &verifier);
+    octets::copy_at(out, at + BLOCK_SIZE, &verifier);
 }
 
 // Puts the two responses and the flags at their place.
-fn put_rest(out: &mut [u8], lm: [u8; 24], nt: [u8; 24], flags: u16)
-    ensures { λ _. ⌜ (now (out .exit) ≡ overAt 1068 (lm ++ (nt ++ toBe 2 flags)) (now (out .entry))) × (length (lm ++ (nt ++ toBe 2 flags)) ≡ 50) ⌝ }
+fn put_rest(out: &mut [u8], lm: [u8; ANSWER_SIZE], nt: [u8; ANSWER_SIZE], flags: u16)
+    ensures { λ _. ⌜ (now (out .exit) ≡ overAt lmAnswerOffset (lm ++ (nt ++ toBe 2 flags)) (now (out .entry))) × (length (lm ++ (nt ++ toBe 2 flags)) ≡ 50) ⌝ }
 {
     let last = octets::u16_to_be(flags);
-    octets::copy_at(out, 1068, &lm);
-    octets::copy_at(out, 1092, &nt);
-    octets::copy_at(out, 1116, &last);
+    octets::copy_at(out, LM_ANSWER_OFFSET, &lm);
+    octets::copy_at(out, NT_ANSWER_OFFSET, &nt);
+    octets::copy_at(out, FLAGS_OFFSET, &last);
 }
 
 // There is too little room for a change.
 fn is_short(out: &[u8]) -> bool
     ensures { λ r. ⌜ r ≡ shortForChange (now (out .entry)) ⌝ }
 {
-    out.len() < 1118
+    out.len() < CHANGE_SIZE
 }
 
 // Puts a change that is not refused at the front of out: how many octets it has.
 fn put_change(id: u8, fields: Change, out: &mut [u8]) -> usize
-    requires { ⌜ 1118 ≤ length (now out) ⌝ }
+    requires { ⌜ changeSize ≤ length (now out) ⌝ }
     ensures { λ r. ⌜ (r ≡ length (changePacket id fields)) × (now (out .exit) ≡ headed (changePacket id fields) (now (out .entry))) ⌝ }
 {
-    let first = head(6, id, 1118);
+    let first = head(6, id, CHANGE_SIZE as u16);
     octets::copy_at(out, 0, &first);
     let block = fields.block;
     let verifier = fields.verifier;
-    put_pair(out, 4, block, verifier);
+    put_pair(out, HEAD_SIZE, block, verifier);
     let lmblock = fields.lmblock;
     let lmverifier = fields.lmverifier;
-    put_pair(out, 536, lmblock, lmverifier);
+    put_pair(out, LM_BLOCK_OFFSET, lmblock, lmverifier);
     let lm = fields.lm;
     let nt = fields.nt;
     put_rest(out, lm, nt, fields.flags);
-    1118
+    CHANGE_SIZE
 }
 
 // Writes a change at the front of out. Refusal 9: too little room.

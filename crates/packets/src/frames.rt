@@ -1,4 +1,5 @@
 // The frame of every packet: code, identifier, Length, data.
+use crate::sizes::HEAD_SIZE;
 use refusals::refuse_if;
 ghost use mathlib.Core.Path.{_≡_};
 ghost use mathlib.Core.Bool.{cond};
@@ -26,7 +27,7 @@ pub fn bad_frame(packet: &[u8]) -> bool
     ensures { λ r. ⌜ r ≡ badFrame (now (packet .entry)) ⌝ }
 {
     let n = length(packet);
-    packet.len() < 4 || (n < 4 || packet.len() < n)
+    packet.len() < HEAD_SIZE || (n < HEAD_SIZE || packet.len() < n)
 }
 
 // Its identifier is another one than this.
@@ -52,7 +53,7 @@ pub fn behind(packet: &[u8], front: usize) -> usize
 }
 
 // The four octets before the data, for a packet of the given Length.
-pub fn head(code: u8, id: u8, length: u16) -> [u8; 4]
+pub fn head(code: u8, id: u8, length: u16) -> [u8; HEAD_SIZE]
     ensures { λ r. ⌜ r ≡ code ∷ id ∷ toBe 2 length ⌝ }
 {
     let n = octets::u16_to_be(length);

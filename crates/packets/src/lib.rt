@@ -4,6 +4,7 @@ mod frames;
 mod names;
 mod replies;
 mod responses;
+mod sizes;
 
 pub use changes::change_refusal;
 pub use changes::read_change;
@@ -27,23 +28,27 @@ pub use responses::name;
 pub use responses::read_response;
 pub use responses::response_refusal;
 pub use responses::write_response;
+use sizes::ANSWER_SIZE;
+use sizes::BLOCK_SIZE;
+use sizes::CHALLENGE_SIZE;
+use sizes::HASH_SIZE;
 
 // The fields of a Response; its name stands beside them, as a part of the packet.
 pub struct Response {
-    pub lm: [u8; 24],
-    pub nt: [u8; 24],
+    pub lm: [u8; ANSWER_SIZE],
+    pub nt: [u8; ANSWER_SIZE],
     pub flag: u8,
 }
 
 // The fields of a version 2 Change Password packet: the new password under the old NT hash, the old
 // NT hash under the new one, the same two for LM, the LM and the NT response, and the flags.
 pub struct Change {
-    pub block: [u8; 516],
-    pub verifier: [u8; 16],
-    pub lmblock: [u8; 516],
-    pub lmverifier: [u8; 16],
-    pub lm: [u8; 24],
-    pub nt: [u8; 24],
+    pub block: [u8; BLOCK_SIZE],
+    pub verifier: [u8; HASH_SIZE],
+    pub lmblock: [u8; BLOCK_SIZE],
+    pub lmverifier: [u8; HASH_SIZE],
+    pub lm: [u8; ANSWER_SIZE],
+    pub nt: [u8; ANSWER_SIZE],
     pub flags: u16,
 }
 
@@ -57,7 +62,7 @@ pub struct Written {
 pub struct Asked {
     pub refusal: u8,
     pub id: u8,
-    pub challenge: [u8; 8],
+    pub challenge: [u8; CHALLENGE_SIZE],
 }
 
 // Where a part of a packet stands: from offset on, length octets. Offset 0 says that it is not in

@@ -6,6 +6,7 @@ use crate::frames::octet;
 use crate::responses::bad_flag;
 use crate::responses::bad_size;
 use crate::responses::name;
+use crate::sizes::NAME_OFFSET;
 ghost use mathlib.Core.Path.{_≡_};
 ghost use lib.ListN.{length};
 ghost use Rattle.packets.specs.Name.{isUnfit, beforeSplit, noPart, partFrom, domainPart, accountPart, domainOf, accountOf};
@@ -24,7 +25,7 @@ fn split_at(name: &[u8]) -> usize
 {
     let mut i = 0;
     while i < name.len() {
-        if name[i] == 92 {
+        if name[i] == b'\\' {
             return i;
         }
         i += 1;
@@ -53,7 +54,8 @@ fn part_from(packet: &[u8], at: usize) -> Part
     }
 }
 
-// Where the domain stands: before the first backslash. Nowhere where there is none, or the packet is refused.
+// Where the domain stands: before the first backslash. Nowhere where there is none, or the packet
+// is refused.
 pub fn domain_part(packet: &[u8]) -> Part
     ensures { λ r. ⌜ r ≡ domainPart (now (packet .entry)) ⌝ }
 {
@@ -64,14 +66,15 @@ pub fn domain_part(packet: &[u8]) -> Part
     let k = split_at(name);
     if k < name.len() {
         return Part {
-            offset: 54,
+            offset: NAME_OFFSET,
             length: k,
         };
     }
     no_part()
 }
 
-// Where the account stands: behind the first backslash or, where there is none, the whole name. Nowhere where the packet is refused.
+// Where the account stands: behind the first backslash or, where there is none, the whole name.
+// Nowhere where the packet is refused.
 pub fn account_part(packet: &[u8]) -> Part
     ensures { λ r. ⌜ r ≡ accountPart (now (packet .entry)) ⌝ }
 {
@@ -81,12 +84,13 @@ pub fn account_part(packet: &[u8]) -> Part
     let name = name(packet);
     let k = split_at(name);
     if k < name.len() {
-        return part_from(packet, 55 + k);
+        return part_from(packet, NAME_OFFSET + 1 + k);
     }
-    part_from(packet, 54)
+    part_from(packet, NAME_OFFSET)
 }
 
-// The domain: what stands before the first backslash or, where there is none, the home domain. Empty for a packet that is refused.
+// The domain: what stands before the first backslash or, where there is none, the home domain.
+// Empty for a packet that is refused.
 pub fn domain<'a>(packet: &'a [u8], home: &'a [u8]) -> &'a [u8]
     ensures { λ r. ⌜ now r ≡ domainOf (now (packet .entry)) (now (home .entry)) ⌝ }
 {

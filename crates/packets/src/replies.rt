@@ -6,6 +6,11 @@ use crate::frames::behind;
 use crate::frames::head;
 use crate::frames::length;
 use crate::frames::octet;
+use crate::sizes::CHALLENGE_LENGTH;
+use crate::sizes::CHALLENGE_OFFSET;
+use crate::sizes::CHALLENGE_SIZE;
+use crate::sizes::HEAD_SIZE;
+use crate::sizes::LONGEST_REPLY;
 use message::Reading;
 use refusals::refuse_if;
 ghost use mathlib.Core.Path.{_≡_};
@@ -17,48 +22,48 @@ ghost use Rattle.packets.specs.Reply.{challengePacket, successPacket, fa
 pub fn is_bad_reply_buffer(reply: &[u8]) -> bool
     ensures { λ r. ⌜ r ≡ badReplyBuffer (now (reply .entry)) ⌝ }
 {
-    reply.len() < 17
+    reply.len() < LONGEST_REPLY
 }
 
 // ---- writers: each answers how many octets of out it wrote, 0 where there is too little room
 
-pub fn write_challenge(id: u8, challenge: [u8; 8], out: &mut [u8]) -> usize
+pub fn write_challenge(id: u8, challenge: [u8; CHALLENGE_SIZE], out: &mut [u8]) -> usize
     ensures { λ r. ⌜ (r ≡ headedLength (challengePacket id challenge) (now (out .entry))) × (now (out .exit) ≡ headed (challengePacket id challenge) (now (out .entry))) ⌝ }
 {
-    if out.len() < 13 {
+    if out.len() < CHALLENGE_LENGTH {
         return 0;
     }
-    let first = head(1, id, 13);
-    let size = [8u8];
+    let first = head(1, id, CHALLENGE_LENGTH as u16);
+    let size = [CHALLENGE_SIZE as u8];
     octets::copy_at(out, 0, &first);
-    octets::copy_at(out, 4, &size);
-    octets::copy_at(out, 5, &challenge);
-    13
+    octets::copy_at(out, HEAD_SIZE, &size);
+    octets::copy_at(out, CHALLENGE_OFFSET, &challenge);
+    CHALLENGE_LENGTH
 }
 
 pub fn write_success(id: u8, out: &mut [u8]) -> usize
     ensures { λ r. ⌜ (r ≡ headedLength (successPacket id) (now (out .entry))) × (now (out .exit) ≡ headed (successPacket id) (now (out .entry))) ⌝ }
 {
-    if out.len() < 4 {
+    if out.len() < HEAD_SIZE {
         return 0;
     }
-    let first = head(3, id, 4);
+    let first = head(3, id, HEAD_SIZE as u16);
     octets::copy_at(out, 0, &first);
-    4
+    HEAD_SIZE
 }
 
 // The message is `E=691 R=1 V=2` with the numbers set.
 pub fn write_failure(id: u8, e: u16, r: u8, v: u8, out: &mut [u8]) -> usize
     ensures { λ n. ⌜ (n ≡ headedLength (failurePacket id (textOf e r v)) (now (out .entry))) × (now (out .exit) ≡ headed (failurePacket id (textOf e r v)) (now (out .entry))) ⌝ }
 {
-    if out.len() < 17 {
+    if out.len() < LONGEST_REPLY {
         return 0;
     }
-    let first = head(4, id, 17);
+    let first = head(4, id, LONGEST_REPLY as u16);
     let text = message::text(e, r, v);
     octets::copy_at(out, 0, &first);
-    octets::copy_at(out, 4, &text);
-    17
+    octets::copy_at(out, HEAD_SIZE, &text);
+    LONGEST_REPLY
 }
 
 // ---- readers
@@ -69,7 +74,7 @@ fn not_asked(refusal: u8) -> Asked
     Asked {
         refusal,
         id: 0,
-        challenge: [0; 8],
+        challenge: [0; CHALLENGE_SIZE],
     }
 }
 
@@ -79,8 +84,8 @@ fn bad_challenge(packet: &[u8]) -> bool
 {
     let code = octet(packet, 0);
     let n = length(packet);
-    let size = octet(packet, 4);
-    code != 1 || (n < 13 || size != 8)
+    let size = octet(packet, HEAD_SIZE);
+    code != 1 || (n < CHALLENGE_LENGTH || size != CHALLENGE_SIZE as u8)
 }
 
 // A Challenge. Refusal 3: the frame; 11: another kind, cut short, or of a size other than 8.
@@ -95,7 +100,7 @@ pub fn read_challenge(packet: &[u8]) -> Asked
     if refusal != 0 {
         return not_asked(refusal);
     }
-    let challenge = octets::eight_at(packet, 5);
+    let challenge = octets::eight_at(packet, CHALLENGE_OFFSET);
     let id = octet(packet, 1);
     Asked {
         refusal: 0,
@@ -113,7 +118,7 @@ fn read_body(packet: &[u8]) -> Reading
         return message::succeeded();
     }
     if code == 4 {
-        return message::read(octets::part_of(packet, 4, behind(packet, 4)));
+        return message::read(octets::part_of(packet, HEAD_SIZE, behind(packet, HEAD_SIZE)));
     }
     message::refused_with(11)
 }

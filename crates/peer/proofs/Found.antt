@@ -1,4 +1,5 @@
--- What the authenticator finds in the packets that our peer writes: they pass its checks and read back field for field, whatever padding follows.
+-- What the authenticator finds in the packets that our peer writes: they pass its checks and read
+-- back field for field, whatever padding follows.
 -- Assumes nothing.
 use mathlib.Core.Path.{_≡_, refl}
 use mathlib.Core.List.{List, _++_}

@@ -1,5 +1,5 @@
--- What the peer's writers answer, by their own refusal, and by that of the packet's writer where they
--- have none.
+-- What the peer's writers answer, by their own refusal, and by that of the packet's writer where
+-- they have none.
 -- Assumes nothing.
 use mathlib.Core.Path.{_≡_, sym, ap, _∙_}
 use mathlib.Core.Bool.{Bool, true, false, cond}

@@ -12,8 +12,8 @@ pub struct Turn {
     pub challenge: [u8; 8],
 }
 
-// The last packet that the peer sent, if there is one: its identifier, and the challenge of the last
-// Response. Reading leaves it alone, so that a reply may be read again.
+// The last packet that the peer sent, if there is one: its identifier, and the challenge of the
+// last Response. Reading leaves it alone, so that a reply may be read again.
 pub struct Sent {
     pub present: bool,
     pub id: u8,

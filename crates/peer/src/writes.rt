@@ -88,8 +88,8 @@ fn are_bad_passwords(old: &[u8], new: &[u8]) -> bool
     credentials::is_bad_nt_password(old) || credentials::is_bad_nt_password(new)
 }
 
-// Writes a version 2 change from the old and the new password at the front of out. Refusal 8: either
-// password; 12: the filler; 9: too little room.
+// Writes a version 2 change from the old and the new password at the front of out. Refusal 8:
+// either password; 12: the filler; 9: too little room.
 pub(crate) fn write_change(
     turn: Turn,
     old: &[u8],

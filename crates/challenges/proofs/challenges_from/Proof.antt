@@ -1,4 +1,5 @@
--- `challenges::challenges_from` meets its contract. The loop's invariant: what lies in run, with what follows from next, is all.
+-- `challenges::challenges_from` meets its contract. The loop's invariant: what lies in run, with
+-- what follows from next, is all.
 -- Assumes nothing.
 use mathlib.Core.List.{_++_, flatten}
 use mathlib.Core.Path.{_≡_, refl, sym, ap, _∙_}

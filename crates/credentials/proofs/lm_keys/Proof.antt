@@ -1,4 +1,5 @@
--- `credentials::lm_keys` meets its contract. The loop's invariant: what is upper-cased, and the rest with upper case, is what is asked.
+-- `credentials::lm_keys` meets its contract. The loop's invariant: what is upper-cased, and the
+-- rest with upper case, is what is asked.
 -- Assumes nothing.
 use mathlib.Core.Path.{_≡_, refl, sym, ap, _∙_}
 use mathlib.Core.List.{_++_, map}

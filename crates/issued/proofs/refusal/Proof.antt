@@ -1,112 +1,35 @@
 -- `issued::refusal` meets its contract.
 -- Assumes nothing.
-use mathlib.Core.Bool.{false}
-use mathlib.Core.List.{List}
-use mathlib.Core.Path.{_≡_, refl, sym, ap, _∙_}
-use Prim.Native.Nat.{ℕ, _-_}
-use native.Mathlib.Nat.{mul-div-le}
-use native.Mathlib.Omega.{arith}
+use mathlib.Core.Bool.{Bool, true, false, cond}
+use mathlib.Core.Path.{_≡_, sym, ap, _∙_}
 use borrow.Author.Needs.{needs}
-use borrow.Author.Tests.{not-true, not-false}
-use lib.Dec.{ltb}
-use lib.ListN.{length, length-replicate}
-use Rattle.octets.specs.Parts.{agrees}
-use Rattle.issued.specs.Issued.{Issued, places, entriesIn, listed, meets, countsOf, badBuffer, full, spendRefusal}
-use Rattle.issued.proofs.Listing.{length-entries}
-use Rattle.issued.proofs.Counting.{counted, zeros-room}
-use Rattle.issued.proofs.Spending.{Sound, sound, places-fit}
+use Rattle.issued.specs.Issued.{Issued, entriesIn, badBuffer, passRefusal, spendRefusal}
 use Rattle.issued.proofs.refusal.Statement.{statement}
 use Rattle.issued.proofs.refusal.Tie as tie
 
-returns : tie.Need-returns
-unfolding spendRefusal
-returns c = sym (simp (sym (c .before .is-bad-buffer .ensures) ∙ c .if1 .taken))
+-- ---- behind the test
 
--- ---- behind the first test
+abbrev start : tie.After-is-bad-buffer → tie.Start
+start c = c .before .before .before .before
 
-abbrev given : tie.Else1 → Issued
-given c =
-    let a = c .before .before .before .before .before .args in
-    record { buffer = a .buffer .now; used = a .used; counts = a .counts .now }
+abbrev given : tie.After-is-bad-buffer → Issued
+given c = let a = start c .args in record { buffer = a .buffer .now; used = a .used; counts = a .counts .now }
 
-abbrev width : tie.Else1 → ℕ
-width c = c .before .before .before .before .before .args .width
-
-abbrev run : tie.Else1 → List ℕ
-run c = c .before .before .before .before .before .args .run .now
-
-not-bad : (c : tie.Else1) → badBuffer (width c) (given c .buffer) (given c .used) ≡ false
+not-bad : (c : tie.Else1) → badBuffer (start (c .before) .args .width) (given (c .before) .buffer) (given (c .before) .used) ≡ false
 not-bad c = sym (c .before .is-bad-buffer .ensures) ∙ c .if1 .left
 
-fine : (c : tie.Else1) → Sound (width c) (given c .buffer) (given c .used)
-fine c = sound (width c) (given c .buffer) (given c .used) (not-bad c)
+-- the whole refusal, by what the test found
+by : (c : tie.After-is-bad-buffer) (t : Bool) → badBuffer (start c .args .width) (given c .buffer) (given c .used) ≡ t
+    → cond t 24 (passRefusal (start c .args .width) (entriesIn (start c .args .width) (start c .args .run .now)) (given c))
+    ≡ spendRefusal (start c .args .width) (entriesIn (start c .args .width) (start c .args .run .now)) (given c)
+unfolding spendRefusal
+by c t e = ap (λ (b : Bool). cond b 24 (passRefusal (start c .args .width) (entriesIn (start c .args .width) (start c .args .run .now)) (given c))) (sym e)
 
-div-n : tie.Need-div-n
-div-n c = fine c .positive
-
-mark-requires : tie.Need-mark-requires
-mark-requires c κs = let e = c .before in (fine e .positive, mul-div-le (length (run e)) (width e), refl)
-
-scan-requires : tie.Need-scan-requires
-scan-requires c κs =
-    let m = c .before .before .before in
-    let e = m .before .before in
-    let g = fine e in (
-      g .positive,
-      places-fit (width e) (given e .used) (given e .buffer) (g .fits),
-      mul-div-le (length (run e)) (width e),
-      m .mark .ensures .0,
-      m .mark .ensures .1,
-      length-replicate {A = ℕ} 256 0,
-      zeros-room (given e .used) (omega (arith, g .fits, g .few)),
-    )
-
-is-full-requires : tie.Need-is-full-requires
-is-full-requires c κs = let e = c .before .before .before .before .before .before .before in (fine e .positive, fine e .fits)
-
--- ---- behind the pass
-
-abbrev first : tie.After-agree → tie.Else1
-first c = c .before .before .before .before .before .before .before .before .before .before
-
-met-told : (c : tie.After-agree) → c .before .before .before .before .scan .result ≡ meets (entriesIn (width (first c)) (run (first c))) (listed (width (first c)) (given (first c)))
-met-told c = c .before .before .before .before .scan .ensures .0
-
-counts-told : (c : tie.After-agree) → c .agree .result ≡ agrees (countsOf (listed (width (first c)) (given (first c)))) (given (first c) .counts)
-counts-told c = c .agree .ensures ∙ ap (λ (l : List ℕ). agrees l (given (first c) .counts)) (counted (listed (width (first c)) (given (first c))) (c .before .before .before .before .scan .ensures .1))
-
-full-told : (c : tie.After-agree) → c .before .before .is-full .result ≡ full (width (first c)) (entriesIn (width (first c)) (run (first c))) (given (first c))
-full-told c =
-    c .before .before .is-full .ensures
-    ∙ ap (ltb (places (width (first c)) (given (first c) .buffer) - given (first c) .used)) (sym (length-entries (width (first c)) (places (width (first c)) (run (first c))) (run (first c))))
+returns : tie.Need-returns
+returns c = let t = c .before in by t true (sym (t .is-bad-buffer .ensures) ∙ c .if1 .taken)
 
 returns-2 : tie.Need-returns-2
-unfolding spendRefusal
-returns-2 c =
-    let k = c .before in
-    sym (simp (not-bad (first k), sym (counts-told k) ∙ not-true _ (c .if2 .taken)))
-
-returns-3 : tie.Need-returns-3
-unfolding spendRefusal
-returns-3 c =
-    let k = c .before .before in
-    sym (simp (not-bad (first k), sym (counts-told k) ∙ not-false _ (c .before .if2 .left), sym (met-told k) ∙ c .if3 .taken))
-
-returns-4 : tie.Need-returns-4
-unfolding spendRefusal
-returns-4 c =
-    let k = c .before .before .before in
-    sym (simp (not-bad (first k), sym (counts-told k) ∙ not-false _ (c .before .before .if2 .left), sym (met-told k) ∙ c .before .if3 .left, sym (full-told k) ∙ c .if4 .taken))
-
-returns-5 : tie.Need-returns-5
-unfolding spendRefusal
-returns-5 c =
-    let k = c .before .before .before in
-    sym (simp (not-bad (first k), sym (counts-told k) ∙ not-false _ (c .before .before .if2 .left), sym (met-told k) ∙ c .before .if3 .left, sym (full-told k) ∙ c .if4 .left))
+returns-2 c = c .pass-refusal .ensures ∙ by (c .before .before) false (not-bad (c .before))
 
 pub refusal-spec : {M : Type 1} → statement M
-refusal-spec =
-    tie.close
-    (tie.spec
-    (λ c κs. search needs) returns div-n (λ c. search needs) mark-requires (λ c. search needs) (λ c. search needs) scan-requires is-full-requires
-    (λ c. search needs) (λ c κs. search needs) returns-2 returns-3 returns-4 returns-5)
+refusal-spec = tie.close (tie.spec (λ c κs. search needs) returns (λ c κs. not-bad c) returns-2)

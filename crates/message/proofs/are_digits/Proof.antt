@@ -1,4 +1,5 @@
--- `message::are_digits` meets its contract. The loop's invariant: the octets from i on are digits exactly where all are.
+-- `message::are_digits` meets its contract. The loop's invariant: the octets from i on are digits
+-- exactly where all are.
 -- Assumes nothing.
 use Prim.Native.Nat.{_-_}
 use mathlib.Core.Path.{refl}

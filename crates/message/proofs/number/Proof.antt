@@ -1,4 +1,5 @@
--- `message::number` meets its contract. The loop's invariant: value is the number of the first i digits.
+-- `message::number` meets its contract. The loop's invariant: value is the number of the first i
+-- digits.
 -- Assumes nothing.
 use Prim.Native.Nat.{_-_}
 use native.Mathlib.Omega.{arith}

@@ -1,4 +1,5 @@
--- `issued::counts::agree` meets its contract. The loop's invariant: nothing differed yet and the rest agrees, exactly where the whole agrees.
+-- `issued::counts::agree` meets its contract. The loop's invariant: nothing differed yet and the
+-- rest agrees, exactly where the whole agrees.
 -- Assumes nothing.
 use mathlib.Core.Path.{_≡_, refl, sym, _∙_}
 use mathlib.Core.Bool.{_&&_}

@@ -1,4 +1,5 @@
--- `issued::entries::count` meets its contract. The loop's invariant: the entries that are left are still to be counted.
+-- `issued::entries::count` meets its contract. The loop's invariant: the entries that are left are
+-- still to be counted.
 -- Assumes nothing.
 use mathlib.Core.Path.{refl, sym, _∙_}
 use native.Mathlib.Omega.{arith}

@@ -1,4 +1,5 @@
--- `issued::entries::holds` meets its contract. The loop's invariant: the entry stands among those that are left exactly where it stands among all.
+-- `issued::entries::holds` meets its contract. The loop's invariant: the entry stands among those
+-- that are left exactly where it stands among all.
 -- Assumes nothing.
 use mathlib.Core.Bool.{Bool, true, false, _||_}
 use mathlib.Core.List.{List}

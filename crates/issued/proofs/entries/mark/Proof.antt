@@ -1,4 +1,5 @@
--- `issued::entries::mark` meets its contract. The loop's invariant: the entries that are left are still to be marked.
+-- `issued::entries::mark` meets its contract. The loop's invariant: the entries that are left are
+-- still to be marked.
 -- Assumes nothing.
 use mathlib.Core.Bool.{false}
 use mathlib.Core.Path.{refl, sym, ap, _∙_}

@@ -1,4 +1,5 @@
--- `packets::changes::put_change` meets its contract. The pieces lie one behind the other, and are the packet.
+-- `packets::changes::put_change` meets its contract. The pieces lie one behind the other, and are
+-- the packet.
 -- Assumes nothing.
 use mathlib.Core.Path.{sym, ap}
 use mathlib.Core.List.{_++_}
@@ -48,5 +49,5 @@ pub put-change-spec : {M : Type 1} → statement M
 put-change-spec =
     tie.close
     (tie.spec
-    (λ c κs. search needs) (λ c. search needs) (λ c κs. search needs) (λ c κs. search needs) (λ c κs. search needs) (λ c κs. search needs)
+    (λ c. search needs) (λ c κs. search needs) (λ c. search needs) (λ c κs. search needs) (λ c κs. search needs) (λ c κs. search needs) (λ c κs. search needs)
     (λ c. search needs) returns)

@@ -26,4 +26,4 @@ returns-3 c =
 pub bad-challenge-spec : {M : Type 1} → statement M
 bad-challenge-spec =
     tie.close
-    (tie.spec (λ c κs. search needs) (λ c κs. search needs) (λ c κs. search needs) returns returns-2 returns-3)
+    (tie.spec (λ c κs. search needs) (λ c κs. search needs) (λ c κs. search needs) (λ c. search needs) returns returns-2 returns-3)

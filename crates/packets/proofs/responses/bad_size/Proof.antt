@@ -23,4 +23,4 @@ returns-3 c =
     simp (le-ltb (lengthOf p) 55 (omega arith), le-ltb 310 (lengthOf p) (omega arith), c .before .before .octet .ensures)
 
 pub bad-size-spec : {M : Type 1} → statement M
-bad-size-spec = tie.close (tie.spec (λ c κs. search needs) (λ c κs. search needs) returns returns-2 returns-3)
+bad-size-spec = tie.close (tie.spec (λ c κs. search needs) (λ c κs. search needs) (λ c. search needs) returns returns-2 returns-3)

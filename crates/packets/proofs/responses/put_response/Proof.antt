@@ -1,4 +1,5 @@
--- `packets::responses::put_response` meets its contract. The pieces lie one behind the other, and are the packet.
+-- `packets::responses::put_response` meets its contract. The pieces lie one behind the other, and
+-- are the packet.
 -- Assumes nothing.
 use mathlib.Core.Path.{_≡_, refl, sym, ap}
 use mathlib.Core.List.{[], _∷_, _++_}
@@ -67,4 +68,4 @@ pub put-response-spec : {M : Type 1} → statement M
 put-response-spec =
     tie.close
     (tie.spec
-    (λ c. search needs) cast-head (λ c κs. search needs) (λ c. search needs) (λ c κs. search needs) (λ c. search needs) (λ c κs. search needs) (λ c. search needs) (λ c κs. search needs) (λ c. search needs) (λ c κs. search needs) (λ c. search needs) (λ c κs. search needs) (λ c κs. search needs) (λ c. search needs) returns)
+    (λ c. search needs) cast-head (λ c κs. search needs) (λ c. search needs) (λ c. search needs) (λ c κs. search needs) (λ c. search needs) (λ c κs. search needs) (λ c. search needs) (λ c κs. search needs) (λ c. search needs) (λ c κs. search needs) (λ c. search needs) (λ c κs. search needs) (λ c κs. search needs) (λ c. search needs) returns)
