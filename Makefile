@@ -1,11 +1,11 @@
-# make test   everything: layout, the independent program, showfail's cases, the gate `rt ci`, which proves all crates from nothing, and the
-#             library as C and Rust link it
+# make test   everything: layout, the independent program, the gate `rt ci`, which proves all crates
+#             from nothing, showfail's cases, and the library as C and Rust link it
 # make demo   a box and a peer talk: each packet as a line, with what it means
 # make bench  times of the library, next to OpenSSL's where its headers are installed
 
 .PHONY: test demo bench layout reference showfail host expected
 
-test: layout reference showfail
+test: layout reference
 	sh tests/gate.sh
 
 # The first run proves the crates beneath, which takes some minutes.
@@ -16,12 +16,14 @@ demo:
 layout:
 	rt fmt --check
 
-# The independent second program: its own tests, and that the expected output of `vectors` is what it writes.
+# The independent second program: its own tests, and that the expected output of `vectors` is what
+# it writes.
 reference:
 	cargo test --quiet --release --offline --manifest-path reference/Cargo.toml
 	cargo build --quiet --release --offline --manifest-path reference/Cargo.toml
 	sh tests/vectors.sh reference/target/release/reference
 
+# Showfail's cases alone; in `make test` they run on the program that the gate built.
 showfail:
 	rt check showfail
 	sh tests/showfail.sh target/bin/showfail

@@ -1,5 +1,6 @@
 #!/bin/sh
-# The gate, and then what links the archive of the crates that it proved. The gate's words come last.
+# The gate, and then what runs or links what it proved: showfail's cases on the program that it left
+# in target/bin, which proves nothing again, and the archive. The gate's words come last.
 set -eu
 log=$(mktemp)
 trap 'rm -f "$log"' EXIT
@@ -7,5 +8,6 @@ rt ci > "$log" 2>&1 || {
     cat "$log"
     exit 1
 }
+sh tests/showfail.sh target/bin/showfail
 make --no-print-directory host
 cat "$log"

@@ -20,6 +20,7 @@ pub use writing::put;
 pub use writing::put_equals;
 pub use writing::put_field;
 pub use writing::put_hex;
+pub use writing::put_line_feed;
 pub use writing::put_named;
 pub use writing::put_none;
 pub use writing::put_number;

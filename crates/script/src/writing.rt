@@ -9,12 +9,16 @@ pub fn put_space() {
     put(b" ");
 }
 
+pub fn put_line_feed() {
+    put(b"\n");
+}
+
 // Before a command's result.
 pub fn put_equals() {
     put(b" = ");
 }
 
-// For no octets, and for nothing else that could stand there.
+// For no octets, no hash, no record.
 pub fn put_none() {
     put(b"-");
 }

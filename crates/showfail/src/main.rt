@@ -1,4 +1,5 @@
-// Shows what the peer reads in a Failure message, which is all of standard input: a line end there is part of the message.
+// Shows what the peer reads in a Failure message, which is all of standard input: a line end there
+// is part of the message.
 
 // A line with a letter and a number.
 fn show_number(letter: u8, n: u64) {

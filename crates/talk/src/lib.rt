@@ -1,5 +1,5 @@
-// A box (the authenticator) and a peer on one table: what passes between them is printed, each packet
-// as a line and a sentence that says what it means.
+// A box (the authenticator) and a peer talk to each other in one program: what passes between them
+// is printed, each packet as a line and a sentence that says what it means.
 mod ends;
 mod lines;
 

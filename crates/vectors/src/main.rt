@@ -29,6 +29,7 @@ fn run_script(path: &[u8], session: run::Session) -> run::Session {
 }
 
 fn main() {
-    let session = run_script(b"published.txt", run::new_session());
+    let mut session = run::new_session();
+    session = run_script(b"published.txt", session);
     run_script(b"cases.txt", session);
 }

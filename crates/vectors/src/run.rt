@@ -46,12 +46,24 @@ fn is_plain(line: &[u8]) -> bool {
     }
 }
 
+// Copies a line. The lines after a section's marker are of its section.
+fn copy_line(line: &[u8], session: Session) -> Session {
+    script::put(line);
+    let before = session.section;
+    let section = section_after(line, before);
+    let talk = session.talk;
+    Session { section, talk }
+}
+
 // Writes a command's line and its result. Each crate writes the result of its own commands only.
-fn run_command(line: &[u8], talk: Talk) -> Talk {
+fn run_command(line: &[u8], mut session: Session) -> Session {
     script::put(line);
     script_ciphers::run(line);
     script_peer::run(line);
-    script_authenticator::run(line, talk)
+    let before = session.talk;
+    let talk = script_authenticator::run(line, before);
+    session.talk = talk;
+    session
 }
 
 // Writes a line of published vectors.
@@ -64,31 +76,18 @@ fn put_published(line: &[u8], section: Section) {
     }
 }
 
-// Writes what is written for a line, without the line feed.
-fn put_line(line: &[u8], section: Section, talk: Talk) -> Talk {
+// Runs a line, and writes all of its output but for the line feed.
+fn run_line(line: &[u8], session: Session) -> Session {
     if is_plain(line) {
-        script::put(line);
-        return talk;
+        return copy_line(line, session);
     }
+    let section = session.section;
     match section {
-        Section::Cases => run_command(line, talk),
+        Section::Cases => run_command(line, session),
         _ => {
             put_published(line, section);
-            talk
+            session
         }
-    }
-}
-
-// Runs a line.
-fn run_line(line: &[u8], session: Session) -> Session {
-    let section = session.section;
-    let before = session.talk;
-    let talk = put_line(line, section, before);
-    script::put(b"\n");
-    let after = section_after(line, section);
-    Session {
-        section: after,
-        talk,
     }
 }
 
@@ -99,6 +98,7 @@ pub(crate) fn run_lines(script: &[u8], start: Session) -> Session {
     while at < script.len() {
         let end = script::find(script, at, b'\n');
         session = run_line(octets::part_of(script, at, end - at), session);
+        script::put_line_feed();
         at = end + 1;
     }
     session

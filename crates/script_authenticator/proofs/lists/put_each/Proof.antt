@@ -1,4 +1,5 @@
--- `script_authenticator::lists::put_each` meets its contract. The loop's invariant: i is at most 256.
+-- `script_authenticator::lists::put_each` meets its contract. The loop's invariant: i is at most
+-- 256.
 -- Assumes nothing.
 use borrow.Author.Needs.{needs}
 use Prim.Native.Nat.{_≤_, _-_}
@@ -16,4 +17,5 @@ put-each-spec =
     tie.close
     (tie.spec
     Inv-loop μ-loop (λ c. search needs) (λ c. search needs) (λ c. search needs) (λ c. search needs)
-    (λ c κs. search needs) (λ c. search needs) (λ c. search needs) (λ c. search needs) (λ c. search needs))
+    (λ c κs. search needs) (λ c. search needs) (λ c. search needs) (λ c. search needs)
+    (λ c. search needs))

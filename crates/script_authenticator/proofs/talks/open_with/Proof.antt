@@ -1,4 +1,5 @@
--- `script_authenticator::talks::open_with` meets its contract. What is lent lies within the arrays of the list, by their lengths and what `within` ensures.
+-- `script_authenticator::talks::open_with` meets its contract. What is lent lies within the arrays
+-- of the list, by their lengths and what `within` ensures.
 -- Assumes nothing.
 use borrow.Author.Needs.{needs}
 use mathlib.Core.Path.{_≡_}
@@ -39,6 +40,7 @@ pub open-with-spec : {M : Type 1} → statement M
 open-with-spec =
     tie.close
     (tie.spec
-    (λ c κs. search needs) (λ c κs. search needs) (λ c κs. search needs) (λ c κs. search needs) (λ c κs. search needs) (λ c κs. search needs)
-    array-borrow-prefix-octets slice-aggregate-open array-borrow-prefix-counts slice-aggregate-open-2
-    (λ c κs. search needs) (λ c. search needs) (λ c. search needs))
+    (λ c κs. search needs) (λ c κs. search needs) (λ c κs. search needs) (λ c κs. search needs)
+    (λ c κs. search needs) (λ c κs. search needs) array-borrow-prefix-octets slice-aggregate-open
+    array-borrow-prefix-counts slice-aggregate-open-2 (λ c κs. search needs) (λ c. search needs)
+    (λ c. search needs))

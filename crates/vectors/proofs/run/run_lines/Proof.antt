@@ -1,4 +1,5 @@
--- `vectors::run::run_lines` meets its contract. The loop's invariant says nothing: each turn goes on by a line, as find answers no place before the one that it is given.
+-- `vectors::run::run_lines` meets its contract. The loop's invariant says nothing: each turn goes
+-- on by a line, as find answers no place before the one that it is given.
 -- Assumes nothing.
 use borrow.Author.Needs.{needs}
 use Prim.Native.Nat.{_-_}
@@ -17,11 +18,12 @@ sub-part-of : tie.Need-sub-part-of Inv-loop μ-loop
 sub-part-of c = c .find .ensures .1 (omega arith)
 
 loop-less : tie.Need-loop-less Inv-loop μ-loop
-loop-less c = omega (arith, c .before .before .find .ensures .1 (omega arith))
+loop-less c = omega (arith, c .before .before .before .find .ensures .1 (omega arith))
 
 pub run-lines-spec : {M : Type 1} → statement M
 run-lines-spec =
     tie.close
     (tie.spec
-    Inv-loop μ-loop (λ c. search needs) (λ c κs. search needs) sub-part-of (λ c κs. search needs) (λ c κs. search needs) (λ c. search needs) loop-less
-    (λ c. search needs) (λ c. search needs))
+    Inv-loop μ-loop (λ c. search needs) (λ c κs. search needs) sub-part-of (λ c κs. search needs)
+    (λ c κs. search needs) (λ c κs. search needs) (λ c. search needs) loop-less (λ c. search needs)
+    (λ c. search needs))
