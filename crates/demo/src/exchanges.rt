@@ -1,5 +1,5 @@
 // The six exchanges of RFC 2433, B.1.
-use authenticator::Lookup;
+use accounts::Lookup;
 use authenticator::Retries;
 use talk::another_challenge;
 use talk::challenge;
@@ -50,7 +50,7 @@ fn changed() {
     let mut talk = rightly(usual_opening(), true);
     talk = change(talk);
     say(b"   The box hands out a record with the new password's hash. In a later conversation:");
-    let record = talk.handed;
+    let record = talk.updated;
     with_new_password(record);
 }
 

@@ -1,6 +1,5 @@
 // What students get wrong, and what the box does: the slips of docs/SLIPS.md.
-use authenticator::Hash;
-use authenticator::Lookup;
+use accounts::Lookup;
 use authenticator::Retries;
 use talk::Issued;
 use talk::Talk;
@@ -10,7 +9,6 @@ use talk::answered;
 use talk::challenge;
 use talk::issued;
 use talk::new_one;
-use talk::no_record;
 use talk::old_hash;
 use talk::opening;
 use talk::opening_on;
@@ -125,16 +123,13 @@ fn disabled() {
 
 fn unknown() {
     title(b"Slip: an unknown account told apart from a wrong password. Both draw the same octets.");
-    wrongly_for(opening_with(0), no_record());
+    wrongly_for(opening_with(0), accounts::not_found());
     wrongly_for(opening_with(0), account(false));
 }
 
 // The account with an LM hash too.
 fn account_with_lm(octets: [u8; 16]) -> Lookup {
-    let lm = Hash {
-        present: true,
-        octets,
-    };
+    let lm = accounts::hash_of(octets);
     let mut lookup = account(false);
     let mut record = lookup.account;
     record.lm = lm;
@@ -173,7 +168,7 @@ fn slipped(at: usize, slip: &[u8]) {
     place(b"right,", at, octets::part_of(&out, at, slip.len()));
     place(b"slip, ", at, slip);
     octets::copy_at(&mut out, at, slip);
-    answered(talk, wrote, &out, no_record());
+    answered(talk, wrote, &out, accounts::not_found());
 }
 
 fn new_hash() -> [u8; 16] {

@@ -1,8 +1,8 @@
 // Account records and conversations, as they are read and written.
-use authenticator::Account;
+use accounts::Account;
 use authenticator::Conversation;
-use authenticator::Hash;
-use authenticator::Lookup;
+use accounts::Hash;
+use accounts::Lookup;
 use authenticator::Phase;
 
 // ---- reading
@@ -11,10 +11,7 @@ use authenticator::Phase;
 fn hash(line: &[u8], k: usize) -> Hash {
     let none = octets::agree(script::word(line, k), b"-");
     let octets = script::sixteen(line, k);
-    Hash {
-        present: !none,
-        octets,
-    }
+    accounts::hash_if(!none, octets)
 }
 
 // Mark i of the word of marks.
@@ -24,27 +21,21 @@ fn mark(line: &[u8], i: usize) -> bool {
 
 // The record that the words NT LM MARKS name, after the command.
 fn account(line: &[u8]) -> Account {
-    let nt = hash(line, 1);
-    let lm = hash(line, 2);
-    let disabled = mark(line, 0);
-    let barred = mark(line, 1);
-    let nodialin = mark(line, 2);
-    let expired = mark(line, 3);
-    Account {
-        nt,
-        lm,
-        disabled,
-        barred,
-        nodialin,
-        expired,
-    }
+    accounts::account_with(
+        hash(line, 1),
+        hash(line, 2),
+        mark(line, 0),
+        mark(line, 1),
+        mark(line, 2),
+        mark(line, 3),
+    )
 }
 
 // The same, or no record where there is one word only.
 pub(crate) fn lookup(line: &[u8]) -> Lookup {
     let account = account(line);
     let found = script::word(line, 2).len() != 0;
-    Lookup { found, account }
+    accounts::lookup_of(found, account)
 }
 
 // ---- writing
@@ -63,8 +54,8 @@ fn put_mark(mark: bool) {
 
 fn put_marks(account: Account) {
     put_mark(account.disabled);
-    put_mark(account.barred);
-    put_mark(account.nodialin);
+    put_mark(account.hours_denied);
+    put_mark(account.dialin_denied);
     put_mark(account.expired)
 }
 

@@ -6,7 +6,7 @@ use authenticator::Answer;
 use authenticator::Conversation;
 use authenticator::Kind;
 use authenticator::LmChoice;
-use authenticator::Lookup;
+use accounts::Lookup;
 use authenticator::Opened;
 use authenticator::Retries;
 use lists::List;
@@ -17,7 +17,7 @@ pub struct Talk {
     conversation: Conversation,
     list: List,
     lent: Lookup,
-    handed: Lookup,
+    updated: Lookup,
 }
 
 // The conversation of a refused opening: there is no room for its Challenge, whatever the list is.
@@ -47,7 +47,7 @@ pub fn new_talk() -> Talk {
         conversation,
         list,
         lent: none,
-        handed: none,
+        updated: none,
     }
 }
 
@@ -66,9 +66,9 @@ pub(crate) fn account(line: &[u8], talk: Talk) -> Talk {
 
 // relend
 pub(crate) fn relend(talk: Talk) -> Talk {
-    let handed = talk.handed;
-    if handed.found {
-        return lend(handed, talk);
+    let updated = talk.updated;
+    if updated.found {
+        return lend(updated, talk);
     }
     talk
 }
@@ -164,12 +164,12 @@ fn after_opening(opening: Opening, talk: Talk) -> Talk {
     let conversation = opened.conversation;
     let list = opening.list;
     let lent = talk.lent;
-    let handed = talk.handed;
+    let updated = talk.updated;
     Talk {
         conversation,
         list,
         lent,
-        handed,
+        updated,
     }
 }
 
@@ -207,22 +207,22 @@ fn put_kind(kind: Kind) {
 fn put_answer(answer: Answer, reply: &[u8]) {
     let kind = answer.kind;
     let next = answer.next;
-    let handed = answer.handed;
+    let updated = answer.updated;
     script::put_equals();
     put_kind(kind);
     script::put_sized(answer.written, reply);
     script::put_space();
     records::put_conversation(next);
     script::put_space();
-    records::put_lookup(handed)
+    records::put_lookup(updated)
 }
 
 // The next conversation becomes the current one, and the record is kept for `relend`.
 fn after_step(answer: Answer, mut talk: Talk) -> Talk {
     let conversation = answer.next;
     talk.conversation = conversation;
-    let handed = answer.handed;
-    talk.handed = handed;
+    let updated = answer.updated;
+    talk.updated = updated;
     talk
 }
 

@@ -1,11 +1,9 @@
 // Both ends of a conversation, and what passes between them: each step prints its packets.
 use super::lines;
-use authenticator::Account;
 use authenticator::Answer;
 use authenticator::Conversation;
-use authenticator::Hash;
 use authenticator::LmChoice;
-use authenticator::Lookup;
+use accounts::Lookup;
 use authenticator::Opened;
 use authenticator::Retries;
 use peer::PacketWritten;
@@ -24,7 +22,7 @@ pub struct Talk {
     pub conversation: Conversation,
     pub peer: Peer,
     pub list: Issued,
-    pub handed: Lookup,
+    pub updated: Lookup,
 }
 
 // ---- passwords, challenges and records
@@ -59,31 +57,9 @@ pub fn old_hash() -> [u8; 16] {
 
 // The record of the account: its NT hash, no LM hash, and whether the password has expired.
 pub fn account(expired: bool) -> Lookup {
-    let octets = old_hash();
-    Lookup {
-        found: true,
-        account: Account {
-            nt: Hash {
-                present: true,
-                octets,
-            },
-            lm: Hash {
-                present: false,
-                octets: [0; 16],
-            },
-            disabled: false,
-            barred: false,
-            nodialin: false,
-            expired,
-        },
-    }
-}
-
-// No record.
-pub fn no_record() -> Lookup {
-    let mut none = account(false);
-    none.found = false;
-    none
+    let nt = accounts::hash_of(old_hash());
+    let lm = accounts::no_hash();
+    accounts::found(accounts::account_with(nt, lm, false, false, false, expired))
 }
 
 // ---- the opening
@@ -127,7 +103,7 @@ pub fn opening_on(list: Issued, id: u8, challenge: [u8; 8], retries: Retries) ->
     say_opening(opened, challenge, sent);
     let peer = Peer::read_challenge(sent).peer;
     let conversation = opened.conversation;
-    let handed = no_record();
+    let updated = accounts::not_found();
     Talk {
         conversation,
         peer,
@@ -136,7 +112,7 @@ pub fn opening_on(list: Issued, id: u8, challenge: [u8; 8], retries: Retries) ->
             used: opened.used,
             counts,
         },
-        handed,
+        updated,
     }
 }
 
@@ -181,12 +157,12 @@ pub fn answered(mut talk: Talk, wrote: PacketWritten, out: &[u8], lookup: Lookup
         &mut reply,
     );
     let conversation = answer.next;
-    let handed = answer.handed;
+    let updated = answer.updated;
     let waiting = wrote.peer;
     let peer = read(waiting, octets::part_of(&reply, 0, answer.written));
     talk.conversation = conversation;
     talk.peer = peer;
-    talk.handed = handed;
+    talk.updated = updated;
     talk
 }
 
@@ -241,5 +217,5 @@ pub fn write_change(talk: Talk, out: &mut [u8]) -> PacketWritten {
 pub fn change(talk: Talk) -> Talk {
     let mut out = [0u8; 1118];
     let wrote = write_change(talk, &mut out);
-    answered(talk, wrote, &out, no_record())
+    answered(talk, wrote, &out, accounts::not_found())
 }

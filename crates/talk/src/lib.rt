@@ -11,7 +11,6 @@ pub use ends::answered;
 pub use ends::challenge;
 pub use ends::change;
 pub use ends::new_one;
-pub use ends::no_record;
 pub use ends::old_hash;
 pub use ends::opening;
 pub use ends::opening_on;
