@@ -4,7 +4,7 @@ use mathlib.Core.Bool.{Bool, cond, not, _||_}
 use mathlib.Core.List.{List, [], _∷_, _++_, map}
 use mathlib.Core.Option.{Option, none, some}
 use mathlib.Core.Path.{_≡_}
-use Prim.Native.Nat.{ℕ, _-_, _%_, _≤_}
+use Prim.Native.Nat.{ℕ, _+_, _-_, _*_, _%_, _≤_}
 use lib.Dec.{eqb, ltb}
 use lib.ListN.{length, take, replicate}
 use Rattle.octets.specs.Parts.{part, fixed}
@@ -19,6 +19,26 @@ use Rattle.credentials.specs.declared.Content.the-variants.{Over, Odd, P
 use Rattle.credentials.specs.declared.Unsealed.{Unsealed}
 use Rattle.credentials.specs.declared.Sealed.{Sealed}
 
+-- ---- sizes, in octets
+
+-- a hash, and the longest password for NT and for LM
+abbrev pub hashSize : ℕ
+hashSize = 16
+
+abbrev pub longestNt : ℕ
+longestNt = 512
+
+abbrev pub longestLm : ℕ
+longestLm = 14
+
+-- a response's keys: three DES keys of 7 octets
+abbrev pub keysSize : ℕ
+keysSize = 3 * 7
+
+-- a password's block: room for the longest one, and its length
+abbrev pub blockSize : ℕ
+blockSize = longestNt + 4
+
 -- ---- hashes
 
 -- A.6, NtPasswordHash(): MD4 of the password as 16-bit characters, the least significant octet
@@ -28,7 +48,7 @@ ntHashOf password = md4Of password
 
 -- the length of no NT password: odd or over 512 octets
 abbrev pub badLength : ℕ → Bool
-badLength n = ltb 512 n || eqb (n % 2) 1
+badLength n = ltb longestNt n || eqb (n % 2) 1
 
 -- refusal 8
 abbrev pub badNtPassword : List ℕ → Bool
@@ -40,7 +60,7 @@ upper c = cond (between 97 122 c) (c - 32) c
 
 -- A.2: the password zero-padded to 14 octets
 unfoldable pub lmKeys : List ℕ → List ℕ
-lmKeys password = fixed 14 (map upper password)
+lmKeys password = fixed longestLm (map upper password)
 
 -- A.3, DesHash(): the string KGS!@#$% under each half
 abbrev pub stdText : List ℕ
@@ -51,11 +71,11 @@ lmHashOf password = desEncrypt (part 0 7 (lmKeys password)) stdText ++ desEncryp
 
 -- refusal 8: an LM password is over 14 octets
 abbrev pub badLmPassword : List ℕ → Bool
-badLmPassword password = ltb 14 (length password)
+badLmPassword password = ltb longestLm (length password)
 
 -- what the public functions answer: the hash, or 8 and sixteen octets 0
 abbrev pub hashed : Bool → List ℕ → Hashed
-hashed bad hash = record { refusal = cond bad 8 0; hash = cond bad (replicate 16 0) hash }
+hashed bad hash = record { refusal = cond bad 8 0; hash = cond bad (replicate hashSize 0) hash }
 
 abbrev pub ntHashed : List ℕ → Hashed
 ntHashed password = hashed (badNtPassword password) (ntHashOf password)
@@ -68,7 +88,7 @@ lmHashed password = hashed (badLmPassword password) (lmHashOf password)
 -- A.7, ChallengeResponse(): the hash zero-padded to 21 octets, three keys, each encrypting the
 -- challenge
 unfoldable pub responseOf : List ℕ → List ℕ → List ℕ
-responseOf hash challenge = desThree (fixed 21 hash) challenge
+responseOf hash challenge = desThree (fixed keysSize hash) challenge
 
 -- A.17, NtPasswordHashEncryptedWithBlock(): the first half under the new hash's octets 0 to 6, the
 -- second under 7 to 13
@@ -80,7 +100,7 @@ oldUnderNew old new = desEncrypt (part 0 7 new) (part 0 8 old) ++ desEncrypt (pa
 -- A.11, PWBLOCK: 512 octets, the password at their end and before it the first octets of the
 -- filler, and then the password's length in octets
 unfoldable pub plainBlock : List ℕ → List ℕ → List ℕ
-plainBlock filler password = take (512 - length password) filler ++ (password ++ toLe 4 (length password))
+plainBlock filler password = take (longestNt - length password) filler ++ (password ++ toLe 4 (length password))
 
 -- A.12, EncryptPwBlockWithPasswordHash(): one RC4 run over all 516, keyed by the old hash
 unfoldable pub sealedBlock : List ℕ → List ℕ → List ℕ → List ℕ
@@ -88,7 +108,7 @@ sealedBlock old filler password = crypted old (plainBlock filler password)
 
 -- refusal 12: not 512 octets
 abbrev pub badFiller : List ℕ → Bool
-badFiller filler = not (eqb (length filler) 512)
+badFiller filler = not (eqb (length filler) longestNt)
 
 -- refusals 8, then 12
 unfoldable pub sealRefusal : List ℕ → List ℕ → ℕ
@@ -98,12 +118,12 @@ unfoldable pub sealedAs : List ℕ → List ℕ → List ℕ → Sealed
 sealedAs old password filler =
     record {
       refusal = sealRefusal password filler;
-      block = cond (eqb (sealRefusal password filler) 0) (sealedBlock old filler password) (replicate 516 0);
+      block = cond (eqb (sealRefusal password filler) 0) (sealedBlock old filler password) (replicate blockSize 0);
     }
 
 -- the length that an opened block gives
 abbrev pub lengthIn : List ℕ → ℕ
-lengthIn plain = fromLe (part 512 4 plain)
+lengthIn plain = fromLe (part longestNt 4 plain)
 
 -- of a sealed one, opened under the old hash
 abbrev pub lengthUnder : List ℕ → List ℕ → ℕ
@@ -111,7 +131,7 @@ lengthUnder old block = lengthIn (crypted old block)
 
 -- what a block with the length n holds: over 512, odd, or a password of that length
 unfoldable pub contentFor : ℕ → Content
-contentFor n = cond (ltb 512 n) Over (cond (eqb (n % 2) 1) Odd (Password n))
+contentFor n = cond (ltb longestNt n) Over (cond (eqb (n % 2) 1) Odd (Password n))
 
 -- the password's length that it tells, or none
 abbrev pub lengthTold : Content → Option ℕ
@@ -127,12 +147,12 @@ passwordLength n = cond (badLength n) none (some n)
 abbrev pub Sound : Content → Type 0
 Sound Over = Unit {0}
 Sound Odd = Unit {0}
-Sound (Password n) = (n ≤ 512) × (n % 2 ≡ 0)
+Sound (Password n) = (n ≤ longestNt) × (n % 2 ≡ 0)
 
 -- opening a block: what it holds, and its 512 octets, of which a password is the last
 unfoldable pub unsealedAs : List ℕ → List ℕ → Unsealed
-unsealedAs old block = record { content = contentFor (lengthUnder old block); octets = fixed 512 (crypted old block) }
+unsealedAs old block = record { content = contentFor (lengthUnder old block); octets = fixed longestNt (crypted old block) }
 
 -- the password of n octets in an opened block
 unfoldable pub passwordIn : Unsealed → ℕ → List ℕ
-passwordIn opened n = part (512 - n) n (opened .octets)
+passwordIn opened n = part (longestNt - n) n (opened .octets)

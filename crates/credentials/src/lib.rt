@@ -5,18 +5,30 @@ ghost use mathlib.Core.List.{_++_};
 ghost use Prim.Native.Nat.{_≤_};
 ghost use lib.ListN.{length};
 ghost use Rattle.rc4.specs.Rc4.{crypted};
-ghost use Rattle.credentials.specs.Credentials.{upper, badNtPassword, lmKeys, ntHashed, lmHashed, responseOf, oldUnderNew, plainBlock, badFiller, sealRefusal, sealedAs, lengthIn, contentFor, lengthTold, passwordLength, unsealedAs};
+ghost use Rattle.credentials.specs.Credentials.{longestNt, upper, badNtPassword, lmKeys, ntHashed, lmHashed, responseOf, oldUnderNew, plainBlock, badFiller, sealRefusal, sealedAs, lengthIn, contentFor, lengthTold, passwordLength, unsealedAs};
+
+// Sizes in octets: a hash, the longest password for NT and for LM, a response's keys (three DES keys
+// of 7 octets), and a password's block (room for the longest one, and its length).
+pub const HASH_SIZE: usize = 16;
+
+pub const LONGEST_NT: usize = 512;
+
+pub const LONGEST_LM: usize = 14;
+
+const KEYS_SIZE: usize = 3 * 7;
+
+pub const BLOCK_SIZE: usize = LONGEST_NT + 4;
 
 // A hash, or a refusal (8) with sixteen octets 0. 0 is no refusal.
 pub struct Hashed {
     pub refusal: u8,
-    pub hash: [u8; 16],
+    pub hash: [u8; HASH_SIZE],
 }
 
 // A sealed password, or a refusal (8, 12) with octets 0. 0 is no refusal.
 pub struct Sealed {
     pub refusal: u8,
-    pub block: [u8; 516],
+    pub block: [u8; BLOCK_SIZE],
 }
 
 // What an opened block holds: a length over 512, an odd length, or a password of this many octets.
@@ -30,7 +42,7 @@ pub enum Content {
 // hold no array.)
 pub struct Unsealed {
     pub content: Content,
-    pub octets: [u8; 512],
+    pub octets: [u8; LONGEST_NT],
 }
 
 // ---- hashes
@@ -39,7 +51,7 @@ pub struct Unsealed {
 pub fn is_bad_nt_password(password: &[u8]) -> bool
     ensures { λ r. ⌜ r ≡ badNtPassword (now (password .entry)) ⌝ }
 {
-    512 < password.len() || password.len() % 2 == 1
+    LONGEST_NT < password.len() || password.len() % 2 == 1
 }
 
 // A.6, NtPasswordHash(): the password's octets as lent, 0 to 512 of them, an even number; else
@@ -50,7 +62,7 @@ pub fn nt_hash(password: &[u8]) -> Hashed
     if is_bad_nt_password(password) {
         return Hashed {
             refusal: 8,
-            hash: [0; 16],
+            hash: [0; HASH_SIZE],
         };
     }
     let hash = md4::md4(password).digest;
@@ -70,13 +82,13 @@ fn upper_case(c: u8) -> u8
 }
 
 // The upper-cased password, zero-padded to 14 octets.
-fn lm_keys(password: &[u8]) -> [u8; 14]
+fn lm_keys(password: &[u8]) -> [u8; LONGEST_LM]
     ensures { λ r. ⌜ r ≡ lmKeys (now (password .entry)) ⌝ }
 {
-    let mut keys = [0u8; 14];
+    let mut keys = [0u8; LONGEST_LM];
     octets::copy(&mut keys, password);
     let mut i: usize = 0;
-    while i < 14 {
+    while i < LONGEST_LM {
         keys[i] = upper_case(keys[i]);
         i += 1;
     }
@@ -84,7 +96,7 @@ fn lm_keys(password: &[u8]) -> [u8; 14]
 }
 
 // Two blocks one after the other.
-fn joined(a: [u8; 8], b: [u8; 8]) -> [u8; 16]
+fn joined(a: [u8; 8], b: [u8; 8]) -> [u8; HASH_SIZE]
     ensures { λ r. ⌜ r ≡ a ++ b ⌝ }
 {
     [
@@ -111,10 +123,10 @@ fn joined(a: [u8; 8], b: [u8; 8]) -> [u8; 16]
 pub fn lm_hash(password: &[u8]) -> Hashed
     ensures { λ r. ⌜ r ≡ lmHashed (now (password .entry)) ⌝ }
 {
-    if 14 < password.len() {
+    if LONGEST_LM < password.len() {
         return Hashed {
             refusal: 8,
-            hash: [0; 16],
+            hash: [0; HASH_SIZE],
         };
     }
     let keys = lm_keys(password);
@@ -128,16 +140,16 @@ pub fn lm_hash(password: &[u8]) -> Hashed
 // ---- responses
 
 // A.7, ChallengeResponse().
-pub fn challenge_response(hash: [u8; 16], challenge: [u8; 8]) -> [u8; 24]
+pub fn challenge_response(hash: [u8; HASH_SIZE], challenge: [u8; 8]) -> [u8; 24]
     ensures { λ r. ⌜ r ≡ responseOf hash challenge ⌝ }
 {
-    let mut keys = [0u8; 21];
+    let mut keys = [0u8; KEYS_SIZE];
     octets::copy(&mut keys, &hash);
     des::encrypt_three(keys, challenge)
 }
 
 // A.17, NtPasswordHashEncryptedWithBlock(): the old hash under the new one.
-pub fn old_under_new(old: [u8; 16], new: [u8; 16]) -> [u8; 16]
+pub fn old_under_new(old: [u8; HASH_SIZE], new: [u8; HASH_SIZE]) -> [u8; HASH_SIZE]
     ensures { λ r. ⌜ r ≡ oldUnderNew old new ⌝ }
 {
     let first = des::encrypt(octets::seven_at(&new, 0), octets::eight_at(&old, 0));
@@ -148,15 +160,15 @@ pub fn old_under_new(old: [u8; 16], new: [u8; 16]) -> [u8; 16]
 // ---- the sealed password
 
 // The block before RC4: the filler, the password over its end, and the password's length.
-fn plain_block(password: &[u8], filler: &[u8]) -> [u8; 516]
-    requires { ⌜ (length (now password) ≤ 512) × (length (now filler) ≡ 512) ⌝ }
+fn plain_block(password: &[u8], filler: &[u8]) -> [u8; BLOCK_SIZE]
+    requires { ⌜ (length (now password) ≤ longestNt) × (length (now filler) ≡ longestNt) ⌝ }
     ensures { λ r. ⌜ r ≡ plainBlock (now (filler .entry)) (now (password .entry)) ⌝ }
 {
     let n = password.len();
-    let mut block = [0u8; 516];
+    let mut block = [0u8; BLOCK_SIZE];
     octets::copy(&mut block, filler);
-    octets::copy_at(&mut block, 512 - n, password);
-    octets::copy_at(&mut block, 512, &octets::u32_to_le(n as u32));
+    octets::copy_at(&mut block, LONGEST_NT - n, password);
+    octets::copy_at(&mut block, LONGEST_NT, &octets::u32_to_le(n as u32));
     block
 }
 
@@ -164,7 +176,7 @@ fn plain_block(password: &[u8], filler: &[u8]) -> [u8; 516]
 pub fn is_bad_filler(filler: &[u8]) -> bool
     ensures { λ r. ⌜ r ≡ badFiller (now (filler .entry)) ⌝ }
 {
-    filler.len() != 512
+    filler.len() != LONGEST_NT
 }
 
 // 8, then 12; 0 is none.
@@ -180,14 +192,14 @@ fn seal_refusal(password: &[u8], filler: &[u8]) -> u8
 
 // A.12, EncryptPwBlockWithPasswordHash(): the password under the old hash. Refusals 8 (password),
 // then 12 (filler).
-pub fn seal(old: [u8; 16], password: &[u8], filler: &[u8]) -> Sealed
+pub fn seal(old: [u8; HASH_SIZE], password: &[u8], filler: &[u8]) -> Sealed
     ensures { λ r. ⌜ r ≡ sealedAs old (now (password .entry)) (now (filler .entry)) ⌝ }
 {
     let refusal = seal_refusal(password, filler);
     if refusal != 0 {
         return Sealed {
             refusal,
-            block: [0; 516],
+            block: [0; BLOCK_SIZE],
         };
     }
     let mut block = plain_block(password, filler);
@@ -199,7 +211,7 @@ pub fn seal(old: [u8; 16], password: &[u8], filler: &[u8]) -> Sealed
 fn content_of(n: u32) -> Content
     ensures { λ r. ⌜ r ≡ contentFor n ⌝ }
 {
-    if 512 < n {
+    if (LONGEST_NT as u32) < n {
         return Content::Over;
     }
     if n % 2 == 1 {
@@ -209,13 +221,13 @@ fn content_of(n: u32) -> Content
 }
 
 // Opens a block under the old hash.
-pub fn unseal(old: [u8; 16], block: [u8; 516]) -> Unsealed
+pub fn unseal(old: [u8; HASH_SIZE], block: [u8; BLOCK_SIZE]) -> Unsealed
     ensures { λ r. ⌜ (r ≡ unsealedAs old block) × (lengthTold (r .content) ≡ passwordLength (lengthIn (crypted old block))) ⌝ }
 {
     let mut plain = block;
     rc4::rc4(&old, &mut plain);
     let content = content_of(octets::u32_from_le(plain[512], plain[513], plain[514], plain[515]));
-    let mut octets = [0u8; 512];
+    let mut octets = [0u8; LONGEST_NT];
     octets::copy(&mut octets, &plain);
     Unsealed { content, octets }
 }

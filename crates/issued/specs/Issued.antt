@@ -15,6 +15,13 @@ pub record Issued : Type 0 where
   pub used : ℕ
   pub counts : List ℕ
 
+-- "up to 4,096 places", and a count for each octet in which an entry may end
+abbrev pub mostPlaces : ℕ
+mostPlaces = 4096
+
+abbrev pub octetValues : ℕ
+octetValues = 256
+
 -- ---- entries
 
 -- the first n entries of a buffer
@@ -66,17 +73,17 @@ endings x (suc n) es = ending x es ∷ endings (suc x) n es
 
 -- the "256 counts"
 abbrev pub countsOf : List (List ℕ) → List ℕ
-countsOf es = endings 0 256 es
+countsOf es = endings 0 octetValues es
 
 -- an empty list of n places
 abbrev pub emptyList : ℕ → ℕ → Issued
-emptyList w n = record { buffer = replicate (w * n) 0; used = 0; counts = replicate 256 0 }
+emptyList w n = record { buffer = replicate (w * n) 0; used = 0; counts = replicate octetValues 0 }
 
 -- ---- spending
 
 -- "when the buffer is not whole places, at most 4,096, when more entries are used than it has"
 unfoldable pub badBuffer : ℕ → List ℕ → ℕ → Bool
-badBuffer w l used = eqb w 0 || (not (eqb (length l % w) 0) || (ltb 4096 (places w l) || ltb (places w l) used))
+badBuffer w l used = eqb w 0 || (not (eqb (length l % w) 0) || (ltb mostPlaces (places w l) || ltb (places w l) used))
 
 -- "or when the lent counts are not 256, each true of the list"
 abbrev pub untrue : ℕ → Issued → Bool

@@ -11,6 +11,11 @@ ghost use Prim.Native.Nat.{_-_, _≤_, _<_};
 ghost use lib.Dec.{ltb};
 ghost use Rattle.issued.specs.Issued.{entriesIn, places, badBuffer, passRefusal, spendRefusal, spent};
 
+// The most places that a buffer may have, and a count for each octet in which an entry may end.
+const MOST_PLACES: usize = 4096;
+
+const OCTET_VALUES: usize = 256;
+
 // What spending answers: the refusal (0 is none), and how many places are used then.
 pub struct Spent {
     pub refusal: u8,
@@ -29,7 +34,7 @@ fn is_bad_buffer(buffer: &[u8], used: usize, width: usize) -> bool
         return true;
     }
     let places = buffer.len() / width;
-    if 4096 < places {
+    if MOST_PLACES < places {
         return true;
     }
     places < used
@@ -50,9 +55,9 @@ fn pass_refusal(buffer: &[u8], used: usize, counts: &[u16], width: usize, run: &
     ensures { λ r. ⌜ r ≡ passRefusal width (entriesIn width (now (run .entry))) (record { buffer = now (buffer .entry); used = used; counts = now (counts .entry) }) ⌝ }
 {
     let n = run.len() / width;
-    let mut marks = [false; 256];
+    let mut marks = [false; OCTET_VALUES];
     entries::mark(run, n, width, &mut marks);
-    let mut tally = [0u16; 256];
+    let mut tally = [0u16; OCTET_VALUES];
     let met = entries::scan(buffer, used, width, run, n, &marks, &mut tally);
     let full = is_full(buffer, used, width, n);
     let untrue = !counts::agree(&tally, counts);

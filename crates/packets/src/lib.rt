@@ -28,10 +28,13 @@ pub use responses::name;
 pub use responses::read_response;
 pub use responses::response_refusal;
 pub use responses::write_response;
-use sizes::ANSWER_SIZE;
-use sizes::BLOCK_SIZE;
-use sizes::CHALLENGE_SIZE;
-use sizes::HASH_SIZE;
+pub use sizes::ANSWER_SIZE;
+pub use sizes::BLOCK_SIZE;
+pub use sizes::CHALLENGE_SIZE;
+pub use sizes::CHANGE_SIZE;
+pub use sizes::HASH_SIZE;
+pub use sizes::LONGEST_REPLY;
+pub use sizes::LONGEST_RESPONSE;
 
 // The fields of a Response; its name stands beside them, as a part of the packet.
 pub struct Response {

@@ -9,6 +9,7 @@ use lib.ListN.{replicate}
 use Rattle.message.specs.Message.{numberOf, valuesOf, refusedWith}
 use Rattle.message.specs.declared.Reading.{Reading}
 use Rattle.packets.specs.Frame.{badFrame}
+use Rattle.packets.specs.Sizes.{challengeSize}
 use Rattle.packets.specs.Reply.{readReply, replyRefusal, replyValues}
 use Rattle.packets.specs.declared.Asked.{Asked}
 use Rattle.packets.specs.declared.Written.{Written}
@@ -21,7 +22,7 @@ use Rattle.peer.specs.declared.Sent.{Sent}
 
 -- no packet was sent yet
 abbrev pub nothingSent : Sent
-nothingSent = record { present = false; id = 0; challenge = replicate 8 0 }
+nothingSent = record { present = false; id = 0; challenge = replicate challengeSize 0 }
 
 -- A Challenge was read, and nothing is sent yet. Where it was refused, the turn has fixed values
 -- (packets Reply `notAsked`).

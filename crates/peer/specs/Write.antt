@@ -7,6 +7,7 @@ use Prim.Native.Nat.{ℕ}
 use lib.ListN.{length, replicate}
 use Rattle.credentials.specs.Credentials.{ntHashOf, badNtPassword, badFiller, responseOf, oldUnderNew, sealedBlock}
 use Rattle.packets.specs.Frame.{answerBy, outBy}
+use Rattle.packets.specs.Sizes.{answerSize, hashSize, blockSize}
 use Rattle.packets.specs.Response.{responsePacket, responseWriteRefusal}
 use Rattle.packets.specs.Change.{changePacket, changeWriteRefusal}
 use Rattle.packets.specs.declared.Response.{Response}
@@ -16,7 +17,7 @@ use Rattle.peer.specs.declared.Turn.{Turn}
 
 -- a Response from an NT hash: the LM response is zero-filled, the flag is 1
 abbrev pub responseFieldsOf : List ℕ → List ℕ → Response
-responseFieldsOf challenge hash = record { lm = replicate 24 0; nt = responseOf hash challenge; flag = 1 }
+responseFieldsOf challenge hash = record { lm = replicate answerSize 0; nt = responseOf hash challenge; flag = 1 }
 
 -- a change from the old and the new NT hash and the sealed new password: both LM fields and the LM
 -- response are zero-filled, the flags are 1; the response is that of the new hash
@@ -25,9 +26,9 @@ changeFieldsOf challenge old new block =
     record {
       block = block;
       verifier = oldUnderNew old new;
-      lmblock = replicate 516 0;
-      lmverifier = replicate 16 0;
-      lm = replicate 24 0;
+      lmblock = replicate blockSize 0;
+      lmverifier = replicate hashSize 0;
+      lm = replicate answerSize 0;
       nt = responseOf new challenge;
       flags = 1;
     }

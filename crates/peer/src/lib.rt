@@ -4,12 +4,13 @@ mod turns;
 mod writes;
 
 use message::Reading;
+use packets::CHALLENGE_SIZE;
 use packets::Written;
 
 // The identifier and the challenge of the peer's next packet.
 pub struct Turn {
     pub id: u8,
-    pub challenge: [u8; 8],
+    pub challenge: [u8; CHALLENGE_SIZE],
 }
 
 // The last packet that the peer sent, if there is one: its identifier, and the challenge of the
@@ -17,7 +18,7 @@ pub struct Turn {
 pub struct Sent {
     pub present: bool,
     pub id: u8,
-    pub challenge: [u8; 8],
+    pub challenge: [u8; CHALLENGE_SIZE],
 }
 
 // A peer is a value: reading and writing take it and give back the next.

@@ -11,6 +11,7 @@ use crate::writes::write_change;
 use crate::writes::write_response;
 use message::Reading;
 use packets::Asked;
+use packets::CHALLENGE_SIZE;
 use packets::Written;
 ghost use mathlib.Core.Bool.{cond};
 ghost use mathlib.Core.List.{[]};
@@ -27,7 +28,7 @@ fn after_challenge(read: Asked) -> Peer
     let sent = Sent {
         present: false,
         id: 0,
-        challenge: [0; 8],
+        challenge: [0; CHALLENGE_SIZE],
     };
     let turn = first_turn(read);
     Peer { sent, turn }

@@ -7,6 +7,7 @@ use message::Given;
 use message::Reading;
 use message::Verdict;
 use packets::Asked;
+use packets::CHALLENGE_SIZE;
 ghost use mathlib.Core.Path.{_≡_};
 ghost use mathlib.Core.Bool.{cond};
 ghost use Rattle.challenges.specs.Challenges.{incremented};
@@ -47,7 +48,7 @@ fn same_turn(sent: Sent) -> Turn
 }
 
 // C where given, else the 23 rule.
-fn retry_challenge(last: [u8; 8], c: Given) -> [u8; 8]
+fn retry_challenge(last: [u8; CHALLENGE_SIZE], c: Given) -> [u8; CHALLENGE_SIZE]
     ensures { λ r. ⌜ r ≡ cond (c .given) (c .octets) (incremented last) ⌝ }
 {
     if c.given {

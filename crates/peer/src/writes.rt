@@ -1,6 +1,10 @@
 // The peer's two packets. Refusals go 8, 10, 12, 9; a refusal writes nothing.
 use crate::Turn;
+use packets::ANSWER_SIZE;
+use packets::BLOCK_SIZE;
+use packets::CHALLENGE_SIZE;
 use packets::Change;
+use packets::HASH_SIZE;
 use packets::Response;
 use packets::Written;
 use refusals::refuse_if;
@@ -19,19 +23,19 @@ fn refused(number: u8) -> Written
 }
 
 // The Response from an NT hash. The LM response is zero-filled.
-fn response_fields(hash: [u8; 16], challenge: [u8; 8]) -> Response
+fn response_fields(hash: [u8; HASH_SIZE], challenge: [u8; CHALLENGE_SIZE]) -> Response
     ensures { λ r. ⌜ r ≡ responseFieldsOf challenge hash ⌝ }
 {
     let nt = credentials::challenge_response(hash, challenge);
     Response {
-        lm: [0; 24],
+        lm: [0; ANSWER_SIZE],
         nt,
         flag: 1,
     }
 }
 
 // The Response from a password that is not refused.
-fn response_from(challenge: [u8; 8], password: &[u8]) -> Response
+fn response_from(challenge: [u8; CHALLENGE_SIZE], password: &[u8]) -> Response
     requires { ⌜ badNtPassword (now password) ≡ false ⌝ }
     ensures { λ r. ⌜ r ≡ responseFields challenge (now (password .entry)) ⌝ }
 {
@@ -54,7 +58,12 @@ pub(crate) fn write_response(turn: Turn, password: &[u8], name: &[u8], out: &mut
 
 // The change from both NT hashes and the sealed new password. The response is that of the new hash.
 // The LM fields are zero-filled.
-fn change_fields(old: [u8; 16], new: [u8; 16], block: [u8; 516], challenge: [u8; 8]) -> Change
+fn change_fields(
+    old: [u8; HASH_SIZE],
+    new: [u8; HASH_SIZE],
+    block: [u8; BLOCK_SIZE],
+    challenge: [u8; CHALLENGE_SIZE],
+) -> Change
     ensures { λ r. ⌜ r ≡ changeFieldsOf challenge old new block ⌝ }
 {
     let verifier = credentials::old_under_new(old, new);
@@ -62,16 +71,16 @@ fn change_fields(old: [u8; 16], new: [u8; 16], block: [u8; 516], challenge: [u8;
     Change {
         block,
         verifier,
-        lmblock: [0; 516],
-        lmverifier: [0; 16],
-        lm: [0; 24],
+        lmblock: [0; BLOCK_SIZE],
+        lmverifier: [0; HASH_SIZE],
+        lm: [0; ANSWER_SIZE],
         nt,
         flags: 1,
     }
 }
 
 // The change from passwords and a filler that are not refused.
-fn change_from(challenge: [u8; 8], old: &[u8], new: &[u8], filler: &[u8]) -> Change
+fn change_from(challenge: [u8; CHALLENGE_SIZE], old: &[u8], new: &[u8], filler: &[u8]) -> Change
     requires { ⌜ (badPasswords (now old) (now new) ≡ false) × (badFiller (now filler) ≡ false) ⌝ }
     ensures { λ r. ⌜ r ≡ changeFields challenge (now (old .entry)) (now (new .entry)) (now (filler .entry)) ⌝ }
 {

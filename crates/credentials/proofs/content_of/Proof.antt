@@ -1,5 +1,6 @@
 -- `credentials::content_of` meets its contract.
 -- Assumes nothing.
+use borrow.Author.Needs.{needs}
 use borrow.Author.Tests.{lt-ltb, le-ltb, eq-eqb, ne-eqb}
 use Rattle.credentials.specs.Credentials.{contentFor}
 use Rattle.credentials.proofs.content_of.Statement.{statement}
@@ -18,4 +19,4 @@ unfolding contentFor
 returns-3 c = simp (le-ltb _ _ (c .before .if1 .left), ne-eqb _ _ (c .if2 .left))
 
 pub content-of-spec : {M : Type 1} → statement M
-content-of-spec = tie.close (tie.spec returns returns-2 returns-3)
+content-of-spec = tie.close (tie.spec (λ c. search needs) returns returns-2 returns-3)
