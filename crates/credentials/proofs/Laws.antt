@@ -27,7 +27,7 @@ use Rattle.rc4.proofs.Laws.{crypted-twice, length-crypted}
 use Rattle.credentials.specs.declared.Content.the-variants.{Over, Odd, Password}
 use Rattle.credentials.specs.declared.Unsealed.{Unsealed}
 use Rattle.credentials.specs.declared.Sealed.{Sealed}
-use Rattle.credentials.specs.Credentials.{ntHashOf, badNtPassword, lmKeys, upper, responseOf, oldUnderNew, plainBlock, sealedBlock, badFiller, sealRefusal, sealedAs, lengthIn, contentFor, lengthTold, passwordLength, Sound, unsealedAs, passwordIn}
+use Rattle.credentials.specs.Credentials.{blockSize, ntHashOf, badNtPassword, lmKeys, upper, responseOf, oldUnderNew, plainBlock, sealedBlock, badFiller, sealRefusal, sealedAs, lengthIn, contentFor, lengthTold, passwordLength, Sound, unsealedAs, passwordIn}
 use Rattle.credentials.proofs.Plain.{front, front-length, body-length, plain-parts, length-plain}
 
 -- ---- lengths
@@ -153,12 +153,12 @@ small-even password h e = simp (le-ltb 512 (length password) h, ne-eqb (length p
 module _ (old password filler : List ℕ) where
   -- by the refusal
   abbrev answer : ℕ → Sealed
-  answer n = record { refusal = n; block = cond (eqb n 0) (sealedBlock old filler password) (replicate 516 0) }
+  answer n = record { refusal = n; block = cond (eqb n 0) (sealedBlock old filler password) (replicate blockSize 0) }
 
-  pub sealed-refused : {k : ℕ} → k ≡ sealRefusal password filler → k ≢ 0 → record { refusal = k; block = replicate 516 0 } ≡ sealedAs old password filler
+  pub sealed-refused : {k : ℕ} → k ≡ sealRefusal password filler → k ≢ 0 → record { refusal = k; block = replicate blockSize 0 } ≡ sealedAs old password filler
   unfolding sealedAs
   sealed-refused {k} e h =
-      ap (λ (b : Bool). record { refusal = k; block = cond b (sealedBlock old filler password) (replicate 516 0) }) (sym (ne-eqb k 0 h)) ∙ ap answer e
+      ap (λ (b : Bool). record { refusal = k; block = cond b (sealedBlock old filler password) (replicate blockSize 0) }) (sym (ne-eqb k 0 h)) ∙ ap answer e
 
   pub sealed-good : badNtPassword password ≡ false → badFiller filler ≡ false → sealedAs old password filler ≡ record { refusal = 0; block = sealedBlock old filler password }
   unfolding sealedAs sealRefusal
@@ -167,4 +167,4 @@ module _ (old password filler : List ℕ) where
   -- what is known where neither is refused
   pub seal-fits : sealRefusal password filler ≡ 0 → (badNtPassword password ≡ false) × (badFiller filler ≡ false)
   unfolding sealRefusal
-  seal-fits = both-passed 7 11 (badNtPassword password) (badFiller filler)
+  seal-fits = both-passed (badNtPassword password) 8 (badFiller filler) 12 (omega arith) (omega arith)

@@ -16,6 +16,7 @@ use Rattle.octets.specs.Numbers.{toBe}
 use Rattle.octets.specs.Parts.{over}
 use Rattle.octets.proofs.Parts.{over-fits}
 use Rattle.octets.proofs.Laid.{Laid}
+use Rattle.packets.specs.Sizes.{nameOffset, longestName, changeSize}
 use Rattle.packets.specs.Frame.{framed, headed, headedLength, answerBy, outBy}
 use Rattle.packets.specs.Response.{responsePacket, badName, shortForResponse, responseWriteRefusal}
 use Rattle.packets.specs.Change.{changePacket, shortForChange, changeWriteRefusal}
@@ -43,7 +44,7 @@ pub length-answers : (f : Response) (name : List ℕ) → length (f .lm) ≡ 24 
 length-answers f name l n = omega (arith, length-append (f .lm) (f .nt ++ (f .flag ∷ name)), length-append (f .nt) (f .flag ∷ name))
 
 pub length-response : (id : ℕ) (f : Response) (name : List ℕ) → length (f .lm) ≡ 24 → length (f .nt) ≡ 24
-    → length (responsePacket id f name) ≡ 54 + length name
+    → length (responsePacket id f name) ≡ nameOffset + length name
 unfolding responsePacket
 length-response id f name l n = omega (arith, length-answers f name l n)
 
@@ -60,7 +61,7 @@ pub length-fields : (f : Change) → Sized f
     → length (f .block ++ (f .verifier ++ (f .lmblock ++ (f .lmverifier ++ (f .lm ++ (f .nt ++ toBe 2 (f .flags))))))) ≡ 1114
 length-fields f s = simp (length-append, s .block, s .verifier, s .lmblock, s .lmverifier, s .lm, s .nt)
 
-pub length-change : (id : ℕ) (f : Change) → Sized f → length (changePacket id f) ≡ 1118
+pub length-change : (id : ℕ) (f : Change) → Sized f → length (changePacket id f) ≡ changeSize
 unfolding changePacket
 length-change id f s = omega (arith, length-fields f s)
 
@@ -122,17 +123,17 @@ module _ (packet out : List ℕ) (n : ℕ) {r : ℕ} (e : r ≡ n) where
   packet-written z w = let t : n ≡ 0 = sym e ∙ z in (simp (t, w .0), simp t (w .1))
 
 -- what is known of a Response that is not refused
-pub response-fits : (name out : List ℕ) → responseWriteRefusal name out ≡ 0 → (length name ≤ 256) × (54 + length name ≤ length out)
+pub response-fits : (name out : List ℕ) → responseWriteRefusal name out ≡ 0 → (length name ≤ longestName) × (nameOffset + length name ≤ length out)
 unfolding responseWriteRefusal
 response-fits name out z =
-    let passed = both-passed 9 8 (badName name) (shortForResponse name out) z in
-    (good-name name (passed .0) .1, ltb-false (length out) (54 + length name) (passed .1))
+    let passed = both-passed (badName name) 10 (shortForResponse name out) 9 (omega arith) (omega arith) z in
+    (good-name name (passed .0) .1, ltb-false (length out) (nameOffset + length name) (passed .1))
 
 -- and of a change
-pub change-fits : (out : List ℕ) → changeWriteRefusal out ≡ 0 → 1118 ≤ length out
+pub change-fits : (out : List ℕ) → changeWriteRefusal out ≡ 0 → changeSize ≤ length out
 unfolding changeWriteRefusal
 change-fits out = by (shortForChange out) refl
   where
-    by : (a : Bool) → shortForChange out ≡ a → _≡_ {A = ℕ} (cond a 9 0) 0 → 1118 ≤ length out
+    by : (a : Bool) → shortForChange out ≡ a → _≡_ {A = ℕ} (cond a 9 0) 0 → changeSize ≤ length out
     by true p z = absurd (omega (arith, z))
-    by false p z = ltb-false (length out) 1118 p
+    by false p z = ltb-false (length out) changeSize p

@@ -67,17 +67,17 @@ module _ (t : Turn) (old new filler out : List ℕ) {k : ℕ} (e : k ≡ cond (b
   pub change-refused : k ≢ 0 → Leaves (writeChange t old new filler out) (refusedBy k) out
   unfolding writeChange writeChangeRefusal
   change-refused h =
-      let n = refused-two (λ (x : ℕ). x) (changeWriteRefusal out) 7 11 (badPasswords old new) (badFiller filler) e h in
+      let n = refused-two (λ (x : ℕ). x) (changeWriteRefusal out) (badPasswords old new) 8 (badFiller filler) 12 e h in
       nothing-written (changeFor t old new filler) out (writeChangeRefusal old new filler out) n h
 
   pub change-fits : k ≡ 0 → (badPasswords old new ≡ false) × (badFiller filler ≡ false)
-  change-fits z = both-passed 7 11 (badPasswords old new) (badFiller filler) (sym e ∙ z)
+  change-fits z = both-passed (badPasswords old new) 8 (badFiller filler) 12 (omega arith) (omega arith) (sym e ∙ z)
 
   pub change-written : k ≡ 0 → {f : Change} {answer : Written} {after : List ℕ} → f ≡ changeFields (t .challenge) old new filler
       → (answer ≡ changeWritten (t .id) f out) × (after ≡ changeOut (t .id) f out) → Leaves (writeChange t old new filler out) answer after
   unfolding writeChange writeChangeRefusal changeFor changeWritten changeOut
   change-written z s w =
-      let n = passed-two (λ (x : ℕ). x) (changeWriteRefusal out) 7 11 (badPasswords old new) (badFiller filler) e z in
+      let n = passed-two (λ (x : ℕ). x) (changeWriteRefusal out) (badPasswords old new) 8 (badFiller filler) 12 e (omega arith) (omega arith) z in
       let p = changeFor t old new filler in (
         w .0 ∙ ap (λ (x : Change). changeWritten (t .id) x out) s ∙ same-answer p n,
         w .1 ∙ ap (λ (x : Change). changeOut (t .id) x out) s ∙ same-out p out n,

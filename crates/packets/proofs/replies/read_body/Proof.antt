@@ -8,6 +8,7 @@ use borrow.Author.Tests.{eq-eqb, ne-eqb}
 use borrow.Author.Needs.{needs}
 use Rattle.octets.specs.Parts.{part}
 use Rattle.message.specs.Message.{readMessage}
+use Rattle.packets.specs.Sizes.{headSize}
 use Rattle.packets.specs.Frame.{octet}
 use Rattle.packets.proofs.replies.read_body.Statement.{statement}
 use Rattle.packets.proofs.replies.read_body.Tie as tie
@@ -21,7 +22,7 @@ returns c = simp (c .succeeded .ensures, eq-eqb (octet 0 (packet (c .before .bef
 returns-2 : tie.Need-returns-2
 returns-2 c =
     let p = packet (c .before .before .before .before .before) in
-    c .read .ensures .0 ∙ ap readMessage (c .before .part-of .ensures ∙ ap (λ (n : ℕ). part 4 n p) (c .before .before .behind .ensures))
+    c .read .ensures .0 ∙ ap readMessage (c .before .part-of .ensures ∙ ap (λ (n : ℕ). part headSize n p) (c .before .before .behind .ensures))
     ∙ sym (simp (ne-eqb (octet 0 p) 3 (omega arith), eq-eqb (octet 0 p) 4 (omega arith)))
 
 returns-3 : tie.Need-returns-3

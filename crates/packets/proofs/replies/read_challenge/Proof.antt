@@ -4,9 +4,11 @@ use mathlib.Core.Bool.{cond}
 use mathlib.Core.List.{List}
 use mathlib.Core.Path.{_≡_, refl, _∙_}
 use Prim.Native.Nat.{ℕ}
+use native.Mathlib.Omega.{arith}
 use borrow.Author.Needs.{needs}
 use Rattle.octets.specs.Parts.{part, fixed}
 use Rattle.refusals.proofs.Answers.{refused-two, passed-two}
+use Rattle.packets.specs.Sizes.{challengeSize, challengeOffset}
 use Rattle.packets.specs.Frame.{octet, badFrame}
 use Rattle.packets.specs.Reply.{notAsked, badChallenge, readChallenge}
 use Rattle.packets.specs.declared.Asked.{Asked}
@@ -24,7 +26,7 @@ told c = cc
 
 -- what is read where neither finds fault
 abbrev good : List ℕ → Asked
-good p = record { refusal = 0; id = octet 1 p; challenge = fixed 8 (part 5 8 p) }
+good p = record { refusal = 0; id = octet 1 p; challenge = fixed challengeSize (part challengeOffset challengeSize p) }
 
 -- ---- the answers
 
@@ -33,7 +35,7 @@ unfolding readChallenge
 returns c =
     let t = c .before .before in
     let p = packet t in
-    c .not-asked .ensures ∙ refused-two notAsked (good p) 2 10 (badFrame p) (badChallenge p) (told t) (c .before .if1 .taken)
+    c .not-asked .ensures ∙ refused-two notAsked (good p) (badFrame p) 3 (badChallenge p) 11 (told t) (c .before .if1 .taken)
 
 returns-2 : tie.Need-returns-2
 unfolding readChallenge
@@ -41,7 +43,7 @@ returns-2 c =
     let passed = c .before .before in
     let p = packet (passed .before) in
     asked-same refl (c .octet .ensures) (c .before .eight-at .ensures)
-    ∙ passed-two notAsked (good p) 2 10 (badFrame p) (badChallenge p) (told (passed .before)) (passed .if1 .left)
+    ∙ passed-two notAsked (good p) (badFrame p) 3 (badChallenge p) 11 (told (passed .before)) (omega arith) (omega arith) (passed .if1 .left)
 
 pub read-challenge-spec : {M : Type 1} → statement M
 read-challenge-spec =

@@ -4,6 +4,7 @@ use mathlib.Core.Bool.{cond}
 use mathlib.Core.List.{List}
 use mathlib.Core.Path.{_≡_, _∙_}
 use Prim.Native.Nat.{ℕ}
+use native.Mathlib.Omega.{arith}
 use borrow.Author.Needs.{needs}
 use Rattle.refusals.proofs.Answers.{refused-two, passed-two}
 use Rattle.message.specs.Message.{refusedWith}
@@ -31,7 +32,7 @@ unfolding readReply
 returns c =
     let t = c .before .before in
     let p = packet t in
-    let e = refused-two refusedWith (bodyRead p) 2 4 (badFrame p) (badId (last t) p) (told t) (c .before .if1 .taken) in
+    let e = refused-two refusedWith (bodyRead p) (badFrame p) 3 (badId (last t) p) 5 (told t) (c .before .if1 .taken) in
     reply-told (last t) p (c .refused-with .ensures ∙ e)
 
 returns-2 : tie.Need-returns-2
@@ -39,7 +40,7 @@ unfolding readReply
 returns-2 c =
     let t = c .before .before in
     let p = packet t in
-    let e = passed-two refusedWith (bodyRead p) 2 4 (badFrame p) (badId (last t) p) (told t) (c .before .if1 .left) in
+    let e = passed-two refusedWith (bodyRead p) (badFrame p) 3 (badId (last t) p) 5 (told t) (omega arith) (omega arith) (c .before .if1 .left) in
     reply-told (last t) p (c .read-body .ensures ∙ e)
 
 pub read-reply-spec : {M : Type 1} → statement M
