@@ -6,12 +6,14 @@ use mathlib.Core.Logic.{_≢_}
 use mathlib.Core.Path.{_≡_, refl, ap}
 use Prim.Native.Nat.{ℕ, _<_}
 use native.Mathlib.Omega.{arith}
+use Rattle.refusals.proofs.Laws.{none-refused}
 
 -- neither finds fault
-pub both-passed : (a : Bool) (m : ℕ) (b : Bool) (n : ℕ) → 0 < m → 0 < n → cond a m (cond b n 0) ≡ 0 → (a ≡ false) × (b ≡ false)
-both-passed true m b n x y z = absurd (omega (arith, x, z))
-both-passed false m true n x y z = absurd (omega (arith, y, z))
-both-passed false m false n x y z = (refl, refl)
+pub both-passed : (a : Bool) (m : ℕ) (b : Bool) (n : ℕ) → 0 < m → 0 < n
+    → cond a m (cond b n 0) ≡ 0 → (a ≡ false) × (b ≡ false)
+both-passed a m b n x y z =
+    let rest = none-refused a x z in
+    (rest .0, none-refused b y (rest .1) .0)
 
 module _ {A : Type 0} (make : ℕ → A) (good : A) (a : Bool) (m : ℕ) (b : Bool) (n : ℕ) {k : ℕ} (e : k ≡ cond a m (cond b n 0)) where
   pub refused-two : k ≢ 0 → make k ≡ cond a (make m) (cond b (make n) good)

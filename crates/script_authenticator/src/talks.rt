@@ -159,18 +159,13 @@ fn open_with(line: &[u8], list: List, reply: &mut [u8]) -> Opening {
 }
 
 // The opening becomes the current conversation, and the list goes on as it left it.
-fn after_opening(opening: Opening, talk: Talk) -> Talk {
+fn after_opening(opening: Opening, mut talk: Talk) -> Talk {
     let opened = opening.opened;
     let conversation = opened.conversation;
+    talk.conversation = conversation;
     let list = opening.list;
-    let lent = talk.lent;
-    let updated = talk.updated;
-    Talk {
-        conversation,
-        list,
-        lent,
-        updated,
-    }
+    talk.list = list;
+    talk
 }
 
 fn open_into(line: &[u8], reply: &mut [u8], talk: Talk) -> Talk {
