@@ -9,7 +9,7 @@ use Prim.Native.Nat.{ℕ, _+_, _≤_, _<_}
 use native.Mathlib.Omega.{arith}
 use borrow.Author.Tests.{eqb-true, eqb-false, ltb-true}
 use lib.Dec.{eqb, ltb}
-use Rattle.packets.specs.Response.{responseIn}
+use Rattle.packets.specs.Response.{readResponse}
 use Rattle.packets.specs.declared.Response as responses
 use Rattle.packets.specs.declared.Change as changes
 use Rattle.accounts.specs.declared.Account.{Account}
@@ -78,7 +78,7 @@ change-less c f = which (newHash (c .kept) (c .challenge) f)
 
 phase-less : (ph : Phase) (c : Conversation) (p : List ℕ) (l : Lookup) → c .phase ≡ ph → isEnded ph ≡ false
     → leftIn (judgeIn ph c p l .next) < left ph (c .retries)
-phase-less Response c p l e live = response-less c l (responseIn p) e
+phase-less Response c p l e live = response-less c l (readResponse p) e
 phase-less Change c p l e live = change-less _ _
 phase-less Ended c p l e live = let z : _≡_ {A = ℕ} 0 1 = cc in absurd (omega arith)
 

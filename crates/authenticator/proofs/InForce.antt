@@ -10,10 +10,10 @@ use borrow.Author.Tests.{eqb-true, eqb-false, ltb-true}
 use lib.Dec.{eqb, ltb}
 use Rattle.octets.specs.Parts.{agrees}
 use Rattle.octets.proofs.Parts.{agrees-refl}
-use Rattle.issued.specs.Issued.{holds}
+use Rattle.issued.specs.Issued.{contains}
 use Rattle.challenges.specs.Challenges.{incremented, challengesFrom}
 use Rattle.message.specs.Reasons.{authenticationFailure, passwordExpired}
-use Rattle.packets.specs.Response.{responseIn}
+use Rattle.packets.specs.Response.{readResponse}
 use Rattle.packets.specs.declared.Response as fields
 use Rattle.packets.specs.declared.Change as changes
 use Rattle.authenticator.specs.Conversation.{ended, retried, awaitingChange}
@@ -32,17 +32,17 @@ use Rattle.authenticator.specs.declared.Phase.the-variants.{Response, Ch
 
 -- x is the challenge in force, or can be after a retry
 abbrev pub CanBeInForce : Conversation → List ℕ → Type 0
-CanBeInForce c x = holds (challengesFrom (suc (c .retries)) (c .challenge)) x ≡ true
+CanBeInForce c x = contains (challengesFrom (suc (c .retries)) (c .challenge)) x ≡ true
 
 pub now-in-force : (c : Conversation) → CanBeInForce c (c .challenge)
-unfolding holds challengesFrom
-now-in-force c = ap (λ (t : Bool). t || holds (challengesFrom (c .retries) (incremented (c .challenge))) (c .challenge)) (agrees-refl (c .challenge))
+unfolding contains challengesFrom
+now-in-force c = ap (λ (t : Bool). t || contains (challengesFrom (c .retries) (incremented (c .challenge))) (c .challenge)) (agrees-refl (c .challenge))
 
 retried-adds-none : (c : Conversation) (x : List ℕ) → 0 < c .retries → CanBeInForce (retried c) x → CanBeInForce c x
-unfolding holds challengesFrom
+unfolding contains challengesFrom
 retried-adds-none c x more h =
     let e : suc (c .retries - 1) ≡ c .retries = omega arith in
-    ap (λ (t : Bool). agrees (c .challenge) x || t) (subst (λ (n : ℕ). holds (challengesFrom n (incremented (c .challenge))) x ≡ true) e h) ∙ or-true (agrees (c .challenge) x)
+    ap (λ (t : Bool). agrees (c .challenge) x || t) (subst (λ (n : ℕ). contains (challengesFrom n (incremented (c .challenge))) x ≡ true) e h) ∙ or-true (agrees (c .challenge) x)
 
 after-adds-none : (c : Conversation) (a : Account) (e : ℕ) (x : List ℕ) → CanBeInForce (afterReason c a e) x → CanBeInForce c x
 after-adds-none c a e x = which (eqb e authenticationFailure) (ltb 0 (c .retries)) (eqb e passwordExpired) refl
@@ -67,7 +67,7 @@ change-adds-none c f x = which (newHash (c .kept) (c .challenge) f)
     which (some v) h = h
 
 phase-adds-none : (ph : Phase) (c : Conversation) (p : List ℕ) (l : Lookup) (x : List ℕ) → CanBeInForce (judgeIn ph c p l .next) x → CanBeInForce c x
-phase-adds-none Response c p l x h = response-adds-none c l (responseIn p) x h
+phase-adds-none Response c p l x h = response-adds-none c l (readResponse p) x h
 phase-adds-none Change c p l x h = change-adds-none _ _ x h
 phase-adds-none Ended c p l x h = h
 

@@ -15,8 +15,8 @@ use Rattle.accounts.specs.Account.{notFound, found, changed, Rightful}
 use Rattle.accounts.specs.declared.Account.{Account}
 use Rattle.accounts.specs.declared.Lookup.{Lookup}
 use Rattle.message.specs.Reasons.{authenticationFailure, passwordExpired, noReason}
-use Rattle.packets.specs.Response.{responseIn}
-use Rattle.packets.specs.Change.{changeIn}
+use Rattle.packets.specs.Response.{readResponse}
+use Rattle.packets.specs.Change.{readChange}
 use Rattle.verify.specs.Response.{valid, foundValid, responseReason}
 use Rattle.verify.specs.Change.{newHash}
 use Rattle.verify.specs.Accepted.{SameButIgnored}
@@ -65,13 +65,13 @@ module _ (c : Conversation) (p b : List ℕ) (ok : stepRefusal c p b ≡ 0) wher
 
   response-step : (l : Lookup) → c .phase ≡ Response
       → step c p l b
-      ≡ judgedAs c (judgementFor c (l .account) (responseReason (c .terms) (c .challenge) l (responseIn p))) b
+      ≡ judgedAs c (judgementFor c (l .account) (responseReason (c .terms) (c .challenge) l (readResponse p))) b
   unfolding judgeResponse
   response-step l e = step-in l e
 
   change-step : (l : Lookup) → c .phase ≡ Change
       → step c p l b
-      ≡ judgedAs c (changeJudgement c (newHash (c .kept) (c .challenge) (changeIn p))) b
+      ≡ judgedAs c (changeJudgement c (newHash (c .kept) (c .challenge) (readChange p))) b
   unfolding judgeChange
   change-step l e = step-in l e
 
@@ -86,26 +86,26 @@ rightful-judged false c a = refl
 
 module _ (c : Conversation) (p b : List ℕ) (ok : stepRefusal c p b ≡ 0) where
   pub invalid-law : (l : Lookup) → c .phase ≡ Response
-      → foundValid (c .terms) (c .challenge) l (responseIn p) ≡ false → 0 < c .retries
+      → foundValid (c .terms) (c .challenge) l (readResponse p) ≡ false → 0 < c .retries
       → step c p l b ≡ judgedAs c (tryAgain c) b
   invalid-law l ph v pos =
       response-step c p b ok l ph
       ∙ ap (λ (e : ℕ). judgedAs c (judgementFor c (l .account) e) b)
-      (reason-invalid (c .terms) (c .challenge) (responseIn p) l v)
+      (reason-invalid (c .terms) (c .challenge) (readResponse p) l v)
       ∙ ap (λ (j : Judgement). judgedAs c j b) (retry-judged c (l .account) pos)
 
   pub valid-law : (a : Account) → c .phase ≡ Response → Rightful a
-      → valid (c .terms) (c .challenge) a (responseIn p) ≡ true
+      → valid (c .terms) (c .challenge) a (readResponse p) ≡ true
       → step c p (found a) b ≡ judgedAs c (cond (a .expired) (expiredFor c a) (accepted c)) b
   valid-law a ph g v =
       response-step c p b ok (found a) ph
       ∙ ap (λ (e : ℕ). judgedAs c (judgementFor c a e) b)
-      (rightful-reason (c .terms) (c .challenge) (responseIn p) a g v)
+      (rightful-reason (c .terms) (c .challenge) (readResponse p) a g v)
       ∙ ap (λ (j : Judgement). judgedAs c j b) (rightful-judged (a .expired) c a)
 
   -- the record passed with it has no effect
   pub change-law : (l : Lookup) (h : List ℕ) → c .phase ≡ Change
-      → newHash (c .kept) (c .challenge) (changeIn p) ≡ some h
+      → newHash (c .kept) (c .challenge) (readChange p) ≡ some h
       → step c p l b ≡ judgedAs c (changedTo c h) b
   change-law l h ph e =
       change-step c p b ok l ph
@@ -113,12 +113,12 @@ module _ (c : Conversation) (p b : List ℕ) (ok : stepRefusal c p b ≡ 0) wher
 
 -- nor has what is to be ignored of the packet
 pub ignored-step : (c : Conversation) (p q b : List ℕ) (l m : Lookup) → c .phase ≡ Change
-    → stepRefusal c p b ≡ 0 → stepRefusal c q b ≡ 0 → SameButIgnored (changeIn p) (changeIn q)
+    → stepRefusal c p b ≡ 0 → stepRefusal c q b ≡ 0 → SameButIgnored (readChange p) (readChange q)
     → step c p l b ≡ step c q m b
 ignored-step c p q b l m ph x y e =
     change-step c p b x l ph
     ∙ ap (λ (o : Option (List ℕ)). judgedAs c (changeJudgement c o) b)
-    (ignored-hash (c .kept) (c .challenge) (changeIn p) (changeIn q) e)
+    (ignored-hash (c .kept) (c .challenge) (readChange p) (readChange q) e)
     ∙ sym (change-step c q b y m ph)
 
 -- a changed record is rightful where the kept one is, is not expired, and has the new hash
@@ -153,8 +153,8 @@ module _ (c : Conversation) (p b : List ℕ) where
       which Ended n = refl
 
   -- two lookups with no record, or with one for which the Response is invalid: in every phase, for any packet, refused or not
-  pub same-invalid : (l m : Lookup) → foundValid (c .terms) (c .challenge) l (responseIn p) ≡ false
-      → foundValid (c .terms) (c .challenge) m (responseIn p) ≡ false
+  pub same-invalid : (l m : Lookup) → foundValid (c .terms) (c .challenge) l (readResponse p) ≡ false
+      → foundValid (c .terms) (c .challenge) m (readResponse p) ≡ false
       → step c p l b ≡ step c p m b
   same-invalid l m v w = by-refusal l m (λ ok. which (c .phase) ok refl)
     where
@@ -162,13 +162,13 @@ module _ (c : Conversation) (p b : List ℕ) where
       which Response ok e =
           response-step c p b ok l e
           ∙ ap (λ (n : ℕ). judgedAs c (judgementFor c (l .account) n) b)
-          (reason-invalid (c .terms) (c .challenge) (responseIn p) l v)
+          (reason-invalid (c .terms) (c .challenge) (readResponse p) l v)
           ∙ ap (λ (n : ℕ). judgedAs c (judgementFor c (m .account) n) b)
-          (sym (reason-invalid (c .terms) (c .challenge) (responseIn p) m w))
+          (sym (reason-invalid (c .terms) (c .challenge) (readResponse p) m w))
           ∙ sym (response-step c p b ok m e)
       which Change ok e = same-record l m (λ f. let z : _≡_ {A = ℕ} 0 1 = cc in absurd (omega arith))
       which Ended ok e = same-record l m (λ f. let z : _≡_ {A = ℕ} 0 1 = cc in absurd (omega arith))
 
-  pub same-answer : (a : Account) → valid (c .terms) (c .challenge) a (responseIn p) ≡ false
+  pub same-answer : (a : Account) → valid (c .terms) (c .challenge) a (readResponse p) ≡ false
       → step c p notFound b ≡ step c p (found a) b
   same-answer a v = same-invalid notFound (found a) refl v

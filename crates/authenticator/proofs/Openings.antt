@@ -10,10 +10,10 @@ use native.Mathlib.Omega.{arith}
 use borrow.Author.Tests.{eqb-true, eqb-false, ne-eqb, le-ltb, ltb-false}
 use lib.Dec.{eqb, ltb}
 use lib.ListN.{length, take, replicate}
-use Rattle.issued.specs.Issued.{Issued, places, listed, holds, Distinct, meets, countsOf, badBuffer, untrue, spendRefusal, spent}
+use Rattle.issued.specs.Issued.{Issued, places, listed, contains, Distinct, containsAny, countsOf, badBuffer, untrue, spendRefusal, spent}
 use Rattle.issued.proofs.Listing.{Wide}
-use Rattle.issued.proofs.Spending.{accepted, accepts, empty-accepts, same-issued, spent-added, spent-listed, spent-holds, spent-keeps, spent-true, spent-sound}
-use Rattle.packets.specs.Frame.{headed}
+use Rattle.issued.proofs.Spending.{accepted, accepts, empty-accepts, same-issued, spent-added, spent-listed, spent-contains, spent-keeps, spent-true, spent-sound}
+use Rattle.packets.specs.Frame.{writtenOver}
 use Rattle.packets.specs.Reply.{challengePacket, badReplyBuffer}
 use Rattle.challenges.proofs.Laid.{length-challenges-from}
 use Rattle.packets.proofs.Writing.{taken}
@@ -56,9 +56,9 @@ module _ (o : Opening) where
     roomy : 17 ≤ length (o .buffer)
     roomy = ltb-false (length (o .buffer)) 17 (passed .1)
 
-    headed-buffer : openedBuffer o ≡ headed (openingPacket o) (o .buffer)
+    written-over-buffer : openedBuffer o ≡ writtenOver (openingPacket o) (o .buffer)
     unfolding openedBuffer
-    headed-buffer = rw not-refused
+    written-over-buffer = rw not-refused
 
     size : length (openingPacket o) ≡ 5 + length (o .challenge)
     unfolding challengePacket
@@ -67,11 +67,11 @@ module _ (o : Opening) where
     pub opened-written : length (o .challenge) ≡ 8 → take (opened o .written) (openedBuffer o) ≡ openingPacket o
     opened-written eight =
         ap (λ (x : Opened). take (x .written) (openedBuffer o)) good
-        ∙ ap (take (length (openingPacket o))) headed-buffer
+        ∙ ap (take (length (openingPacket o))) written-over-buffer
         ∙ taken (openingPacket o) (o .buffer) (omega (arith, size, roomy))
 
     -- none of what it spends stood in the list
-    pub opened-fresh : meets (spends o) (listed 8 (o .issued)) ≡ false
+    pub opened-fresh : containsAny (spends o) (listed 8 (o .issued)) ≡ false
     opened-fresh = accepted 8 (spends o) (o .issued) (passed .2) .fresh
 
     opened-spent : openedIssued o ≡ spent 8 (spends o) (o .issued)
@@ -97,8 +97,8 @@ module _ (o : Opening) where
     pub opened-listed : opened o .refusal ≡ 0 → listed 8 (openedIssued o) ≡ listed 8 (o .issued) ++ spends o
     opened-listed ok = ap (listed 8) (opened-spent ok) ∙ spent-listed 8 (spends o) (o .issued) wide (passed ok .2)
 
-    pub opened-holds : opened o .refusal ≡ 0 → (c : List ℕ) → holds (spends o) c ≡ true → holds (listed 8 (openedIssued o)) c ≡ true
-    opened-holds ok c h = ap (λ (i : Issued). holds (listed 8 i) c) (opened-spent ok) ∙ spent-holds 8 (spends o) (o .issued) wide (passed ok .2) c h
+    pub opened-contains : opened o .refusal ≡ 0 → (c : List ℕ) → contains (spends o) c ≡ true → contains (listed 8 (openedIssued o)) c ≡ true
+    opened-contains ok c h = ap (λ (i : Issued). contains (listed 8 i) c) (opened-spent ok) ∙ spent-contains 8 (spends o) (o .issued) wide (passed ok .2) c h
 
     -- refused or not
     either : (P : Issued → Type 0) → P (spent 8 (spends o) (o .issued)) → P (o .issued) → P (openedIssued o)
@@ -109,8 +109,8 @@ module _ (o : Opening) where
         which false e = subst P (sym (opened-not (eqb-false (opened o .refusal) 0 e) .1)) b
 
     -- what stands in the list stands there afterwards
-    pub opened-keeps : (c : List ℕ) → holds (listed 8 (o .issued)) c ≡ true → holds (listed 8 (openedIssued o)) c ≡ true
-    opened-keeps c h = either (λ (i : Issued). holds (listed 8 i) c ≡ true) (spent-keeps 8 (spends o) (o .issued) wide c h) h
+    pub opened-keeps : (c : List ℕ) → contains (listed 8 (o .issued)) c ≡ true → contains (listed 8 (openedIssued o)) c ≡ true
+    opened-keeps c h = either (λ (i : Issued). contains (listed 8 i) c ≡ true) (spent-keeps 8 (spends o) (o .issued) wide c h) h
 
     -- counts that are true are true afterwards
     pub opened-true : o .issued .counts ≡ countsOf (listed 8 (o .issued)) → openedIssued o .counts ≡ countsOf (listed 8 (openedIssued o))
@@ -136,7 +136,7 @@ module _ (o : Opening) (few : retriesOf (o .retries) ≤ 7) (room : 17 ≤ lengt
 
   -- on a sound list, with challenges that were not issued and places for them
   pub may-open : badBuffer 8 (o .issued .buffer) (o .issued .used) ≡ false → o .issued .counts ≡ countsOf (listed 8 (o .issued))
-      → meets (spends o) (listed 8 (o .issued)) ≡ false → o .issued .used + suc (retriesOf (o .retries)) ≤ places 8 (o .issued .buffer)
+      → containsAny (spends o) (listed 8 (o .issued)) ≡ false → o .issued .used + suc (retriesOf (o .retries)) ≤ places 8 (o .issued .buffer)
       → opened o .refusal ≡ 0
   may-open sound counts fresh left =
       may-open-by (accepts 8 (spends o) (o .issued) sound counts fresh (omega (arith, length-challenges-from (suc (retriesOf (o .retries))) (o .challenge))))
@@ -163,12 +163,12 @@ module _ (o : Opening) {r : Opened} {list counts buffer : List ℕ} where
 
   pub accepted-promise : openRefusal o ≡ 0 → record { buffer = list; used = r .used; counts = counts } ≡ spent 8 (spends o) (o .issued)
       → r ≡ record { refusal = 0; conversation = firstConversation o; written = length (openingPacket o); used = r .used }
-      → buffer ≡ headed (openingPacket o) (o .buffer) → OpenedAs o r (record { buffer = list; used = r .used; counts = counts }) buffer
+      → buffer ≡ writtenOver (openingPacket o) (o .buffer) → OpenedAs o r (record { buffer = list; used = r .used; counts = counts }) buffer
   accepted-promise e h e₁ e₂ =
       let ok = opened-number o ∙ e in
       let after = h ∙ sym (opened-spent o ok) in
       record {
         answer = e₁ ∙ ap (λ (u : ℕ). record { refusal = 0; conversation = firstConversation o; written = length (openingPacket o); used = u }) (ap (λ (i : Issued). i .used) after) ∙ sym (good o ok);
         list = after;
-        reply = e₂ ∙ sym (headed-buffer o ok);
+        reply = e₂ ∙ sym (written-over-buffer o ok);
       }

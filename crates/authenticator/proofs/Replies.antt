@@ -10,11 +10,11 @@ use native.Mathlib.Omega.{arith}
 use borrow.Author.Tests.{eqb-true}
 use lib.Dec.{eqb}
 use Rattle.accounts.specs.declared.Lookup.{Lookup}
-use Rattle.message.specs.Message.{failedWith, noC, succeeded}
+use Rattle.message.specs.Message.{failedWith, noChallenge, succeeded}
 use Rattle.message.specs.Reasons.{noReason}
 use Rattle.message.specs.declared.Reading.{Reading}
-use Rattle.packets.specs.Response.{responseIn}
-use Rattle.packets.specs.Change.{changeIn}
+use Rattle.packets.specs.Response.{readResponse}
+use Rattle.packets.specs.Change.{readChange}
 use Rattle.packets.specs.Reply.{readReply}
 use Rattle.packets.specs.declared.Response as responses
 use Rattle.packets.specs.declared.Change as changes
@@ -77,8 +77,8 @@ change-fitting c f = which (newHash (c .kept) (c .challenge) f)
 
 judge-in-fitting : (ph : Phase) (c : Conversation) (p : List ℕ) (l : Lookup)
     → Fitting c (judgeIn ph c p l)
-judge-in-fitting Response c p l = response-fitting c l (responseIn p)
-judge-in-fitting Change c p l = change-fitting c (changeIn p)
+judge-in-fitting Response c p l = response-fitting c l (readResponse p)
+judge-in-fitting Change c p l = change-fitting c (readChange p)
 judge-in-fitting Ended c p l = (success, refl)
 
 pub judge-fitting : (c : Conversation) (p : List ℕ) (l : Lookup) → Fitting c (judge c p l)
@@ -89,7 +89,7 @@ judge-fitting c p l = judge-in-fitting (c .phase) c p l
 
 abbrev pub readingFor : Reply → Reading
 readingFor Success = succeeded
-readingFor (Failure e retry) = failedWith e (retryDigit retry) version noC
+readingFor (Failure e retry) = failedWith e (retryDigit retry) version noChallenge
 
 pub read-reply : (id : ℕ) (reply : Reply) (behind : List ℕ) → reasonOf reply < 1000
     → readReply id (replyPacket id reply ++ behind) ≡ readingFor reply

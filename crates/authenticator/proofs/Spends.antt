@@ -14,7 +14,7 @@ use lib.Seq.{take-append-add}
 use Rattle.octets.specs.Parts.{part, agrees}
 use Rattle.octets.proofs.Parts.{agrees-equal}
 use Rattle.octets.proofs.Numbers.{Octets}
-use Rattle.issued.specs.Issued.{entries, entriesIn, holds, Distinct}
+use Rattle.issued.specs.Issued.{entries, entriesIn, contains, Distinct}
 use Rattle.issued.proofs.Listing.{Wide, length-flatten, entries-flatten}
 use Rattle.challenges.specs.Challenges.{incremented, challengesFrom}
 use Rattle.challenges.proofs.Laid.{length-challenges-from}
@@ -44,8 +44,8 @@ not-back : (k x y : ℕ) → y ≡ (x + 23 * k) % 256 → 0 < k → k ≤ 11 →
 not-back k x y e pos few f = no-multiple k ((x + 23 * k) / 256) (omega (arith, div-add-mod' (x + 23 * k) 256)) pos few
 
 -- n challenges from one that k turns of the 23 rule made of x, none of which begins with x: 23 * 11 is under 256
-others : (n k x y : ℕ) (xs : List ℕ) → y ≡ (x + 23 * k) % 256 → 0 < k → k + n ≤ 12 → holds (challengesFrom n (y ∷ xs)) (x ∷ xs) ≡ false
-unfolding challengesFrom holds agrees
+others : (n k x y : ℕ) (xs : List ℕ) → y ≡ (x + 23 * k) % 256 → 0 < k → k + n ≤ 12 → contains (challengesFrom n (y ∷ xs)) (x ∷ xs) ≡ false
+unfolding challengesFrom contains agrees
 others zero k x y xs e pos few = refl
 others (suc n) k x y xs e pos few =
     let differ : eqb y x ≡ false = ne-eqb y x (not-back k x y e pos (omega arith)) in
@@ -61,14 +61,14 @@ challenges-distinct (suc n) (x ∷ xs) pos h =
 
 -- ---- each is eight octets
 
-pub challenges-octets : (n : ℕ) (c x : List ℕ) → length c ≡ 8 → Octets c → holds (challengesFrom n c) x ≡ true → (length x ≡ 8) × Octets x
-unfolding challengesFrom holds
+pub challenges-octets : (n : ℕ) (c x : List ℕ) → length c ≡ 8 → Octets c → contains (challengesFrom n c) x ≡ true → (length x ≡ 8) × Octets x
+unfolding challengesFrom contains
 challenges-octets zero c x e o h = absurd (false≢true h)
 challenges-octets (suc n) c x e o h = which (agrees c x) refl (challenges-octets n (incremented c) x (length-incremented c ∙ e) (incremented-octets c o))
   where
-    which : (t : Bool) → agrees c x ≡ t → (holds (challengesFrom n (incremented c)) x ≡ true → (length x ≡ 8) × Octets x) → (length x ≡ 8) × Octets x
+    which : (t : Bool) → agrees c x ≡ t → (contains (challengesFrom n (incremented c)) x ≡ true → (length x ≡ 8) × Octets x) → (length x ≡ 8) × Octets x
     which true p next = subst (λ (l : List ℕ). (length l ≡ 8) × Octets l) (agrees-equal c x p) (e, o)
-    which false p next = next (sym (ap (λ (t : Bool). t || holds (challengesFrom n (incremented c)) x) p) ∙ h)
+    which false p next = next (sym (ap (λ (t : Bool). t || contains (challengesFrom n (incremented c)) x) p) ∙ h)
 
 -- ---- as the code lends them
 

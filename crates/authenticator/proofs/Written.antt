@@ -7,7 +7,7 @@ use native.Mathlib.Omega.{arith}
 use lib.ListN.{length}
 use Rattle.message.specs.Message.{textOf}
 use Rattle.message.proofs.Laws.{length-text}
-use Rattle.packets.specs.Frame.{headedLength}
+use Rattle.packets.specs.Frame.{writtenLength}
 use Rattle.packets.specs.Reply.{challengePacket, successPacket, failurePacket, longestReply}
 use Rattle.packets.proofs.Writing.{fits, length-challenge, length-success, length-failure}
 use Rattle.authenticator.specs.Encode.{version, retryDigit, replyPacket}
@@ -32,5 +32,5 @@ reply-fits id (Failure e retry) =
 
 -- so it is written whole
 pub written-whole : (reply out : List ℕ) → Fits reply → longestReply ≤ length out
-    → headedLength reply out ≡ length reply
+    → writtenLength reply out ≡ length reply
 written-whole reply out f h = let n = f .1 in fits reply out (omega arith) .0

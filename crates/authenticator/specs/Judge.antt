@@ -16,8 +16,8 @@ use Rattle.message.specs.Reasons.{
   changingPassword,
   noReason,
 }
-use Rattle.packets.specs.Response.{responseIn}
-use Rattle.packets.specs.Change.{changeIn}
+use Rattle.packets.specs.Response.{readResponse}
+use Rattle.packets.specs.Change.{readChange}
 use Rattle.packets.specs.declared.Response as responses
 use Rattle.packets.specs.declared.Change as changes
 use Rattle.verify.specs.Response.{valid, responseReason}
@@ -81,8 +81,8 @@ judgeChange c f = changeJudgement c (newHashIn c f)
 
 -- an ended conversation has no packet to judge: what stands there has no effect
 abbrev pub judgeIn : Phase → Conversation → List ℕ → Lookup → Judgement
-judgeIn Response c p l = judgeResponse c l (responseIn p)
-judgeIn Change c p l = judgeChange c (changeIn p)
+judgeIn Response c p l = judgeResponse c l (readResponse p)
+judgeIn Change c p l = judgeChange c (readChange p)
 judgeIn Ended c p l = record { reply = Success; next = c; updated = notFound }
 
 unfoldable pub judge : Conversation → List ℕ → Lookup → Judgement

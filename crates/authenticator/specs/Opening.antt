@@ -8,7 +8,7 @@ use Prim.Native.Nat.{ℕ, suc}
 use lib.Dec.{eqb, ltb}
 use lib.ListN.{length}
 use Rattle.issued.specs.Issued.{Issued, spendRefusal, added}
-use Rattle.packets.specs.Frame.{headed}
+use Rattle.packets.specs.Frame.{writtenOver}
 use Rattle.challenges.specs.Challenges.{challengesFrom}
 use Rattle.packets.specs.Reply.{challengePacket, badReplyBuffer}
 use Rattle.accounts.specs.Account.{blankAccount}
@@ -78,7 +78,7 @@ unfoldable pub opened : Opening → Opened
 opened o = openedBy (openRefusal o) o
 
 unfoldable pub openedBuffer : Opening → List ℕ
-openedBuffer o = cond (eqb (openRefusal o) 0) (headed (openingPacket o) (o .buffer)) (o .buffer)
+openedBuffer o = cond (eqb (openRefusal o) 0) (writtenOver (openingPacket o) (o .buffer)) (o .buffer)
 
 -- what an opening answers (r), and leaves in the list and in the reply buffer
 pub record OpenedAs (o : Opening) (r : Opened) (issued : Issued) (buffer : List ℕ) : Type 0 where

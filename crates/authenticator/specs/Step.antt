@@ -9,7 +9,7 @@ use lib.Dec.{eqb}
 use lib.ListN.{length}
 use Rattle.accounts.specs.Account.{notFound}
 use Rattle.accounts.specs.declared.Lookup.{Lookup}
-use Rattle.packets.specs.Frame.{headed}
+use Rattle.packets.specs.Frame.{writtenOver}
 use Rattle.authenticator.specs.Admit.{stepRefusal}
 use Rattle.authenticator.specs.Judge.{reasonOf, judge}
 use Rattle.authenticator.specs.Encode.{replyPacket}
@@ -45,7 +45,7 @@ judgedAs c j b =
         written = length reply;
         updated = j .updated;
       };
-      buffer = headed reply b;
+      buffer = writtenOver reply b;
     }
 
 -- a refusal leaves the conversation and the buffer as they were

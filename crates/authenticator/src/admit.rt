@@ -52,9 +52,9 @@ impl Conversation {
     {
         let phase = self.phase;
         let body = body_refusal(phase, packet);
-        let id = refuse_if(packets::bad_id(self.id, packet), 5, body);
+        let id = refuse_if(packets::is_bad_id(self.id, packet), 5, body);
         let code = refuse_if(is_bad_code(phase, packet), 4, id);
-        let frame = refuse_if(packets::bad_frame(packet), 3, code);
+        let frame = refuse_if(packets::is_bad_frame(packet), 3, code);
         let buffer = refuse_if(packets::is_bad_reply_buffer(reply), 2, frame);
         refuse_if(is_ended(phase), 1, buffer)
     }

@@ -1,6 +1,6 @@
 // The third part of a step: the octets of a reply.
 ghost use mathlib.Core.Path.{_≡_};
-ghost use Rattle.packets.specs.Frame.{headed, headedLength};
+ghost use Rattle.packets.specs.Frame.{writtenOver, writtenLength};
 ghost use Rattle.authenticator.specs.Judge.{reasonOf};
 ghost use Rattle.authenticator.specs.Encode.{retryDigit, replyPacket};
 use crate::Reply;
@@ -27,7 +27,7 @@ fn retry_digit(retry: bool) -> u8
 
 // Writes a reply to the packet with an identifier, and answers how many octets it takes.
 pub(crate) fn write_reply(id: u8, reply: Reply, out: &mut [u8]) -> usize
-    ensures { λ r. ⌜ (r ≡ headedLength (replyPacket id reply) (now (out .entry))) × (now (out .exit) ≡ headed (replyPacket id reply) (now (out .entry))) ⌝ }
+    ensures { λ r. ⌜ (r ≡ writtenLength (replyPacket id reply) (now (out .entry))) × (now (out .exit) ≡ writtenOver (replyPacket id reply) (now (out .entry))) ⌝ }
 {
     match reply {
         Reply::Success => packets::write_success(id, out),

@@ -1,8 +1,8 @@
 // The second part of a step: how an awaited packet is judged. Whether a Response is valid and a
 // change accepted is found out by `verify`.
 ghost use mathlib.Core.Path.{_≡_};
-ghost use Rattle.packets.specs.Response.{responseIn};
-ghost use Rattle.packets.specs.Change.{changeIn};
+ghost use Rattle.packets.specs.Response.{readResponse};
+ghost use Rattle.packets.specs.Change.{readChange};
 ghost use Rattle.authenticator.specs.Judge.{
   mayRetry,
   replyFor,
@@ -54,7 +54,7 @@ impl Conversation {
 
     // A Response that is not refused.
     fn response(self, packet: &[u8], lookup: Lookup) -> Judgement
-        ensures { λ r. ⌜ r ≡ judgeResponse self lookup (responseIn (now (packet .entry))) ⌝ }
+        ensures { λ r. ⌜ r ≡ judgeResponse self lookup (readResponse (now (packet .entry))) ⌝ }
     {
         let terms = self.terms;
         let challenge = self.challenge;
@@ -73,7 +73,7 @@ impl Conversation {
 
     // A change that is not refused.
     fn change(self, packet: &[u8]) -> Judgement
-        ensures { λ r. ⌜ r ≡ judgeChange self (changeIn (now (packet .entry))) ⌝ }
+        ensures { λ r. ⌜ r ≡ judgeChange self (readChange (now (packet .entry))) ⌝ }
     {
         let challenge = self.challenge;
         let kept = self.kept;

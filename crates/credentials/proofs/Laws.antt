@@ -27,7 +27,7 @@ use Rattle.rc4.proofs.Laws.{crypted-twice, length-crypted}
 use Rattle.credentials.specs.declared.Content.the-variants.{Over, Odd, Password}
 use Rattle.credentials.specs.declared.Unsealed.{Unsealed}
 use Rattle.credentials.specs.declared.Sealed.{Sealed}
-use Rattle.credentials.specs.Credentials.{blockSize, ntHashOf, badNtPassword, lmKeys, upper, responseOf, oldUnderNew, plainBlock, sealedBlock, badFiller, sealRefusal, sealedAs, lengthIn, contentFor, lengthTold, passwordLength, Sound, unsealedAs, passwordIn}
+use Rattle.credentials.specs.Credentials.{blockSize, ntHashOf, badNtPassword, lmKeys, upper, responseOf, oldUnderNew, plainBlock, sealedBlock, badFiller, sealRefusal, sealedAs, lengthIn, contentFor, lengthTold, passwordLength, ValidLength, unsealedAs, passwordIn}
 use Rattle.credentials.proofs.Plain.{front, front-length, body-length, plain-parts, length-plain}
 
 -- ---- lengths
@@ -119,18 +119,18 @@ length-told n = which (ltb 512 n) (eqb (n % 2) 1)
     which false true = refl
     which false false = refl
 
-sound-for : (n : ℕ) → Sound (contentFor n)
+sound-for : (n : ℕ) → ValidLength (contentFor n)
 unfolding contentFor
 sound-for n = which (ltb 512 n) (eqb (n % 2) 1) refl refl
   where
-    which : (a b : Bool) → ltb 512 n ≡ a → eqb (n % 2) 1 ≡ b → Sound (cond a Over (cond b Odd (Password n)))
+    which : (a b : Bool) → ltb 512 n ≡ a → eqb (n % 2) 1 ≡ b → ValidLength (cond a Over (cond b Odd (Password n)))
     which true b p q = tt
     which false true p q = tt
     which false false p q =
         let even : n % 2 ≡ 1 → ⊥ = eqb-false (n % 2) 1 q in
         (ltb-false 512 n p, omega arith)
 
-pub sound-unsealed : (old block : List ℕ) → Sound (unsealedAs old block .content)
+pub sound-unsealed : (old block : List ℕ) → ValidLength (unsealedAs old block .content)
 unfolding unsealedAs
 sound-unsealed old block = sound-for (lengthIn (crypted old block))
 

@@ -74,14 +74,14 @@ abbrev pub badLmPassword : List ℕ → Bool
 badLmPassword password = ltb longestLm (length password)
 
 -- what the public functions answer: the hash, or 8 and sixteen octets 0
-abbrev pub hashed : Bool → List ℕ → Hashed
-hashed bad hash = record { refusal = cond bad 8 0; hash = cond bad (replicate hashSize 0) hash }
+abbrev pub hashAnswer : Bool → List ℕ → Hashed
+hashAnswer bad hash = record { refusal = cond bad 8 0; hash = cond bad (replicate hashSize 0) hash }
 
 abbrev pub ntHashed : List ℕ → Hashed
-ntHashed password = hashed (badNtPassword password) (ntHashOf password)
+ntHashed password = hashAnswer (badNtPassword password) (ntHashOf password)
 
 abbrev pub lmHashed : List ℕ → Hashed
-lmHashed password = hashed (badLmPassword password) (lmHashOf password)
+lmHashed password = hashAnswer (badLmPassword password) (lmHashOf password)
 
 -- ---- responses
 
@@ -144,10 +144,10 @@ unfoldable pub passwordLength : ℕ → Option ℕ
 passwordLength n = cond (badLength n) none (some n)
 
 -- a password's length as an opened block gives it
-abbrev pub Sound : Content → Type 0
-Sound Over = Unit {0}
-Sound Odd = Unit {0}
-Sound (Password n) = (n ≤ longestNt) × (n % 2 ≡ 0)
+abbrev pub ValidLength : Content → Type 0
+ValidLength Over = Unit {0}
+ValidLength Odd = Unit {0}
+ValidLength (Password n) = (n ≤ longestNt) × (n % 2 ≡ 0)
 
 -- opening a block: what it holds, and its 512 octets, of which a password is the last
 unfoldable pub unsealedAs : List ℕ → List ℕ → Unsealed

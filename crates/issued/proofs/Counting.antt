@@ -12,7 +12,7 @@ use lib.ListN.{length, take, drop, replicate, getD, length-set, List·getD-eq-de
 use lib.Seq.{ext-getD, getD-set-same, getD-set-other, set-out, append-snoc}
 use Rattle.octets.specs.Parts.{agrees}
 use Rattle.octets.proofs.Parts.{agrees-equal}
-use Rattle.issued.specs.Issued.{entries, holds, lastOf, ending, endings, countsOf}
+use Rattle.issued.specs.Issued.{entries, contains, lastOf, ending, endings, countsOf}
 use Rattle.issued.specs.Inner.{raisedAt, raised, Room}
 use Rattle.issued.proofs.Listing.{Lie, entries-next, rest-part, rest-lies, last-first}
 
@@ -33,10 +33,10 @@ ending-most x (e ∷ es) = which (eqb (lastOf e) x) (ending-most x es)
     which false h = omega arith
 
 -- where none ends in the last octet of an entry, that entry is none of them
-pub none-holds : (cs : List (List ℕ)) (e : List ℕ) → ending (lastOf e) cs ≡ 0 → holds cs e ≡ false
-unfolding ending holds
-none-holds [] e h = refl
-none-holds (c ∷ cs) e h = which (agrees c e) refl (none-holds cs e)
+pub none-contains : (cs : List (List ℕ)) (e : List ℕ) → ending (lastOf e) cs ≡ 0 → contains cs e ≡ false
+unfolding ending contains
+none-contains [] e h = refl
+none-contains (c ∷ cs) e h = which (agrees c e) refl (none-contains cs e)
   where
     same : agrees c e ≡ true → eqb (lastOf c) (lastOf e) ≡ true
     same a = eq-eqb (lastOf c) (lastOf e) (ap lastOf (agrees-equal c e a))
@@ -49,7 +49,7 @@ none-holds (c ∷ cs) e h = which (agrees c e) refl (none-holds cs e)
     rest true z = absurd (omega arith)
     rest false z = omega arith
 
-    which : (t : Bool) → agrees c e ≡ t → (ending (lastOf e) cs ≡ 0 → holds cs e ≡ false) → (t || holds cs e) ≡ false
+    which : (t : Bool) → agrees c e ≡ t → (ending (lastOf e) cs ≡ 0 → contains cs e ≡ false) → (t || contains cs e) ≡ false
     which true p next = absurd (one (eqb (lastOf c) (lastOf e)) (same p) h)
     which false p next = next (rest (eqb (lastOf c) (lastOf e)) h)
 

@@ -10,7 +10,7 @@ use lib.ListN.{length, take, drop, getD, length-append, length-drop, take-append
 use lib.Seq.{take-all, length-take-le, getD-take, take-append-le, drop-append-le, take-add, take-at, drop-at, drop-drop}
 use Rattle.octets.specs.Parts.{overAt, agrees}
 use Rattle.octets.proofs.Parts.{over-fits, agrees-sym, agrees-equal}
-use Rattle.issued.specs.Issued.{entries, holds, meets, lastOf}
+use Rattle.issued.specs.Issued.{entries, contains, containsAny, lastOf}
 
 -- ---- one entry taken off the front
 
@@ -56,34 +56,34 @@ or-exchange false false true s = refl
 or-exchange false false false s = refl
 
 -- one more entry of the list: it is one of cs, or another one is
-pub meets-next : (cs es : List (List ℕ)) (e : List ℕ) → meets cs (e ∷ es) ≡ (holds cs e || meets cs es)
-unfolding meets holds
-meets-next [] es e = refl
-meets-next (c ∷ cs) es e =
-    ap₂ (λ (t u : Bool). (t || holds es c) || u) (agrees-sym e c) (meets-next cs es e)
-    ∙ or-exchange (agrees c e) (holds es c) (holds cs e) (meets cs es)
+pub contains-any-next : (cs es : List (List ℕ)) (e : List ℕ) → containsAny cs (e ∷ es) ≡ (contains cs e || containsAny cs es)
+unfolding containsAny contains
+contains-any-next [] es e = refl
+contains-any-next (c ∷ cs) es e =
+    ap₂ (λ (t u : Bool). (t || contains es c) || u) (agrees-sym e c) (contains-any-next cs es e)
+    ∙ or-exchange (agrees c e) (contains es c) (contains cs e) (containsAny cs es)
 
-pub meets-none : (cs : List (List ℕ)) → meets cs [] ≡ false
-unfolding meets holds
-meets-none [] = refl
-meets-none (c ∷ cs) = meets-none cs
+pub contains-any-none : (cs : List (List ℕ)) → containsAny cs [] ≡ false
+unfolding containsAny contains
+contains-any-none [] = refl
+contains-any-none (c ∷ cs) = contains-any-none cs
 
-pub holds-append : (es fs : List (List ℕ)) (c : List ℕ) → holds (es ++ fs) c ≡ (holds es c || holds fs c)
-unfolding holds
-holds-append [] fs c = refl
-holds-append (e ∷ es) fs c = ap (λ (t : Bool). agrees e c || t) (holds-append es fs c) ∙ sym (or-assoc (agrees e c) (holds es c) (holds fs c))
+pub contains-append : (es fs : List (List ℕ)) (c : List ℕ) → contains (es ++ fs) c ≡ (contains es c || contains fs c)
+unfolding contains
+contains-append [] fs c = refl
+contains-append (e ∷ es) fs c = ap (λ (t : Bool). agrees e c || t) (contains-append es fs c) ∙ sym (or-assoc (agrees e c) (contains es c) (contains fs c))
 
 -- where none of cs stands among es, an entry of cs does not
-pub not-met : (cs es : List (List ℕ)) (c : List ℕ) → meets cs es ≡ false → holds cs c ≡ true → holds es c ≡ false
-unfolding meets holds
+pub not-met : (cs es : List (List ℕ)) (c : List ℕ) → containsAny cs es ≡ false → contains cs c ≡ true → contains es c ≡ false
+unfolding containsAny contains
 not-met [] es c m h = absurd (false≢true h)
-not-met (d ∷ cs) es c m h = which (agrees d c) (holds es d) refl refl (not-met cs es c)
+not-met (d ∷ cs) es c m h = which (agrees d c) (contains es d) refl refl (not-met cs es c)
   where
-    which : (t u : Bool) → agrees d c ≡ t → holds es d ≡ u → (meets cs es ≡ false → holds cs c ≡ true → holds es c ≡ false) → holds es c ≡ false
-    which t true p q next = absurd (false≢true (sym m ∙ ap (λ (x : Bool). x || meets cs es) q))
-    which true false p q next = ap (holds es) (sym (agrees-equal d c p)) ∙ q
+    which : (t u : Bool) → agrees d c ≡ t → contains es d ≡ u → (containsAny cs es ≡ false → contains cs c ≡ true → contains es c ≡ false) → contains es c ≡ false
+    which t true p q next = absurd (false≢true (sym m ∙ ap (λ (x : Bool). x || containsAny cs es) q))
+    which true false p q next = ap (contains es) (sym (agrees-equal d c p)) ∙ q
     which false false p q next =
-        next (sym (ap (λ (x : Bool). x || meets cs es) q) ∙ m) (sym (ap (λ (x : Bool). x || holds cs c) p) ∙ h)
+        next (sym (ap (λ (x : Bool). x || containsAny cs es) q) ∙ m) (sym (ap (λ (x : Bool). x || contains cs c) p) ∙ h)
 
 -- ---- how many, and where they lie
 

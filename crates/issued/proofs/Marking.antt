@@ -10,9 +10,9 @@ use borrow.Author.Tests.{ne-eqb, eqb-true, eqb-false}
 use lib.Dec.{eqb}
 use lib.ListN.{length, take, drop, getD, set, length-set}
 use lib.Seq.{getD-set-same, getD-set-other}
-use Rattle.issued.specs.Issued.{entries, holds, meets, lastOf, ending}
+use Rattle.issued.specs.Issued.{entries, contains, containsAny, lastOf, ending}
 use Rattle.issued.specs.Inner.{Marked}
-use Rattle.issued.proofs.Listing.{Lie, entries-next, rest-part, rest-lies, last-first, meets-next, meets-none}
+use Rattle.issued.proofs.Listing.{Lie, entries-next, rest-part, rest-lies, last-first, contains-any-next, contains-any-none}
 
 -- one more mark: an octet that is still unmarked was so before, and ends as many of the rest
 mark-next : (marks : List Bool) (e : List ℕ) (es : List (List ℕ)) (x : ℕ) → lastOf e < length marks → getD (set marks (lastOf e) true) x false ≡ false
@@ -56,13 +56,13 @@ marked-all w marks l n all z h x u = h .same x u ∙ ap (λ (k : ℕ). ending x 
 -- ---- the search
 
 -- one more entry of the list is looked at
-pub met-next : (w n : ℕ) (l : List ℕ) (cs : List (List ℕ)) (met : Bool) {after one : Bool} → 0 < n → after ≡ (met || one) → one ≡ holds cs (take w l)
-    → (after || meets cs (entries w (n - 1) (take (length l - w) (drop w l)))) ≡ (met || meets cs (entries w n l))
+pub met-next : (w n : ℕ) (l : List ℕ) (cs : List (List ℕ)) (met : Bool) {after one : Bool} → 0 < n → after ≡ (met || one) → one ≡ contains cs (take w l)
+    → (after || containsAny cs (entries w (n - 1) (take (length l - w) (drop w l)))) ≡ (met || containsAny cs (entries w n l))
 met-next w n l cs met {after} {one} more e f =
     let rest = entries w (n - 1) (drop w l) in
-    ap₂ (λ (t : Bool) (m : List ℕ). t || meets cs (entries w (n - 1) m)) (e ∙ ap (λ (t : Bool). met || t) f) (rest-part w l)
-    ∙ or-assoc met (holds cs (take w l)) (meets cs rest)
-    ∙ ap (λ (t : Bool). met || t) (sym (ap (meets cs) (entries-next w n l more) ∙ meets-next cs rest (take w l)))
+    ap₂ (λ (t : Bool) (m : List ℕ). t || containsAny cs (entries w (n - 1) m)) (e ∙ ap (λ (t : Bool). met || t) f) (rest-part w l)
+    ∙ or-assoc met (contains cs (take w l)) (containsAny cs rest)
+    ∙ ap (λ (t : Bool). met || t) (sym (ap (containsAny cs) (entries-next w n l more) ∙ contains-any-next cs rest (take w l)))
 
-pub met-all : (w n : ℕ) (l : List ℕ) (cs : List (List ℕ)) (met : Bool) → n ≡ 0 → met ≡ (met || meets cs (entries w n l))
-met-all w n l cs met z = sym (ap (λ (k : ℕ). met || meets cs (entries w k l)) z ∙ ap (λ (t : Bool). met || t) (meets-none cs) ∙ or-false met)
+pub met-all : (w n : ℕ) (l : List ℕ) (cs : List (List ℕ)) (met : Bool) → n ≡ 0 → met ≡ (met || containsAny cs (entries w n l))
+met-all w n l cs met z = sym (ap (λ (k : ℕ). met || containsAny cs (entries w k l)) z ∙ ap (λ (t : Bool). met || t) (contains-any-none cs) ∙ or-false met)

@@ -13,22 +13,22 @@ use lib.Dec.{eqb, ltb}
 use lib.ListN.{length, replicate}
 use Rattle.octets.specs.Parts.{agrees}
 use Rattle.octets.proofs.Parts.{length-over-at, agrees-refl, agrees-equal}
-use Rattle.issued.specs.Issued.{Issued, entries, places, listed, holds, meets, countsOf, badBuffer, untrue, full, spendRefusal, added, spent}
-use Rattle.issued.proofs.Listing.{Wide, entries-laid, holds-append, meets-none}
+use Rattle.issued.specs.Issued.{Issued, entries, places, listed, contains, containsAny, countsOf, badBuffer, badCounts, full, spendRefusal, added, spent}
+use Rattle.issued.proofs.Listing.{Wide, entries-laid, contains-append, contains-any-none}
 use Rattle.issued.proofs.Counting.{none-counted}
 
 -- ---- what is known of a buffer that is not refused
 
-pub record Sound (w : ℕ) (l : List ℕ) (used : ℕ) : Type 0 where
+pub record GoodList (w : ℕ) (l : List ℕ) (used : ℕ) : Type 0 where
   pub positive : 0 < w
   pub few : places w l ≤ 4096
   pub fits : used ≤ places w l
 
-pub sound : (w : ℕ) (l : List ℕ) (used : ℕ) → badBuffer w l used ≡ false → Sound w l used
+pub sound : (w : ℕ) (l : List ℕ) (used : ℕ) → badBuffer w l used ≡ false → GoodList w l used
 unfolding badBuffer
 sound w l used h = which (eqb w 0) (eqb (length l % w) 0) (ltb 4096 (places w l)) refl refl h
   where
-    which : (t₁ t₂ t₃ : Bool) → eqb w 0 ≡ t₁ → ltb 4096 (places w l) ≡ t₃ → (t₁ || (not t₂ || (t₃ || ltb (places w l) used))) ≡ false → Sound w l used
+    which : (t₁ t₂ t₃ : Bool) → eqb w 0 ≡ t₁ → ltb 4096 (places w l) ≡ t₃ → (t₁ || (not t₂ || (t₃ || ltb (places w l) used))) ≡ false → GoodList w l used
     which true t₂ t₃ p₁ p₃ z = absurd (false≢true (sym z))
     which false false t₃ p₁ p₃ z = absurd (false≢true (sym z))
     which false true true p₁ p₃ z = absurd (false≢true (sym z))
@@ -57,17 +57,17 @@ places-fit w n l h = omega (arith, mul-le-mul-left w h, mul-div-le (length l) w)
 
 pub record Accepted (w : ℕ) (cs : List (List ℕ)) (i : Issued) : Type 0 where
   pub passed : badBuffer w (i .buffer) (i .used) ≡ false
-  pub buffer : Sound w (i .buffer) (i .used)
+  pub buffer : GoodList w (i .buffer) (i .used)
   pub counts : i .counts ≡ countsOf (listed w i)
-  pub fresh : meets cs (listed w i) ≡ false
+  pub fresh : containsAny cs (listed w i) ≡ false
   pub room : i .used + length cs ≤ places w (i .buffer)
 
 pub accepted : (w : ℕ) (cs : List (List ℕ)) (i : Issued) → spendRefusal w cs i ≡ 0 → Accepted w cs i
 unfolding spendRefusal
 accepted w cs i h =
-    which (badBuffer w (i .buffer) (i .used)) (agrees (countsOf (listed w i)) (i .counts)) (meets cs (listed w i)) (full w cs i) refl refl refl refl h
+    which (badBuffer w (i .buffer) (i .used)) (agrees (countsOf (listed w i)) (i .counts)) (containsAny cs (listed w i)) (full w cs i) refl refl refl refl h
   where
-    which : (t₁ t₂ t₃ t₄ : Bool) → badBuffer w (i .buffer) (i .used) ≡ t₁ → agrees (countsOf (listed w i)) (i .counts) ≡ t₂ → meets cs (listed w i) ≡ t₃
+    which : (t₁ t₂ t₃ t₄ : Bool) → badBuffer w (i .buffer) (i .used) ≡ t₁ → agrees (countsOf (listed w i)) (i .counts) ≡ t₂ → containsAny cs (listed w i) ≡ t₃
         → full w cs i ≡ t₄ → _≡_ {A = ℕ} (cond t₁ 24 (cond (not t₂) 24 (cond t₃ 16 (cond t₄ 17 0)))) 0 → Accepted w cs i
     which true t₂ t₃ t₄ p₁ p₂ p₃ p₄ z = absurd (omega arith)
     which false false t₃ t₄ p₁ p₂ p₃ p₄ z = absurd (omega arith)
@@ -80,7 +80,7 @@ accepted w cs i h =
 
 -- and where that is so, they are not refused
 pub accepts : (w : ℕ) (cs : List (List ℕ)) (i : Issued) → badBuffer w (i .buffer) (i .used) ≡ false → i .counts ≡ countsOf (listed w i)
-    → meets cs (listed w i) ≡ false → i .used + length cs ≤ places w (i .buffer) → spendRefusal w cs i ≡ 0
+    → containsAny cs (listed w i) ≡ false → i .used + length cs ≤ places w (i .buffer) → spendRefusal w cs i ≡ 0
 unfolding spendRefusal
 accepts w cs i sound counts fresh room =
     let told = ap (agrees (countsOf (listed w i))) counts ∙ agrees-refl (countsOf (listed w i)) in
@@ -91,7 +91,7 @@ pub empty-accepts : (w : ℕ) (cs : List (List ℕ)) (i : Issued) → badBuffer 
     → length cs ≤ places w (i .buffer) → spendRefusal w cs i ≡ 0
 empty-accepts w cs i sound none zeros room =
     let empty : listed w i ≡ [] = ap (λ (n : ℕ). entries w n (i .buffer)) none in
-    accepts w cs i sound (zeros ∙ none-counted ∙ ap countsOf (sym empty)) (ap (meets cs) empty ∙ meets-none cs) (omega arith)
+    accepts w cs i sound (zeros ∙ none-counted ∙ ap countsOf (sym empty)) (ap (containsAny cs) empty ∙ contains-any-none cs) (omega arith)
 
 -- ---- the list afterwards
 
@@ -128,23 +128,23 @@ module _ (w : ℕ) (cs : List (List ℕ)) (i : Issued) where
           ap (λ (x : Issued). x .counts) same ∙ e ∙ ap (λ (x : Issued). countsOf (listed w x)) (sym same)
 
   -- whatever was to be spent, what stood in the list stands there still
-  pub spent-keeps : Wide w cs → (c : List ℕ) → holds (listed w i) c ≡ true → holds (listed w (spent w cs i)) c ≡ true
+  pub spent-keeps : Wide w cs → (c : List ℕ) → contains (listed w i) c ≡ true → contains (listed w (spent w cs i)) c ≡ true
   spent-keeps wide c e = which (eqb (spendRefusal w cs i) 0) refl
     where
-      which : (t : Bool) → eqb (spendRefusal w cs i) 0 ≡ t → holds (listed w (spent w cs i)) c ≡ true
+      which : (t : Bool) → eqb (spendRefusal w cs i) 0 ≡ t → contains (listed w (spent w cs i)) c ≡ true
       which true p =
-          ap (λ (es : List (List ℕ)). holds es c) (spent-listed wide (eqb-true (spendRefusal w cs i) 0 p))
-          ∙ holds-append (listed w i) cs c ∙ ap (λ (t : Bool). t || holds cs c) e
-      which false p = ap (λ (x : Issued). holds (listed w x) c) (spent-refused (eqb-false (spendRefusal w cs i) 0 p)) ∙ e
+          ap (λ (es : List (List ℕ)). contains es c) (spent-listed wide (eqb-true (spendRefusal w cs i) 0 p))
+          ∙ contains-append (listed w i) cs c ∙ ap (λ (t : Bool). t || contains cs c) e
+      which false p = ap (λ (x : Issued). contains (listed w x) c) (spent-refused (eqb-false (spendRefusal w cs i) 0 p)) ∙ e
 
   -- entries that are not refused stand in the list afterwards
-  pub spent-holds : Wide w cs → spendRefusal w cs i ≡ 0 → (c : List ℕ) → holds cs c ≡ true → holds (listed w (spent w cs i)) c ≡ true
-  spent-holds wide h c e =
-      ap (λ (es : List (List ℕ)). holds es c) (spent-listed wide h)
-      ∙ holds-append (listed w i) cs c ∙ ap (λ (t : Bool). holds (listed w i) c || t) e ∙ or-true (holds (listed w i) c)
+  pub spent-contains : Wide w cs → spendRefusal w cs i ≡ 0 → (c : List ℕ) → contains cs c ≡ true → contains (listed w (spent w cs i)) c ≡ true
+  spent-contains wide h c e =
+      ap (λ (es : List (List ℕ)). contains es c) (spent-listed wide h)
+      ∙ contains-append (listed w i) cs c ∙ ap (λ (t : Bool). contains (listed w i) c || t) e ∙ or-true (contains (listed w i) c)
 
   -- and leave a buffer, a number and counts that draw no 24
-  pub spent-sound : Wide w cs → spendRefusal w cs i ≡ 0 → (badBuffer w (spent w cs i .buffer) (spent w cs i .used) ≡ false) × (untrue w (spent w cs i) ≡ false)
+  pub spent-sound : Wide w cs → spendRefusal w cs i ≡ 0 → (badBuffer w (spent w cs i .buffer) (spent w cs i .used) ≡ false) × (badCounts w (spent w cs i) ≡ false)
   spent-sound wide h =
       let a = accepted w cs i h in
       let e = spent-added h in

@@ -42,19 +42,19 @@ abbrev pub listed : ℕ → Issued → List (List ℕ)
 listed w i = entries w (i .used) (i .buffer)
 
 -- an entry "is in the list" where all its octets are those of one there
-unfoldable pub holds : List (List ℕ) → List ℕ → Bool
-holds [] c = false
-holds (e ∷ es) c = agrees e c || holds es c
+unfoldable pub contains : List (List ℕ) → List ℕ → Bool
+contains [] c = false
+contains (e ∷ es) c = agrees e c || contains es c
 
 -- "if one of them is in the list"
-unfoldable pub meets : List (List ℕ) → List (List ℕ) → Bool
-meets [] es = false
-meets (c ∷ cs) es = holds es c || meets cs es
+unfoldable pub containsAny : List (List ℕ) → List (List ℕ) → Bool
+containsAny [] es = false
+containsAny (c ∷ cs) es = contains es c || containsAny cs es
 
 -- no entry stands there twice
 abbrev pub Distinct : List (List ℕ) → Type 0
 Distinct [] = Unit {0}
-Distinct (e ∷ es) = (holds es e ≡ false) × Distinct es
+Distinct (e ∷ es) = (contains es e ≡ false) × Distinct es
 
 -- ---- counts
 
@@ -86,8 +86,8 @@ unfoldable pub badBuffer : ℕ → List ℕ → ℕ → Bool
 badBuffer w l used = eqb w 0 || (not (eqb (length l % w) 0) || (ltb mostPlaces (places w l) || ltb (places w l) used))
 
 -- "or when the lent counts are not 256, each true of the list"
-abbrev pub untrue : ℕ → Issued → Bool
-untrue w i = not (agrees (countsOf (listed w i)) (i .counts))
+abbrev pub badCounts : ℕ → Issued → Bool
+badCounts w i = not (agrees (countsOf (listed w i)) (i .counts))
 
 -- fewer places are left than there are entries to be added
 abbrev pub full : ℕ → List (List ℕ) → Issued → Bool
@@ -96,7 +96,7 @@ full w cs i = ltb (places w (i .buffer) - i .used) (length cs)
 -- 24, "16 for a challenge spent, then 17"; 0 is none. What one pass over the list finds, and first
 -- the buffer.
 abbrev pub passRefusal : ℕ → List (List ℕ) → Issued → ℕ
-passRefusal w cs i = cond (untrue w i) 24 (cond (meets cs (listed w i)) 16 (cond (full w cs i) 17 0))
+passRefusal w cs i = cond (badCounts w i) 24 (cond (containsAny cs (listed w i)) 16 (cond (full w cs i) 17 0))
 
 unfoldable pub spendRefusal : ℕ → List (List ℕ) → Issued → ℕ
 spendRefusal w cs i = cond (badBuffer w (i .buffer) (i .used)) 24 (passRefusal w cs i)

@@ -4,14 +4,14 @@ ghost use mathlib.Core.Path.{_≡_};
 ghost use mathlib.Core.Bool.{false, _||_};
 ghost use Prim.Native.Nat.{_*_, _≤_, _<_};
 ghost use lib.ListN.{length, replicate};
-ghost use Rattle.issued.specs.Issued.{octetValues, entries, holds, meets};
+ghost use Rattle.issued.specs.Issued.{octetValues, entries, contains, containsAny};
 ghost use Rattle.issued.specs.Inner.{raised, Room, Marked};
 use crate::counts::raise;
 
 // Whether entry is one of the first n entries of run.
-fn holds(run: &[u8], n: usize, entry: &[u8]) -> bool
+fn contains(run: &[u8], n: usize, entry: &[u8]) -> bool
     requires { ⌜ (0 < length (now entry)) × (length (now entry) * n ≤ length (now run)) ⌝ }
-    ensures { λ r. ⌜ r ≡ holds (entries (length (now (entry .entry))) n (now (run .entry))) (now (entry .entry)) ⌝ }
+    ensures { λ r. ⌜ r ≡ contains (entries (length (now (entry .entry))) n (now (run .entry))) (now (entry .entry)) ⌝ }
 {
     let width = entry.len();
     let mut rest = run;
@@ -69,13 +69,13 @@ fn either(a: bool, b: bool) -> bool
 // entry whose last octet is not marked needs no comparison.
 fn is_sought(entry: &[u8], run: &[u8], n: usize, marks: &[bool]) -> bool
     requires { ⌜ (0 < length (now entry)) × (length (now entry) * n ≤ length (now run)) × (length (now marks) ≡ octetValues) × Marked (now marks) (entries (length (now entry)) n (now run)) ⌝ }
-    ensures { λ r. ⌜ r ≡ holds (entries (length (now (entry .entry))) n (now (run .entry))) (now (entry .entry)) ⌝ }
+    ensures { λ r. ⌜ r ≡ contains (entries (length (now (entry .entry))) n (now (run .entry))) (now (entry .entry)) ⌝ }
 {
     let last = entry[entry.len() - 1] as usize;
     if !marks[last] {
         return false;
     }
-    holds(run, n, entry)
+    contains(run, n, entry)
 }
 
 // One pass over the list, which is the first used entries of buffer: raises the counts of their
@@ -90,7 +90,7 @@ pub(crate) fn scan(
     counts: &mut [u16],
 ) -> bool
     requires { ⌜ (0 < width) × (width * used ≤ length (now buffer)) × (width * n ≤ length (now run)) × (length (now marks) ≡ octetValues) × Marked (now marks) (entries width n (now run)) × (length (now counts) ≡ octetValues) × Room (now counts) used ⌝ }
-    ensures { λ r. ⌜ (r ≡ meets (entries width n (now (run .entry))) (entries width used (now (buffer .entry)))) × (now (counts .exit) ≡ raised (now (counts .entry)) (entries width used (now (buffer .entry)))) ⌝ }
+    ensures { λ r. ⌜ (r ≡ containsAny (entries width n (now (run .entry))) (entries width used (now (buffer .entry)))) × (now (counts .exit) ≡ raised (now (counts .entry)) (entries width used (now (buffer .entry)))) ⌝ }
 {
     let mut met = false;
     let mut rest = buffer;

@@ -60,8 +60,8 @@ fn pass_refusal(buffer: &[u8], used: usize, counts: &[u16], width: usize, run: &
     let mut tally = [0u16; OCTET_VALUES];
     let met = entries::scan(buffer, used, width, run, n, &marks, &mut tally);
     let full = is_full(buffer, used, width, n);
-    let untrue = !counts::agree(&tally, counts);
-    refuse_if(untrue, 24, refuse_if(met, 16, refuse_if(full, 17, 0)))
+    let badCounts = !counts::agree(&tally, counts);
+    refuse_if(badCounts, 24, refuse_if(met, 16, refuse_if(full, 17, 0)))
 }
 
 // The refusal of the entries of run: 24 for a bad buffer, else what the pass finds.

@@ -19,7 +19,7 @@ use Rattle.message.specs.declared.Fields.{Fields}
 use Rattle.message.specs.Message.{words, digitsOf, isField, fieldOf, orElse}
 use Rattle.message.specs.Message.{fieldE, fieldR, fieldV, fieldC}
 use Rattle.message.specs.Inner.{ParsedFields, parsedIn, joined, wordAt, digitsAt, parsedAt}
-use Rattle.message.specs.Inner.{completed, kindIf, kindOf, isNowhere, lacks, isNew, withPlace}
+use Rattle.message.specs.Inner.{completed, kindIf, wordKindOf, isNowhere, lacks, isNew, withPlace}
 use Rattle.message.specs.Inner.{oneIf, missing, Noted}
 use Rattle.message.proofs.Words.{behind, length-word, word-and-others, words-behind}
 
@@ -48,8 +48,8 @@ module _ (l base low high l′ base′ low′ high′ : ℕ) (d : eqb l l′ ≡
       let h : x ≡ l = eqb-true x l (and-eq-true-iff (eqb x l) _ .0 e .0) in
       rw (h, d)
 
-one-kind : (w : List ℕ) → parsedOf w ≡ only (kindOf w) (digitsOf w)
-unfolding kindOf fieldOf
+one-kind : (w : List ℕ) → parsedOf w ≡ only (wordKindOf w) (digitsOf w)
+unfolding wordKindOf fieldOf
 one-kind w =
     which (isField 69 10 1 10 w) (isField 82 2 1 1 w) (isField 86 10 1 10 w) (isField 67 16 16 16 w)
     (other-letter 69 10 1 10 82 2 1 1 refl w)
@@ -125,7 +125,7 @@ module _ (m : List ℕ) where
 
 -- a word that is new has octets
 new-long : (f : Fields) (w : List ℕ) → isNew f w ≡ true → 0 < length w
-unfolding kindOf fieldOf isField
+unfolding wordKindOf fieldOf isField
 new-long f [] h = absurd (false≢true h)
 new-long f (x ∷ w) h = omega arith
 
@@ -138,10 +138,10 @@ fewer-missing f Challenge from h = omega (arith, ap oneIf h)
 fewer-missing f Text from h = absurd (false≢true h)
 
 pub noted : (w : List ℕ) (from : ℕ) (f g : Fields) → isNew f w ≡ true
-    → g ≡ withPlace f (kindOf w) (At from) → Noted w from f g
+    → g ≡ withPlace f (wordKindOf w) (At from) → Noted w from f g
 noted w from f g h e = record {
   placed = e;
-  fewer = omega (arith, ap missing e, fewer-missing f (kindOf w) from h);
+  fewer = omega (arith, ap missing e, fewer-missing f (wordKindOf w) from h);
 }
 
 module _ (m : List ℕ) (from : ℕ) (f : Fields) where
@@ -155,7 +155,7 @@ module _ (m : List ℕ) (from : ℕ) (f : Fields) where
   -- What f and the word there tell, and then the words behind it, is what f tells, and then the
   -- words from there on.
   passed : {p : ParsedFields} → let w = wordAt m from in
-      p ≡ joined (parsedAt m f) (only (kindOf w) (digitsOf w))
+      p ≡ joined (parsedAt m f) (only (wordKindOf w) (digitsOf w))
       → joined p (parsedIn (words (drop (behind m from) m))) ≡ completed m from f
   passed e =
       let w = wordAt m from in
@@ -168,11 +168,11 @@ module _ (m : List ℕ) (from : ℕ) (f : Fields) where
       ∙ ap (joined known) (sym split)
 
   pub new-field : let w = wordAt m from in isNew f w ≡ true
-      → completed m (behind m from) (withPlace f (kindOf w) (At from)) ≡ completed m from f
-  new-field h = passed (first-of-kind m f (kindOf (wordAt m from)) from h)
+      → completed m (behind m from) (withPlace f (wordKindOf w) (At from)) ≡ completed m from f
+  new-field h = passed (first-of-kind m f (wordKindOf (wordAt m from)) from h)
 
   pub skipped : isNew f (wordAt m from) ≡ false → completed m (behind m from) f ≡ completed m from f
-  skipped h = passed (later-of-kind m f (kindOf (wordAt m from)) (digitsOf (wordAt m from)) h)
+  skipped h = passed (later-of-kind m f (wordKindOf (wordAt m from)) (digitsOf (wordAt m from)) h)
 
   -- behind the message there is nothing to complete them
   pub no-words : length m ≤ from → parsedAt m f ≡ completed m from f

@@ -13,7 +13,7 @@ use lib.ListN.{length, length-map, drop, getD}
 use Rattle.octets.specs.Digits.{digitOf}
 use Rattle.message.specs.declared.Place.{Place}
 use Rattle.message.specs.declared.Place.the-variants.{At}
-use Rattle.message.specs.Message.{allBelow, digitsOf, isField, fieldOf, fieldC, orElse, first}
+use Rattle.message.specs.Message.{allBelow, digitsOf, isField, fieldOf, fieldC, orElse, firstField}
 use Rattle.message.specs.Inner.{wordAt, digitsAt, IfSome, Small, Eight}
 
 module _ (letter base low high : ℕ) where
@@ -60,9 +60,9 @@ module _ (letter base low high : ℕ) where
       which true h = h refl
       which false h = tt
 
-  first-formed : (ws : List (List ℕ)) → IfSome Formed (first (fieldOf letter base low high) ws)
+  first-formed : (ws : List (List ℕ)) → IfSome Formed (firstField (fieldOf letter base low high) ws)
   first-formed [] = tt
-  first-formed (w ∷ ws) = which (fieldOf letter base low high w) (first (fieldOf letter base low high) ws) (field-formed w) (first-formed ws)
+  first-formed (w ∷ ws) = which (fieldOf letter base low high w) (firstField (fieldOf letter base low high) ws) (field-formed w) (first-formed ws)
     where
       which : (o p : Option (List ℕ)) → IfSome Formed o → IfSome Formed p
           → IfSome Formed (orElse o p)
@@ -75,15 +75,15 @@ if-some-map none f h = tt
 if-some-map (some ds) f h = f ds h
 
 pub first-small : (letter base low high : ℕ) (ws : List (List ℕ)) → 0 < base → base ^ high ≤ 2 ^ 64
-    → IfSome (Small base) (first (fieldOf letter base low high) ws)
+    → IfSome (Small base) (firstField (fieldOf letter base low high) ws)
 first-small letter base low high ws p q =
-    if-some-map (first (fieldOf letter base low high) ws)
+    if-some-map (firstField (fieldOf letter base low high) ws)
     (λ ds h. record { below = h .below; fits = le-trans (pow-le-pow-right p (h .most)) q })
     (first-formed letter base low high ws)
 
-pub first-eight : (ws : List (List ℕ)) → IfSome Eight (first fieldC ws)
+pub first-eight : (ws : List (List ℕ)) → IfSome Eight (firstField fieldC ws)
 first-eight ws =
-    if-some-map (first fieldC ws)
+    if-some-map (firstField fieldC ws)
     (λ ds h. record { below = h .below; long = le-antisymm (h .most) (h .least) })
     (first-formed 67 16 16 16 ws)
 

@@ -16,36 +16,36 @@ use Rattle.octets.proofs.Digits.{digit-back}
 use Rattle.message.specs.declared.Call.{Call}
 use Rattle.message.specs.declared.Call.the-variants.{Retry, ChangeTwo, ChangeOne, End}
 use Rattle.message.specs.declared.Reading.{Reading}
-use Rattle.message.specs.Message.{words, isField, fieldOf, first, fieldE, numberFrom, callFits, calledFor, numberOf, valuesOf, noC, refusedWith, failedWith, readFields, readMessage, isNone, messageRefusal, fieldValues, messageValues, textOf}
+use Rattle.message.specs.Message.{words, isField, fieldOf, firstField, fieldE, numberFrom, callFits, calledFor, verdictRefusal, verdictValues, noChallenge, refusedWith, failedWith, readFields, readMessage, isNone, messageRefusal, fieldValues, messageValues, textOf}
 
 -- ---- the number and the values of what is read
 
-refusal-number : (m : List ℕ) → numberOf (readMessage m .verdict) ≡ messageRefusal m
+refusal-number : (m : List ℕ) → verdictRefusal (readMessage m .verdict) ≡ messageRefusal m
 unfolding readMessage messageRefusal
-refusal-number m = which (ltb 256 (length m)) (first fieldE (words m))
+refusal-number m = which (ltb 256 (length m)) (firstField fieldE (words m))
   where
     which : (over : Bool) (e : Option (List ℕ))
-        → numberOf (cond {A = Reading} over (refusedWith 11) (readFields (words m) e) .verdict) ≡ cond (over || isNone e) 11 0
+        → verdictRefusal (cond {A = Reading} over (refusedWith 11) (readFields (words m) e) .verdict) ≡ cond (over || isNone e) 11 0
     which true e = refl
     which false none = refl
     which false (some ds) = refl
 
-values-read : (m : List ℕ) → valuesOf (readMessage m .verdict) ≡ messageValues m
+values-read : (m : List ℕ) → verdictValues (readMessage m .verdict) ≡ messageValues m
 unfolding readMessage messageValues
-values-read m = which (ltb 256 (length m)) (first fieldE (words m))
+values-read m = which (ltb 256 (length m)) (firstField fieldE (words m))
   where
     which : (over : Bool) (e : Option (List ℕ))
-        → valuesOf (cond {A = Reading} over (refusedWith 11) (readFields (words m) e) .verdict) ≡ cond over [] (fieldValues (words m) e)
+        → verdictValues (cond {A = Reading} over (refusedWith 11) (readFields (words m) e) .verdict) ≡ cond over [] (fieldValues (words m) e)
     which true e = refl
     which false none = refl
     which false (some ds) = refl
 
 pub message-told : (m : List ℕ) {r : Reading} → r ≡ readMessage m
-    → (r ≡ readMessage m) × (numberOf (r .verdict) ≡ messageRefusal m) × (valuesOf (r .verdict) ≡ messageValues m)
+    → (r ≡ readMessage m) × (verdictRefusal (r .verdict) ≡ messageRefusal m) × (verdictValues (r .verdict) ≡ messageValues m)
 message-told m e = (
   e,
-  ap (λ (x : Reading). numberOf (x .verdict)) e ∙ refusal-number m,
-  ap (λ (x : Reading). valuesOf (x .verdict)) e ∙ values-read m,
+  ap (λ (x : Reading). verdictRefusal (x .verdict)) e ∙ refusal-number m,
+  ap (λ (x : Reading). verdictValues (x .verdict)) e ∙ values-read m,
 )
 
 -- ---- what a failure calls for
@@ -97,7 +97,7 @@ module _ (a b c d f : ℕ) (ha : a < 10) (hb : b < 10) (hc : c < 10) (hd : d < 2
   digits-words = simp (no-space a ha, no-space b hb, no-space c hc, no-space d (omega arith), no-space f hf)
 
   read-digits : readMessage (69 ∷ 61 ∷ hexOf a ∷ hexOf b ∷ hexOf c ∷ 32 ∷ 82 ∷ 61 ∷ hexOf d ∷ 32 ∷ 86 ∷ 61 ∷ hexOf f ∷ [])
-      ≡ failedWith (numberFrom 10 0 (a ∷ b ∷ c ∷ [])) (numberFrom 2 0 (d ∷ [])) (numberFrom 10 0 (f ∷ [])) noC
+      ≡ failedWith (numberFrom 10 0 (a ∷ b ∷ c ∷ [])) (numberFrom 2 0 (d ∷ [])) (numberFrom 10 0 (f ∷ [])) noChallenge
   unfolding readMessage fieldOf isField
   read-digits =
       rw digits-words
@@ -115,7 +115,7 @@ module _ (a b c d f : ℕ) (ha : a < 10) (hb : b < 10) (hc : c < 10) (hd : d < 2
       ))
 
 -- the text reads as the numbers it was written from
-pub read-text : (e r v : ℕ) → e < 1000 → r < 2 → v < 10 → readMessage (textOf e r v) ≡ failedWith e r v noC
+pub read-text : (e r v : ℕ) → e < 1000 → r < 2 → v < 10 → readMessage (textOf e r v) ≡ failedWith e r v noChallenge
 unfolding textOf
 read-text e r v he hr hv =
     let ne : numberFrom 10 0 (e / 100 % 10 ∷ e / 10 % 10 ∷ e % 10 ∷ []) ≡ e = omega arith in

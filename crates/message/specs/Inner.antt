@@ -13,7 +13,7 @@ use Rattle.message.specs.declared.WordKind.{WordKind}
 use Rattle.message.specs.declared.WordKind.the-variants.{Error, Retry, Version, Challenge}
 use Rattle.message.specs.declared.WordKind.the-variants.{Text}
 use Rattle.message.specs.declared.Fields.{Fields}
-use Rattle.message.specs.Message.{words, allBelow, digitsOf, orElse, first}
+use Rattle.message.specs.Message.{words, allBelow, digitsOf, orElse, firstField}
 use Rattle.message.specs.Message.{fieldE, fieldR, fieldV, fieldC}
 
 -- ---- fields
@@ -28,7 +28,7 @@ pub record ParsedFields : Type 0 where
 -- the first fields of a list of words
 abbrev pub parsedIn : List (List ℕ) → ParsedFields
 parsedIn ws =
-    record { e = first fieldE ws; r = first fieldR ws; v = first fieldV ws; c = first fieldC ws }
+    record { e = firstField fieldE ws; r = firstField fieldR ws; v = firstField fieldV ws; c = firstField fieldC ws }
 
 -- for each kind what the one tells of it or, where that is nothing, what the other tells
 abbrev pub joined : ParsedFields → ParsedFields → ParsedFields
@@ -73,8 +73,8 @@ abbrev pub kindIf : Option (List ℕ) → WordKind → WordKind → WordKind
 kindIf (some ds) k other = k
 kindIf none k other = other
 
-unfoldable pub kindOf : List ℕ → WordKind
-kindOf w =
+unfoldable pub wordKindOf : List ℕ → WordKind
+wordKindOf w =
     kindIf (fieldE w) Error
     (kindIf (fieldR w) Retry (kindIf (fieldV w) Version (kindIf (fieldC w) Challenge Text)))
 
@@ -92,7 +92,7 @@ lacks f Text = false
 
 -- whether a word is a field and, after f, the first of its kind
 abbrev pub isNew : Fields → List ℕ → Bool
-isNew f w = lacks f (kindOf w)
+isNew f w = lacks f (wordKindOf w)
 
 -- f with a place for a kind
 abbrev pub withPlace : Fields → WordKind → Place → Fields
@@ -114,7 +114,7 @@ missing f =
 
 -- g is f with the place of the word w, and has a place for one kind more
 pub record Noted (w : List ℕ) (from : ℕ) (f g : Fields) : Type 0 where
-  pub placed : g ≡ withPlace f (kindOf w) (At from)
+  pub placed : g ≡ withPlace f (wordKindOf w) (At from)
   pub fewer : missing g < missing f
 
 -- ---- digits

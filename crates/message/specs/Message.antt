@@ -13,7 +13,7 @@ use Rattle.message.specs.declared.Call.{Call}
 use Rattle.message.specs.declared.Call.the-variants.{Retry, ChangeTwo, ChangeOne, End}
 use Rattle.message.specs.declared.Verdict.{Verdict}
 use Rattle.message.specs.declared.Verdict.the-variants.{Success, Failure, Refused}
-use Rattle.message.specs.declared.Given.{Given}
+use Rattle.message.specs.declared.NewChallenge.{NewChallenge}
 use Rattle.message.specs.declared.Reading.{Reading}
 
 -- ---- words
@@ -67,9 +67,9 @@ orElse none o = o
 orElse (some a) o = some a
 
 -- the first well-formed field of a kind counts; all other text is skipped
-abbrev pub first : (List ℕ → Option (List ℕ)) → List (List ℕ) → Option (List ℕ)
-first f [] = none
-first f (w ∷ ws) = orElse (f w) (first f ws)
+abbrev pub firstField : (List ℕ → Option (List ℕ)) → List (List ℕ) → Option (List ℕ)
+firstField f [] = none
+firstField f (w ∷ ws) = orElse (f w) (firstField f ws)
 
 -- the number that digit values make after n
 abbrev pub numberFrom : ℕ → ℕ → List ℕ → ℕ
@@ -101,50 +101,50 @@ calledFor e r v =
     cond (callFits Retry e r v) Retry (cond (callFits ChangeTwo e r v) ChangeTwo (cond (callFits ChangeOne e r v) ChangeOne End))
 
 -- document 01's refusal number of a verdict; 0 is none
-abbrev pub numberOf : Verdict → ℕ
-numberOf Success = 0
-numberOf (Failure f) = 0
-numberOf (Refused n) = n
+abbrev pub verdictRefusal : Verdict → ℕ
+verdictRefusal Success = 0
+verdictRefusal (Failure f) = 0
+verdictRefusal (Refused n) = n
 
 -- and its values: E, R and V of a failure
-abbrev pub valuesOf : Verdict → List ℕ
-valuesOf Success = []
-valuesOf (Failure f) = f .e ∷ f .r ∷ f .v ∷ []
-valuesOf (Refused n) = []
+abbrev pub verdictValues : Verdict → List ℕ
+verdictValues Success = []
+verdictValues (Failure f) = f .e ∷ f .r ∷ f .v ∷ []
+verdictValues (Refused n) = []
 
 -- C's octets beside the verdict; 00 where none is given
-abbrev pub noC : Given
-noC = record { given = false; octets = replicate 8 0 }
+abbrev pub noChallenge : NewChallenge
+noChallenge = record { given = false; octets = replicate 8 0 }
 
-abbrev pub givenAs : Option (List ℕ) → Given
-givenAs none = noC
-givenAs (some ds) = record { given = true; octets = pairs ds }
+abbrev pub newChallengeFrom : Option (List ℕ) → NewChallenge
+newChallengeFrom none = noChallenge
+newChallengeFrom (some ds) = record { given = true; octets = pairs ds }
 
 -- the three answers: a success, a refusal and a failure
 abbrev pub succeeded : Reading
-succeeded = record { verdict = Success; c = noC }
+succeeded = record { verdict = Success; c = noChallenge }
 
 abbrev pub refusedWith : ℕ → Reading
-refusedWith n = record { verdict = Refused n; c = noC }
+refusedWith n = record { verdict = Refused n; c = noChallenge }
 
-abbrev pub failedWith : ℕ → ℕ → ℕ → Given → Reading
+abbrev pub failedWith : ℕ → ℕ → ℕ → NewChallenge → Reading
 failedWith e r v c = record { verdict = Failure (record { e = e; r = r; v = v; call = calledFor e r v }); c = c }
 
 -- R missing is 0, V missing is 1
 abbrev pub valueR : List (List ℕ) → ℕ
-valueR ws = numberOr 2 0 (first fieldR ws)
+valueR ws = numberOr 2 0 (firstField fieldR ws)
 
 abbrev pub valueV : List (List ℕ) → ℕ
-valueV ws = numberOr 10 1 (first fieldV ws)
+valueV ws = numberOr 10 1 (firstField fieldV ws)
 
 -- by the digits of E: without E, refusal 11
 abbrev pub readFields : List (List ℕ) → Option (List ℕ) → Reading
 readFields ws none = refusedWith 11
-readFields ws (some e) = failedWith (numberFrom 10 0 e) (valueR ws) (valueV ws) (givenAs (first fieldC ws))
+readFields ws (some e) = failedWith (numberFrom 10 0 e) (valueR ws) (valueV ws) (newChallengeFrom (firstField fieldC ws))
 
 -- what the message m says; over 256 octets, refusal 11
 unfoldable pub readMessage : List ℕ → Reading
-readMessage m = cond (ltb 256 (length m)) (refusedWith 11) (readFields (words m) (first fieldE (words m)))
+readMessage m = cond (ltb 256 (length m)) (refusedWith 11) (readFields (words m) (firstField fieldE (words m)))
 
 abbrev pub isNone : Option (List ℕ) → Bool
 isNone none = true
@@ -152,7 +152,7 @@ isNone (some ds) = false
 
 -- the number with which a message is refused: over 256 octets or without E, 11
 unfoldable pub messageRefusal : List ℕ → ℕ
-messageRefusal m = cond (ltb 256 (length m) || isNone (first fieldE (words m))) 11 0
+messageRefusal m = cond (ltb 256 (length m) || isNone (firstField fieldE (words m))) 11 0
 
 -- E, R and V of a message that is not refused
 abbrev pub fieldValues : List (List ℕ) → Option (List ℕ) → List ℕ
@@ -160,7 +160,7 @@ fieldValues ws none = []
 fieldValues ws (some e) = numberFrom 10 0 e ∷ valueR ws ∷ valueV ws ∷ []
 
 unfoldable pub messageValues : List ℕ → List ℕ
-messageValues m = cond (ltb 256 (length m)) [] (fieldValues (words m) (first fieldE (words m)))
+messageValues m = cond (ltb 256 (length m)) [] (fieldValues (words m) (firstField fieldE (words m)))
 
 -- ---- the text that is written: `E=691 R=1 V=2` with the numbers set, of which the three, one and
 -- one last decimal digits count

@@ -8,8 +8,8 @@ ghost use mathlib.Core.List.{map};
 ghost use Prim.Native.Nat.{_%_, _≤_, _<_};
 ghost use lib.ListN.{length, drop};
 ghost use Rattle.octets.specs.Digits.{digitOf, hexOf};
-ghost use Rattle.message.specs.Message.{words, allBelow, isField, first, fieldE, numberFrom, numberOr, pairs, calledFor, numberOf, valuesOf, noC, givenAs, succeeded, refusedWith, readFields, readMessage, messageRefusal, messageValues, textOf};
-ghost use Rattle.message.specs.Inner.{kindOf, isNowhere, lacks, isNew, withPlace, Noted};
+ghost use Rattle.message.specs.Message.{words, allBelow, isField, firstField, fieldE, numberFrom, numberOr, pairs, calledFor, verdictRefusal, verdictValues, noChallenge, newChallengeFrom, succeeded, refusedWith, readFields, readMessage, messageRefusal, messageValues, textOf};
+ghost use Rattle.message.specs.Inner.{wordKindOf, isNowhere, lacks, isNew, withPlace, Noted};
 ghost use Rattle.message.specs.Inner.{digitsAt, parsedAt, parsedIn, completed, wordAt};
 ghost use Rattle.message.specs.Inner.{IfSome, Small, Eight};
 
@@ -41,14 +41,14 @@ pub enum Verdict {
 
 // The octets of the field C, where it is given. (They stand beside the verdict, as an enum can hold
 // no array.)
-pub struct Given {
+pub struct NewChallenge {
     pub given: bool,
     pub octets: [u8; 8],
 }
 
 pub struct Reading {
     pub verdict: Verdict,
-    pub c: Given,
+    pub c: NewChallenge,
 }
 
 // Where a field begins in the message. One octet will do, as no message over 256 octets is read,
@@ -159,7 +159,7 @@ fn is_field(word: &[u8], letter: u8, base: u8, low: usize, high: usize) -> bool
 
 // What a word is.
 fn kind_of(word: &[u8]) -> WordKind
-    ensures { λ r. ⌜ r ≡ kindOf (now (word .entry)) ⌝ }
+    ensures { λ r. ⌜ r ≡ wordKindOf (now (word .entry)) ⌝ }
 {
     if is_field(word, b'E', 10, 1, 10) {
         return WordKind::Error;
@@ -299,29 +299,29 @@ fn number_or(message: &[u8], place: Place, base: u64, missing: u64) -> u64
 }
 
 // No C is given.
-pub fn no_c() -> Given
-    ensures { λ r. ⌜ r ≡ noC ⌝ }
+pub fn no_challenge() -> NewChallenge
+    ensures { λ r. ⌜ r ≡ noChallenge ⌝ }
 {
-    Given {
+    NewChallenge {
         given: false,
         octets: [0; 8],
     }
 }
 
 // The octets of the field C at a place.
-fn given_at(message: &[u8], place: Place) -> Given
+fn new_challenge_at(message: &[u8], place: Place) -> NewChallenge
     requires { ⌜ IfSome Eight (digitsAt (now message) place) ⌝ }
-    ensures { λ r. ⌜ r ≡ givenAs (digitsAt (now (message .entry)) place) ⌝ }
+    ensures { λ r. ⌜ r ≡ newChallengeFrom (digitsAt (now (message .entry)) place) ⌝ }
 {
     match place {
         Place::At(from) => {
             let octets = octets_of(digits_of(word_at(message, from as usize)));
-            Given {
+            NewChallenge {
                 given: true,
                 octets,
             }
         }
-        Place::Nowhere => no_c(),
+        Place::Nowhere => no_challenge(),
     }
 }
 
@@ -348,7 +348,7 @@ fn called_for(e: u64, r: u64, v: u64) -> Call
 pub fn succeeded() -> Reading
     ensures { λ r. ⌜ r ≡ succeeded ⌝ }
 {
-    let c = no_c();
+    let c = no_challenge();
     Reading {
         verdict: Verdict::Success,
         c,
@@ -359,7 +359,7 @@ pub fn succeeded() -> Reading
 pub fn refused_with(number: u8) -> Reading
     ensures { λ r. ⌜ r ≡ refusedWith number ⌝ }
 {
-    let c = no_c();
+    let c = no_challenge();
     Reading {
         verdict: Verdict::Refused(number),
         c,
@@ -369,7 +369,7 @@ pub fn refused_with(number: u8) -> Reading
 // The verdict on the fields of a message.
 fn judge(message: &[u8], f: Fields) -> Reading
     requires { ⌜ parsedAt (now message) f ≡ parsedIn (words (now message)) ⌝ }
-    ensures { λ r. ⌜ r ≡ readFields (words (now (message .entry))) (first fieldE (words (now (message .entry)))) ⌝ }
+    ensures { λ r. ⌜ r ≡ readFields (words (now (message .entry))) (firstField fieldE (words (now (message .entry)))) ⌝ }
 {
     let at_e = f.e;
     let at_r = f.r;
@@ -380,7 +380,7 @@ fn judge(message: &[u8], f: Fields) -> Reading
             let e = number_or(message, at_e, 10, 0);
             let r = number_or(message, at_r, 2, 0);
             let v = number_or(message, at_v, 10, 1);
-            let c = given_at(message, at_c);
+            let c = new_challenge_at(message, at_c);
             let call = called_for(e, r, v);
             Reading {
                 verdict: Verdict::Failure(Failed { e, r, v, call }),
@@ -393,7 +393,7 @@ fn judge(message: &[u8], f: Fields) -> Reading
 
 // What a Failure packet's message says to the peer.
 pub fn read(message: &[u8]) -> Reading
-    ensures { λ r. ⌜ (r ≡ readMessage (now (message .entry))) × (numberOf (r .verdict) ≡ messageRefusal (now (message .entry))) × (valuesOf (r .verdict) ≡ messageValues (now (message .entry))) ⌝ }
+    ensures { λ r. ⌜ (r ≡ readMessage (now (message .entry))) × (verdictRefusal (r .verdict) ≡ messageRefusal (now (message .entry))) × (verdictValues (r .verdict) ≡ messageValues (now (message .entry))) ⌝ }
 {
     if 256 < message.len() {
         return refused_with(11);

@@ -11,7 +11,7 @@ use Rattle.issued.specs.Issued.{Issued}
 use Rattle.authenticator.specs.Opening.{Opening, opened, openedIssued, openedBuffer, openRefusal}
 use Rattle.authenticator.specs.Opening as openings
 use Rattle.authenticator.specs.Refusal.{refusalOf}
-use Rattle.authenticator.specs.Step.{Outcome, step, numberOf}
+use Rattle.authenticator.specs.Step.{Outcome, step, verdictRefusal}
 use Rattle.authenticator.specs.declared.Retries.{Retries}
 use Rattle.authenticator.specs.declared.LmChoice.{LmChoice}
 use Rattle.authenticator.specs.declared.Opened.{Opened}
@@ -110,12 +110,12 @@ step-sizes conversation account out e =
 
 -- a refused packet leaves the buffer alone
 step-kept : (c : Conversation) (p : List ℕ) (l : Lookup) (b : List ℕ)
-    → step c p l b .buffer ≡ left (numberOf (step c p l b .answer .kind)) (step c p l b .buffer) b
+    → step c p l b .buffer ≡ left (verdictRefusal (step c p l b .answer .kind)) (step c p l b .buffer) b
 unfolding step
 step-kept c p l b = by (eqb (refusalOf c p b) 0) refl
   where
     by : (t : Bool) → eqb (refusalOf c p b) 0 ≡ t
-        → step c p l b .buffer ≡ left (numberOf (step c p l b .answer .kind)) (step c p l b .buffer) b
+        → step c p l b .buffer ≡ left (verdictRefusal (step c p l b .answer .kind)) (step c p l b .buffer) b
     by true e = simp e
     by false e = simp e
 
@@ -130,12 +130,12 @@ module _ (conversation packet account buffer out : List ℕ)
       → AnswerPut answer conversation out r conversationAfter outAfter
       → StepCall conversation packet account buffer out r conversationAfter bufferAfter outAfter
   step-called {answer} {r} e f put =
-      let number : r ≡ numberOf (done .answer .kind) =
-      put .number ∙ ap (λ (v : Answer). numberOf (v .kind)) e in
+      let number : r ≡ verdictRefusal (done .answer .kind) =
+      put .number ∙ ap (λ (v : Answer). verdictRefusal (v .kind)) e in
       let kept =
       step-kept (decodeConversation conversation) packet (decodeRecord account) buffer in
       record {
-        number = number ∙ sym (ap (λ (t : Bool). numbered t (numberOf (done .answer .kind))) valid);
+        number = number ∙ sym (ap (λ (t : Bool). numbered t (verdictRefusal (done .answer .kind))) valid);
         next =
             put .next
             ∙ ap (λ (v : Answer). left r (encodeConversation (v .next)) conversation) e;

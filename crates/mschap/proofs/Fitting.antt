@@ -13,8 +13,8 @@ use Rattle.credentials.specs.declared.Content.{Content}
 use Rattle.credentials.specs.declared.Content.the-variants.{Over, Odd, Password}
 use Rattle.credentials.specs.declared.Unsealed as blocks
 use Rattle.credentials.proofs.Laws.{length-nt}
-use Rattle.packets.specs.Response.{responseIn}
-use Rattle.packets.specs.Change.{changeIn}
+use Rattle.packets.specs.Response.{readResponse}
+use Rattle.packets.specs.Change.{readChange}
 use Rattle.packets.specs.declared.Change as changes
 use Rattle.authenticator.proofs.Spends.{length-incremented}
 use Rattle.authenticator.specs.Account.{blank}
@@ -95,8 +95,8 @@ module _ (c : Conversation) (s : SizedConversation c) where
 
   drawn-in-sized : (phase : Phase) (p : List ℕ) (l : Lookup) → SizedAccount (l .account) → SizedDrawn (drawnIn phase c p l)
   unfolding responseDrawn changeDrawn
-  drawn-in-sized Response p l t = record { next = after-sized (l .account) (reasonOf c l (responseIn p)) t; handed = blank-sized }
-  drawn-in-sized Change p l t = drawn-by-sized (newHash c (changeIn p)) (new-whole (changeIn p))
+  drawn-in-sized Response p l t = record { next = after-sized (l .account) (reasonOf c l (readResponse p)) t; handed = blank-sized }
+  drawn-in-sized Change p l t = drawn-by-sized (newHash c (readChange p)) (new-whole (readChange p))
   drawn-in-sized Ended p l t = record { next = s; handed = blank-sized }
 
   pub step-sized : (p : List ℕ) (l : Lookup) (b : List ℕ) → SizedAccount (l .account)

@@ -7,7 +7,7 @@ use Prim.Native.Nat.{ℕ}
 use borrow.Author.Tests.{eqb-true}
 use lib.Dec.{eqb}
 use lib.ListN.{length}
-use Rattle.message.specs.Message.{numberOf}
+use Rattle.message.specs.Message.{verdictRefusal}
 use Rattle.message.specs.declared.Reading.{Reading}
 use Rattle.peer.specs.Peer as peers
 use Rattle.peer.specs.Write.{Wrote, wroteBy, responseFor, writeResponseRefusal, writeResponse}
@@ -36,7 +36,7 @@ reply-sizes peer fields e =
 
 module _ (peer packet fields : List ℕ) (valid : replyArguments peer fields ≡ true) where
   abbrev reading : Reading
-  reading = peers.reads (decodePeer peer) packet
+  reading = peers.peerReads (decodePeer peer) packet
 
   -- the reply was read, and what was read was put into the caller's buffers
   pub reply-called : {q : Peer} {answer : ReplyRead} {r : ℕ} {peerAfter fieldsAfter : List ℕ}
@@ -47,8 +47,8 @@ module _ (peer packet fields : List ℕ) (valid : replyArguments peer fields ≡
       let a = subst (λ (v : Peer). peers.Reads v packet answer) e given .answer in
       record {
         number =
-            put .number ∙ ap (λ (v : ReplyRead). numberOf (v .reading .verdict)) a
-            ∙ sym (ap (λ (t : Bool). numbered t (numberOf (reading .verdict))) valid);
+            put .number ∙ ap (λ (v : ReplyRead). verdictRefusal (v .reading .verdict)) a
+            ∙ sym (ap (λ (t : Bool). numbered t (verdictRefusal (reading .verdict))) valid);
         next = put .next ∙ ap (λ (v : ReplyRead). left r (encodePeer (v .peer)) peer) a;
         says = put .says ∙ ap (λ (v : ReplyRead). left r (encodeReading (v .reading)) fields) a;
       }

@@ -11,24 +11,24 @@ use lib.Dec.{eqb, ltb}
 use lib.ListN.{length}
 use Rattle.octets.specs.Parts.{part, fixed}
 use Rattle.octets.proofs.Parts.{length-fixed}
-use Rattle.message.specs.Message.{words, first, fieldE, fieldC, pairs, givenAs, readFields}
+use Rattle.message.specs.Message.{words, first, fieldE, fieldC, pairs, newChallengeFrom, readFields}
 use Rattle.message.specs.Message.{readMessage}
 use Rattle.message.specs.Walk.{IfSome, Eight}
 use Rattle.message.specs.declared.Call.{Call}
 use Rattle.message.specs.declared.Call.the-variants.{Retry, ChangeTwo, ChangeOne, End}
-use Rattle.message.specs.declared.Given.{Given}
+use Rattle.message.specs.declared.NewChallenge.{NewChallenge}
 use Rattle.message.specs.declared.Reading.{Reading}
 use Rattle.message.specs.declared.Verdict.{Verdict}
 use Rattle.message.specs.declared.Verdict.the-variants.{Success, Failure, Refused}
 use Rattle.message.proofs.Formed.{first-eight}
 use Rattle.packets.specs.Frame.{octet, badFrame, badId, dataOf}
 use Rattle.challenges.specs.Challenges.{incremented}
-use Rattle.packets.specs.Reply.{notAsked, badChallenge, readChallenge, readReply}
-use Rattle.packets.specs.declared.Asked.{Asked}
+use Rattle.packets.specs.Reply.{refusedChallenge, badChallenge, readChallenge, readReply}
+use Rattle.packets.specs.declared.ChallengeFields.{ChallengeFields}
 use Rattle.packets.specs.declared.Written.{Written}
 use Rattle.authenticator.proofs.Spends.{length-incremented}
 use Rattle.peer.specs.Turn.{sentFor, turnFor, turnAfter, nextTurn}
-use Rattle.peer.specs.Peer.{asked, sending, reads, receiving}
+use Rattle.peer.specs.Peer.{afterChallenge, afterWriting, peerReads, afterReply}
 use Rattle.peer.specs.declared.Peer.{Peer}
 use Rattle.peer.specs.declared.Sent.{Sent}
 use Rattle.mschap.specs.Layout.{encodePeer, decodePeer, isEncodedPeer}
@@ -45,7 +45,7 @@ half (suc n) (x ∷ []) h = absurd (omega arith)
 half (suc n) (x ∷ y ∷ ds) h = ap suc (half n ds (omega arith))
 
 -- a challenge C, given or not, has eight octets
-given-eight : (o : Option (List ℕ)) → IfSome Eight o → length (givenAs o .octets) ≡ 8
+given-eight : (o : Option (List ℕ)) → IfSome Eight o → length (newChallengeFrom o .octets) ≡ 8
 given-eight none h = refl
 given-eight (some ds) h = half 8 ds (h .long)
 
@@ -73,12 +73,12 @@ reply-given last p =
     (record { eight = refl }))))
 
 -- before the first packet none is given
-reads-given : (q : Peer) (p : List ℕ) → EightGiven (reads q p)
-reads-given q p = choice-given (q .sent .present) (reply-given (q .sent .id) p) (record { eight = refl })
+peer-reads-given : (q : Peer) (p : List ℕ) → EightGiven (peerReads q p)
+peer-reads-given q p = choice-given (q .sent .present) (reply-given (q .sent .id) p) (record { eight = refl })
 
 -- ---- the peer's next turn
 
-module _ (q : Peer) (s : SizedPeer q) (c : Given) (e : length (c .octets) ≡ 8) where
+module _ (q : Peer) (s : SizedPeer q) (c : NewChallenge) (e : length (c .octets) ≡ 8) where
   retry-eight : (b : Bool) → length (cond b (c .octets) (incremented (q .sent .challenge))) ≡ 8
   retry-eight true = e
   retry-eight false = rw length-incremented (s .sent)
@@ -96,44 +96,44 @@ module _ (q : Peer) (s : SizedPeer q) (c : Given) (e : length (c .octets) ≡ 8)
 
 -- ---- the peer after each call
 
-asked-sized : (packet : List ℕ) → SizedPeer (asked (readChallenge packet))
+after-challenge-sized : (packet : List ℕ) → SizedPeer (afterChallenge (readChallenge packet))
 unfolding readChallenge
-asked-sized packet = record { sent = refl; turn = by (badFrame packet) (badChallenge packet) }
+after-challenge-sized packet = record { sent = refl; turn = by (badFrame packet) (badChallenge packet) }
   where
-    read : Asked
+    read : ChallengeFields
     read = record { refusal = 0; id = octet 1 packet; challenge = fixed 8 (part 5 8 packet) }
 
     by : (b d : Bool)
-        → length (cond {A = Asked} b (notAsked 3) (cond d (notAsked 11) read) .challenge) ≡ 8
+        → length (cond {A = ChallengeFields} b (refusedChallenge 3) (cond d (refusedChallenge 11) read) .challenge) ≡ 8
     by true d = refl
     by false true = refl
     by false false = length-fixed 8 (part 5 8 packet)
 
-sending-sized : (q : Peer) (w : Written) → SizedPeer q → SizedPeer (sending q w)
-sending-sized q w s = record { sent = by (eqb (w .refusal) 0); turn = s .turn }
+after-writing-sized : (q : Peer) (w : Written) → SizedPeer q → SizedPeer (afterWriting q w)
+after-writing-sized q w s = record { sent = by (eqb (w .refusal) 0); turn = s .turn }
   where
     by : (b : Bool) → length (cond {A = Sent} b (sentFor (q .turn)) (q .sent) .challenge) ≡ 8
     by true = s .turn
     by false = s .sent
 
-receiving-sized : (q : Peer) (packet : List ℕ) → SizedPeer q → SizedPeer (receiving q packet)
+after-reply-sized : (q : Peer) (packet : List ℕ) → SizedPeer q → SizedPeer (afterReply q packet)
 unfolding nextTurn
-receiving-sized q packet s =
-    let r = reads q packet in
-    let c = reads-given q packet .eight in
+after-reply-sized q packet s =
+    let r = peerReads q packet in
+    let c = peer-reads-given q packet .eight in
     record { sent = s .sent; turn = turn-eight q s (r .c) c (r .verdict) }
 
 -- the encoding of a peer is valid for the next call
 abbrev pub Fits : Peer → Type 0
 Fits q = isEncodedPeer (encodePeer q) ≡ true
 
-pub challenge-fits : (packet : List ℕ) → Fits (asked (readChallenge packet))
-challenge-fits packet = peer-fits (asked (readChallenge packet)) (asked-sized packet)
+pub challenge-fits : (packet : List ℕ) → Fits (afterChallenge (readChallenge packet))
+challenge-fits packet = peer-fits (afterChallenge (readChallenge packet)) (after-challenge-sized packet)
 
-pub writing-fits : (peer : List ℕ) (w : Written) → Fits (sending (decodePeer peer) w)
+pub writing-fits : (peer : List ℕ) (w : Written) → Fits (afterWriting (decodePeer peer) w)
 writing-fits peer w =
-    peer-fits (sending (decodePeer peer) w) (sending-sized (decodePeer peer) w (decoded-peer-sized peer))
+    peer-fits (afterWriting (decodePeer peer) w) (after-writing-sized (decodePeer peer) w (decoded-peer-sized peer))
 
-pub reply-fits : (peer packet : List ℕ) → Fits (receiving (decodePeer peer) packet)
+pub reply-fits : (peer packet : List ℕ) → Fits (afterReply (decodePeer peer) packet)
 reply-fits peer packet =
-    peer-fits (receiving (decodePeer peer) packet) (receiving-sized (decodePeer peer) packet (decoded-peer-sized peer))
+    peer-fits (afterReply (decodePeer peer) packet) (after-reply-sized (decodePeer peer) packet (decoded-peer-sized peer))

@@ -5,7 +5,7 @@ use mathlib.Core.List.{List}
 use mathlib.Core.Path.{_≡_}
 use Prim.Native.Nat.{ℕ}
 use Rattle.message.specs.Message as messages
-use Rattle.authenticator.specs.Step.{numberOf}
+use Rattle.authenticator.specs.Step.{verdictRefusal}
 use Rattle.authenticator.specs.declared.Answer.{Answer}
 use Rattle.peer.specs.declared.ReplyRead.{ReplyRead}
 use Rattle.mschap.specs.Call.{left}
@@ -15,13 +15,13 @@ use Rattle.mschap.specs.Fields.{encodeReading}
 -- the answer of a step is written into buffers of the right sizes
 pub record AnswerPut (a : Answer) (conversation out : List ℕ) (r : ℕ)
     (conversationAfter outAfter : List ℕ) : Type 0 where
-  pub number : r ≡ numberOf (a .kind)
+  pub number : r ≡ verdictRefusal (a .kind)
   pub next : conversationAfter ≡ left r (encodeConversation (a .next)) conversation
   pub handed : outAfter ≡ left r (encodeRecord (a .handed)) out
 
 -- what was read in a reply is written into buffers of the right sizes
 pub record ReplyPut (a : ReplyRead) (peer fields : List ℕ) (r : ℕ) (peerAfter fieldsAfter : List ℕ)
     : Type 0 where
-  pub number : r ≡ messages.numberOf (a .reading .verdict)
+  pub number : r ≡ messages.verdictRefusal (a .reading .verdict)
   pub next : peerAfter ≡ left r (encodePeer (a .peer)) peer
   pub says : fieldsAfter ≡ left r (encodeReading (a .reading)) fields

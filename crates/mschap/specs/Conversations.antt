@@ -7,7 +7,7 @@ use Prim.Native.Nat.{ℕ}
 use lib.Dec.{eqb}
 use Rattle.issued.specs.Issued.{Issued}
 use Rattle.authenticator.specs.Opening.{Opening, opened, openedIssued, openedBuffer}
-use Rattle.authenticator.specs.Step.{Outcome, step, numberOf}
+use Rattle.authenticator.specs.Step.{Outcome, step, verdictRefusal}
 use Rattle.authenticator.specs.declared.Retries.{Retries}
 use Rattle.authenticator.specs.declared.Retries.the-variants.{Default, Count}
 use Rattle.authenticator.specs.declared.LmChoice.{LmChoice}
@@ -74,7 +74,7 @@ pub record StepCall (conversation packet account buffer out : List ℕ) (r : ℕ
     (conversationAfter bufferAfter outAfter : List ℕ) : Type 0 where
   pub number : r
       ≡ numbered (stepArguments conversation account out)
-      (numberOf (stepOf conversation packet account buffer .answer .kind))
+      (verdictRefusal (stepOf conversation packet account buffer .answer .kind))
   pub next : conversationAfter
       ≡ left r (encodeConversation (stepOf conversation packet account buffer .answer .next))
       conversation

@@ -10,7 +10,7 @@ use Rattle.message.specs.declared.Call.the-variants.{Retry, ChangeTwo, ChangeOn
 use Rattle.message.specs.declared.Failed.{Failed}
 use Rattle.message.specs.declared.Verdict.{Verdict}
 use Rattle.message.specs.declared.Verdict.the-variants.{Success, Failure, Refused}
-use Rattle.message.specs.declared.Given.{Given}
+use Rattle.message.specs.declared.NewChallenge.{NewChallenge}
 use Rattle.message.specs.declared.Reading.{Reading}
 use Rattle.mschap.specs.Layout.{flag}
 
@@ -39,7 +39,7 @@ encodeVerdict Success = replicate verdictSize 0
 encodeVerdict (Failure f) = encodeFailed f
 encodeVerdict (Refused n) = replicate verdictSize 0
 
-abbrev pub encodeNewChallenge : Given → List ℕ
+abbrev pub encodeNewChallenge : NewChallenge → List ℕ
 encodeNewChallenge c = flag (c .given) ∷ c .octets
 
 unfoldable pub encodeReading : Reading → List ℕ

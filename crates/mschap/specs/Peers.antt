@@ -4,9 +4,9 @@ use mathlib.Core.Bool.{Bool, _&&_}
 use mathlib.Core.List.{List}
 use mathlib.Core.Path.{_≡_}
 use Prim.Native.Nat.{ℕ}
-use Rattle.message.specs.Message.{numberOf}
+use Rattle.message.specs.Message.{verdictRefusal}
 use Rattle.packets.specs.Reply.{readChallenge}
-use Rattle.peer.specs.Peer.{asked, sending, reads, receiving}
+use Rattle.peer.specs.Peer.{afterChallenge, afterWriting, peerReads, afterReply}
 use Rattle.peer.specs.Write.{Wrote, writeResponse, writeChange}
 use Rattle.mschap.specs.Call.{Fills, sized, numbered, left}
 use Rattle.mschap.specs.Layout.{peerSize, encodePeer, decodePeer, isEncodedPeer}
@@ -16,7 +16,7 @@ use Rattle.mschap.specs.Fields.{fieldsSize, encodeReading}
 abbrev pub ChallengeCall : List ℕ → List ℕ → ℕ → List ℕ → Type 0
 ChallengeCall packet peer r peerAfter =
     Fills (sized peerSize peer) (readChallenge packet .refusal)
-    (encodePeer (asked (readChallenge packet))) peer r peerAfter
+    (encodePeer (afterChallenge (readChallenge packet))) peer r peerAfter
 
 -- whether the arguments of mschap_read_reply that have a fixed form are valid
 unfoldable pub replyArguments : List ℕ → List ℕ → Bool
@@ -26,9 +26,9 @@ replyArguments peer fields = isEncodedPeer peer && sized fieldsSize fields
 pub record ReplyCall (peer packet fields : List ℕ) (r : ℕ) (peerAfter fieldsAfter : List ℕ)
     : Type 0 where
   pub number : r
-      ≡ numbered (replyArguments peer fields) (numberOf (reads (decodePeer peer) packet .verdict))
-  pub next : peerAfter ≡ left r (encodePeer (receiving (decodePeer peer) packet)) peer
-  pub says : fieldsAfter ≡ left r (encodeReading (reads (decodePeer peer) packet)) fields
+      ≡ numbered (replyArguments peer fields) (verdictRefusal (peerReads (decodePeer peer) packet .verdict))
+  pub next : peerAfter ≡ left r (encodePeer (afterReply (decodePeer peer) packet)) peer
+  pub says : fieldsAfter ≡ left r (encodeReading (peerReads (decodePeer peer) packet)) fields
 
 -- the packets of the peer that is encoded
 abbrev pub responseFrom : List ℕ → List ℕ → List ℕ → List ℕ → Wrote
@@ -41,5 +41,5 @@ changeFrom peer old new filler out = writeChange (decodePeer peer .turn) old new
 pub record WriteCall (w : Wrote) (peer out : List ℕ) (r : ℕ) (peerAfter outAfter : List ℕ)
     : Type 0 where
   pub number : r ≡ numbered (isEncodedPeer peer) (w .answer .refusal)
-  pub next : peerAfter ≡ left r (encodePeer (sending (decodePeer peer) (w .answer))) peer
+  pub next : peerAfter ≡ left r (encodePeer (afterWriting (decodePeer peer) (w .answer))) peer
   pub packet : outAfter ≡ left r (w .out) out

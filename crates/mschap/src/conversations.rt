@@ -15,7 +15,7 @@ use authenticator::LmChoice;
 use authenticator::Retries;
 ghost use mathlib.Core.Path.{_≡_};
 ghost use lib.ListN.{length};
-ghost use Rattle.authenticator.specs.Step.{numberOf};
+ghost use Rattle.authenticator.specs.Step.{verdictRefusal};
 ghost use Rattle.mschap.specs.Layout.{conversationSize, recordSize};
 ghost use Rattle.mschap.specs.Conversations.{retriesFor, lmFor, isLmChoice, openingFor};
 ghost use Rattle.mschap.specs.Conversations.{openArguments, OpenCall, stepArguments, StepCall};
@@ -103,7 +103,7 @@ pub extern "C" fn mschap_open(
 // ---- the step
 
 fn number_of(kind: Kind) -> u8
-    ensures { λ r. ⌜ r ≡ numberOf kind ⌝ }
+    ensures { λ r. ⌜ r ≡ verdictRefusal kind ⌝ }
 {
     match kind {
         Kind::Refused(n) => n,

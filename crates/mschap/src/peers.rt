@@ -10,7 +10,7 @@ use peer::Peer;
 use peer::ReplyRead;
 ghost use mathlib.Core.Path.{_≡_};
 ghost use lib.ListN.{length};
-ghost use Rattle.message.specs.Message.{numberOf};
+ghost use Rattle.message.specs.Message.{verdictRefusal};
 ghost use Rattle.mschap.specs.Layout.{peerSize};
 ghost use Rattle.mschap.specs.Fields.{fieldsSize};
 ghost use Rattle.mschap.specs.Peers.{ChallengeCall, replyArguments, ReplyCall};
@@ -33,7 +33,7 @@ pub extern "C" fn mschap_read_challenge(packet: &[u8], peer: &mut [u8]) -> u32
 
 // The refusal number of a verdict; 0 is none.
 fn verdict_number(verdict: Verdict) -> u8
-    ensures { λ r. ⌜ r ≡ numberOf verdict ⌝ }
+    ensures { λ r. ⌜ r ≡ verdictRefusal verdict ⌝ }
 {
     match verdict {
         Verdict::Success => 0,

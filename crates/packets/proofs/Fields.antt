@@ -5,14 +5,14 @@ use mathlib.Core.List.{List}
 use Prim.Native.Nat.{ℕ}
 use Rattle.packets.specs.declared.Response.{Response}
 use Rattle.packets.specs.declared.Change.{Change}
-use Rattle.packets.specs.declared.Asked.{Asked}
+use Rattle.packets.specs.declared.ChallengeFields.{ChallengeFields}
 
 pub response-same : {a a' b b' : List ℕ} {c c' : ℕ} → a ≡ a' → b ≡ b' → c ≡ c'
     → _≡_ {A = Response} (record { lm = a; nt = b; flag = c }) (record { lm = a'; nt = b'; flag = c' })
 response-same h₁ h₂ h₃ = cc
 
 pub asked-same : {a a' b b' : ℕ} {c c' : List ℕ} → a ≡ a' → b ≡ b' → c ≡ c'
-    → _≡_ {A = Asked} (record { refusal = a; id = b; challenge = c }) (record { refusal = a'; id = b'; challenge = c' })
+    → _≡_ {A = ChallengeFields} (record { refusal = a; id = b; challenge = c }) (record { refusal = a'; id = b'; challenge = c' })
 asked-same h₁ h₂ h₃ = cc
 
 pub change-same : {a a' b b' c c' d d' e e' f f' : List ℕ} {g g' : ℕ} → a ≡ a' → b ≡ b' → c ≡ c' → d ≡ d' → e ≡ e' → f ≡ f' → g ≡ g'

@@ -11,7 +11,7 @@ use lib.Dec.{eqb}
 use lib.ListN.{length}
 use Rattle.packets.specs.Frame.{octet}
 use Rattle.packets.specs.Response.{responsePacket}
-use Rattle.packets.specs.Name.{isSplit, beforeSplit, afterSplit, isUnfit, domainOf, accountOf}
+use Rattle.packets.specs.Name.{isSplit, beforeSplit, afterSplit, isBadResponse, domainOf, accountOf}
 use Rattle.packets.specs.declared.Response.{Response}
 use Rattle.packets.proofs.ReadBack.{ResponseBack, response-back}
 
@@ -35,7 +35,7 @@ module _ (id : ℕ) (f : Response) (name t home : List ℕ) (lm : length (f .lm)
   read : ResponseBack id f name (responsePacket id f name ++ t)
   read = response-back id f name t lm nt least most
 
-  fit : isUnfit (responsePacket id f name ++ t) ≡ false
+  fit : isBadResponse (responsePacket id f name ++ t) ≡ false
   fit =
       let p = responsePacket id f name ++ t in
       let r = read in

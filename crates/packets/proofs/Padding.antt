@@ -14,11 +14,11 @@ use lib.Seq.{take-append-le, drop-append-le, length-take-le}
 use Rattle.octets.specs.Parts.{part, fixed}
 use Rattle.octets.specs.Numbers.{fromBe}
 use Rattle.packets.specs.Frame.{octet, lengthOf, badFrame, dataOf}
-use Rattle.packets.specs.Response.{responseIn, nameIn, badResponseSize, badResponseFlag, responseRefusal}
-use Rattle.packets.specs.Change.{changeIn, badChangeSize, badChangeFlags, changeRefusal}
-use Rattle.packets.specs.Reply.{notAsked, badChallenge, readChallenge, readReply}
-use Rattle.packets.specs.Name.{isSplit, beforeSplit, afterSplit, isUnfit, domainOf, accountOf, noPart, domainPart, accountPart}
-use Rattle.packets.specs.declared.Asked.{Asked}
+use Rattle.packets.specs.Response.{readResponse, readName, badResponseSize, badResponseFlag, responseRefusal}
+use Rattle.packets.specs.Change.{readChange, badChangeSize, badChangeFlags, changeRefusal}
+use Rattle.packets.specs.Reply.{refusedChallenge, badChallenge, readChallenge, readReply}
+use Rattle.packets.specs.Name.{isSplit, beforeSplit, afterSplit, isBadResponse, domainOf, accountOf, noPart, domainPart, accountPart}
+use Rattle.packets.specs.declared.ChallengeFields.{ChallengeFields}
 use Rattle.packets.specs.declared.Part.{Part}
 use Rattle.packets.specs.declared.Change.{Change}
 use Rattle.packets.proofs.Framing.{frame-bounds}
@@ -103,10 +103,10 @@ module _ (p q : List ℕ) (s : SamePacket p q) where
   pub same-challenge : readChallenge q ≡ readChallenge p
   unfolding readChallenge
   same-challenge =
-      ap₂ (λ (f t : Bool). cond f (notAsked 3) (cond t (notAsked 11) (fieldsOf q))) (s .frame) challenge-size
-      ∙ ap (cond (badFrame p) (notAsked 3)) (chosen (badChallenge p) (notAsked 11) (fieldsOf q) (fieldsOf p) fields)
+      ap₂ (λ (f t : Bool). cond f (refusedChallenge 3) (cond t (refusedChallenge 11) (fieldsOf q))) (s .frame) challenge-size
+      ∙ ap (cond (badFrame p) (refusedChallenge 3)) (chosen (badChallenge p) (refusedChallenge 11) (fieldsOf q) (fieldsOf p) fields)
     where
-      fieldsOf : List ℕ → Asked
+      fieldsOf : List ℕ → ChallengeFields
       fieldsOf x = record { refusal = 0; id = octet 1 x; challenge = fixed 8 (part 5 8 x) }
 
       fields : badChallenge p ≡ false → fieldsOf q ≡ fieldsOf p
@@ -139,19 +139,19 @@ module _ (p q : List ℕ) (s : SamePacket p q) where
       ap (λ (t : Bool). cond {A = ℕ} t 6 (cond (badResponseFlag q) 7 0)) same-response-size
       ∙ chosen {A = ℕ} (badResponseSize p) 6 _ _ (λ h. ap (λ (t : Bool). cond {A = ℕ} t 7 0) (response-flag h))
 
-  pub same-response : badResponseSize p ≡ false → responseIn q ≡ responseIn p
+  pub same-response : badResponseSize p ≡ false → readResponse q ≡ readResponse p
   same-response h =
       let long = response-long h in
       response-same (ap (fixed 24) (s .parts 5 24 (omega (arith, long)))) (ap (fixed 24) (s .parts 29 24 (omega (arith, long)))) (s .octets 53 (omega (arith, long)))
 
   -- its name
-  same-unfit : isUnfit q ≡ isUnfit p
+  same-unfit : isBadResponse q ≡ isBadResponse p
   same-unfit =
       ap₂ (λ (f t : Bool). f || t) (s .frame)
       (ap₂ (λ (i : ℕ) (t : Bool). not (eqb i 2) || t) same-code
       (ap (λ (t : Bool). t || badResponseFlag q) same-response-size ∙ size-first (badResponseSize p) _ _ response-flag))
 
-  fit-name : isUnfit p ≡ false → nameIn q ≡ nameIn p
+  fit-name : isBadResponse p ≡ false → readName q ≡ readName p
   fit-name h =
       let t = or-false-both (badFrame p) _ h in
       let u = or-false-both (not (eqb (octet 0 p) 2)) _ (t .1) in
@@ -159,10 +159,10 @@ module _ (p q : List ℕ) (s : SamePacket p q) where
       ap (λ (n : ℕ). part 54 (n - 54) q) same-length ∙ s .parts 54 (lengthOf p - 54) (omega (arith, long))
 
   -- whatever is made of the name and of Length, where the packet is fit
-  by-name : {A : Type 0} (f : List ℕ → ℕ → A) (none : A) → cond (isUnfit q) none (f (nameIn q) (lengthOf q)) ≡ cond (isUnfit p) none (f (nameIn p) (lengthOf p))
+  by-name : {A : Type 0} (f : List ℕ → ℕ → A) (none : A) → cond (isBadResponse q) none (f (readName q) (lengthOf q)) ≡ cond (isBadResponse p) none (f (readName p) (lengthOf p))
   by-name {A} f none =
-      ap (λ (t : Bool). cond {A = A} t none (f (nameIn q) (lengthOf q))) same-unfit
-      ∙ chosen (isUnfit p) none _ _ (λ h. ap₂ f (fit-name h) same-length)
+      ap (λ (t : Bool). cond {A = A} t none (f (readName q) (lengthOf q))) same-unfit
+      ∙ chosen (isBadResponse p) none _ _ (λ h. ap₂ f (fit-name h) same-length)
 
   pub same-domain : (home : List ℕ) → domainOf q home ≡ domainOf p home
   unfolding domainOf
@@ -191,7 +191,7 @@ module _ (p q : List ℕ) (s : SamePacket p q) where
   change-long : badChangeSize p ≡ false → lengthOf p ≡ 1118
   change-long h = eqb-true (lengthOf p) 1118 (not-false (eqb (lengthOf p) 1118) h)
 
-  pub same-change : badChangeSize p ≡ false → changeIn q ≡ changeIn p
+  pub same-change : badChangeSize p ≡ false → readChange q ≡ readChange p
   same-change h =
       let long = change-long h in
       let field : (a n : ℕ) → a + n ≤ 1118 → fixed n (part a n q) ≡ fixed n (part a n p) = λ a n k. ap (fixed n) (s .parts a n (omega (arith, long))) in

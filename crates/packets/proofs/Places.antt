@@ -12,8 +12,8 @@ use lib.ListN.{length, take, drop, length-take, length-drop}
 use lib.Seq.{take-take, take-add, drop-drop, drop-at, length-take-le}
 use Rattle.octets.specs.Parts.{part}
 use Rattle.packets.specs.Frame.{octet, lengthOf, badFrame}
-use Rattle.packets.specs.Response.{nameIn, badResponseFlag}
-use Rattle.packets.specs.Name.{isSplit, beforeSplit, afterSplit, isUnfit, noPart, partFrom, domainPart, accountPart, domainOf, accountOf}
+use Rattle.packets.specs.Response.{readName, badResponseFlag}
+use Rattle.packets.specs.Name.{isSplit, beforeSplit, afterSplit, isBadResponse, noPart, partFrom, domainPart, accountPart, domainOf, accountOf}
 use Rattle.packets.specs.declared.Part.{Part}
 use Rattle.packets.proofs.Framing.{frame-bounds}
 use Rattle.packets.proofs.Split.{place, is-split, take-place, drop-place}
@@ -32,29 +32,29 @@ drop-take j m l h =
 module _ (p : List ℕ) where
   -- ---- by the name
 
-  pub part-unfit : isUnfit p ≡ true → (noPart ≡ domainPart p) × (noPart ≡ accountPart p)
+  pub part-unfit : isBadResponse p ≡ true → (noPart ≡ domainPart p) × (noPart ≡ accountPart p)
   unfolding domainPart accountPart
   part-unfit u = (simp u, simp u)
 
-  module _ (u : isUnfit p ≡ false) {k : ℕ} (e : k ≡ place (nameIn p)) where
-    pub part-split : k < length (nameIn p) → (record { offset = 54; length = k } ≡ domainPart p) × (partFrom (55 + k) p ≡ accountPart p)
+  module _ (u : isBadResponse p ≡ false) {k : ℕ} (e : k ≡ place (readName p)) where
+    pub part-split : k < length (readName p) → (record { offset = 54; length = k } ≡ domainPart p) × (partFrom (55 + k) p ≡ accountPart p)
     unfolding domainPart accountPart
     part-split h =
-        let n = nameIn p in
+        let n = readName p in
         let s : isSplit n ≡ true = is-split n ∙ lt-ltb (place n) (length n) (omega arith) in
         (simp (u, s, e), simp (u, s, e))
 
-    pub part-whole : length (nameIn p) ≤ k → (noPart ≡ domainPart p) × (partFrom 54 p ≡ accountPart p)
+    pub part-whole : length (readName p) ≤ k → (noPart ≡ domainPart p) × (partFrom 54 p ≡ accountPart p)
     unfolding domainPart accountPart
     part-whole h =
-        let s : isSplit (nameIn p) ≡ false = is-split (nameIn p) ∙ le-ltb (place (nameIn p)) (length (nameIn p)) (omega arith) in
+        let s : isSplit (readName p) ≡ false = is-split (readName p) ∙ le-ltb (place (readName p)) (length (readName p)) (omega arith) in
         (simp (u, s), simp (u, s))
 
   -- a backslash stands within the name
-  inside : isSplit (nameIn p) ≡ true → place (nameIn p) < length (nameIn p)
-  inside s = ltb-true (place (nameIn p)) (length (nameIn p)) (sym (is-split (nameIn p)) ∙ s)
+  inside : isSplit (readName p) ≡ true → place (readName p) < length (readName p)
+  inside s = ltb-true (place (readName p)) (length (readName p)) (sym (is-split (readName p)) ∙ s)
 
-  name-bounds : (length (nameIn p) ≤ lengthOf p - 54) × (length (nameIn p) ≤ length p - 54)
+  name-bounds : (length (readName p) ≤ lengthOf p - 54) × (length (readName p) ≤ length p - 54)
   name-bounds = omega (arith, length-take (lengthOf p - 54) (drop 54 p), length-drop 54 p)
 
   -- ---- the packet cut there
@@ -62,10 +62,10 @@ module _ (p : List ℕ) where
   -- the account, for every packet
   pub account-cut : cut (accountPart p) p ≡ accountOf p
   unfolding accountPart accountOf
-  account-cut = by (isUnfit p) (isSplit (nameIn p)) refl
+  account-cut = by (isBadResponse p) (isSplit (readName p)) refl
     where
       n : List ℕ
-      n = nameIn p
+      n = readName p
 
       behind : isSplit n ≡ true → cut (partFrom (55 + place n) p) p ≡ afterSplit n
       behind s =
@@ -85,10 +85,10 @@ module _ (p : List ℕ) where
     -- the domain, where it is in the packet
     pub domain-cut : (domainPart p .offset ≡ 0 → ⊥) → cut (domainPart p) p ≡ domainOf p home
     unfolding domainPart domainOf
-    domain-cut = by (isUnfit p) (isSplit (nameIn p)) refl
+    domain-cut = by (isBadResponse p) (isSplit (readName p)) refl
       where
         n : List ℕ
-        n = nameIn p
+        n = readName p
 
         at : Bool → Bool → Part
         at u s = cond u noPart (cond s (record { offset = 54; length = place n }) noPart)
@@ -102,22 +102,22 @@ module _ (p : List ℕ) where
         by false false e h = absurd (h refl)
 
     -- where it is not, and the packet is not refused, it is the home domain
-    pub domain-home : isUnfit p ≡ false → domainPart p .offset ≡ 0 → domainOf p home ≡ home
+    pub domain-home : isBadResponse p ≡ false → domainPart p .offset ≡ 0 → domainOf p home ≡ home
     unfolding domainPart domainOf
-    domain-home u = by (isSplit (nameIn p)) refl
+    domain-home u = by (isSplit (readName p)) refl
       where
-        by : (s : Bool) → isSplit (nameIn p) ≡ s → domainPart p .offset ≡ 0 → domainOf p home ≡ home
+        by : (s : Bool) → isSplit (readName p) ≡ s → domainPart p .offset ≡ 0 → domainOf p home ≡ home
         by true e h = absurd (omega (arith, simp (u, e) at h))
         by false e h = simp (u, e)
 
-    pub domain-unfit : isUnfit p ≡ true → domainOf p home ≡ []
+    pub domain-unfit : isBadResponse p ≡ true → domainOf p home ≡ []
     unfolding domainOf
     domain-unfit u = simp u
 
   -- ---- within the packet
 
   -- a packet that is not refused has a name, and ends within what was lent
-  fit-bounds : isUnfit p ≡ false → (55 ≤ lengthOf p) × (lengthOf p ≤ length p)
+  fit-bounds : isBadResponse p ≡ false → (55 ≤ lengthOf p) × (lengthOf p ≤ length p)
   fit-bounds = by (badFrame p) (not (eqb (octet 0 p) 2)) (ltb (lengthOf p) 55) (ltb 310 (lengthOf p) || not (eqb (octet 4 p) 49)) (badResponseFlag p) refl refl
     where
       by : (a b c d e : Bool) → badFrame p ≡ a → ltb (lengthOf p) 55 ≡ c → (a || (b || ((c || d) || e))) ≡ false → (55 ≤ lengthOf p) × (lengthOf p ≤ length p)
@@ -127,20 +127,20 @@ module _ (p : List ℕ) where
       by false false false d e f g h = (ltb-false (lengthOf p) 55 g, frame-bounds p f .most)
 
   -- the account of a packet that is not refused is in the packet, and ends at Length
-  pub account-stands : isUnfit p ≡ false → (54 ≤ accountPart p .offset) × (accountPart p .offset + accountPart p .length ≡ lengthOf p)
+  pub account-stands : isBadResponse p ≡ false → (54 ≤ accountPart p .offset) × (accountPart p .offset + accountPart p .length ≡ lengthOf p)
   unfolding accountPart
-  account-stands u = by (isSplit (nameIn p)) refl
+  account-stands u = by (isSplit (readName p)) refl
     where
-      by : (s : Bool) → isSplit (nameIn p) ≡ s → (54 ≤ accountPart p .offset) × (accountPart p .offset + accountPart p .length ≡ lengthOf p)
+      by : (s : Bool) → isSplit (readName p) ≡ s → (54 ≤ accountPart p .offset) × (accountPart p .offset + accountPart p .length ≡ lengthOf p)
       by true e = let b = name-bounds in let i = inside e in simp (u, e) (omega arith)
       by false e = let b = fit-bounds u in simp (u, e) (omega arith)
 
   -- each part lies within what was lent, for every packet, so that a caller may read it there
   pub parts-within : (domainPart p .offset + domainPart p .length ≤ length p) × (accountPart p .offset + accountPart p .length ≤ length p)
   unfolding domainPart accountPart
-  parts-within = by (isUnfit p) (isSplit (nameIn p)) refl refl
+  parts-within = by (isBadResponse p) (isSplit (readName p)) refl refl
     where
-      by : (u s : Bool) → isUnfit p ≡ u → isSplit (nameIn p) ≡ s
+      by : (u s : Bool) → isBadResponse p ≡ u → isSplit (readName p) ≡ s
           → (domainPart p .offset + domainPart p .length ≤ length p) × (accountPart p .offset + accountPart p .length ≤ length p)
       by true s e f = simp e (omega arith)
       by false true e f = let b = fit-bounds e in let n = name-bounds in let i = inside f in simp (e, f) (omega arith)

@@ -13,11 +13,11 @@ use Rattle.octets.specs.Parts.{fixed}
 use Rattle.octets.specs.Numbers.{fromBe, toBe}
 use Rattle.octets.proofs.Parts.{fixed-same}
 use Rattle.octets.proofs.Numbers.{fromBe-toBe}
-use Rattle.message.specs.Message.{readMessage, failedWith, textOf, noC, succeeded}
+use Rattle.message.specs.Message.{readMessage, failedWith, textOf, noChallenge, succeeded}
 use Rattle.message.proofs.Laws.{read-text, length-text}
 use Rattle.packets.specs.Frame.{octet, lengthOf, framed, badFrame}
-use Rattle.packets.specs.Response.{responsePacket, responseIn, nameIn, badResponseSize, responseRefusal}
-use Rattle.packets.specs.Change.{changePacket, changeIn, badChangeSize, changeRefusal}
+use Rattle.packets.specs.Response.{responsePacket, readResponse, readName, badResponseSize, responseRefusal}
+use Rattle.packets.specs.Change.{changePacket, readChange, badChangeSize, changeRefusal}
 use Rattle.packets.specs.Reply.{challengePacket, successPacket, failurePacket, readChallenge, readReply}
 use Rattle.packets.specs.declared.Response.{Response}
 use Rattle.packets.specs.declared.Change.{Change}
@@ -40,8 +40,8 @@ pub record ResponseBack (i : ℕ) (f : Response) (n p : List ℕ) : Type 0 where
   pub frame : badFrame p ≡ false
   pub code : octet 0 p ≡ 2
   pub id : octet 1 p ≡ i
-  pub fields : responseIn p ≡ f
-  pub name : nameIn p ≡ n
+  pub fields : readResponse p ≡ f
+  pub name : readName p ≡ n
   pub size : badResponseSize p ≡ false
   pub fit : f .flag < 2 → responseRefusal p ≡ 0
 
@@ -78,7 +78,7 @@ pub record ChangeBack (i : ℕ) (f : Change) (p : List ℕ) : Type 0 where
   pub frame : badFrame p ≡ false
   pub code : octet 0 p ≡ 6
   pub id : octet 1 p ≡ i
-  pub fields : changeIn p ≡ f
+  pub fields : readChange p ≡ f
   pub size : badChangeSize p ≡ false
   pub fit : f .flags < 4 → changeRefusal p ≡ 0
 
@@ -96,7 +96,7 @@ change-back id f t s small =
     let x₅ = field p 1068 24 (f .lm) _ (x₄ .1) (s .lm) in
     let x₆ = field p 1092 24 (f .nt) _ (x₅ .1) (s .nt) in
     let x₇ = field p 1116 1 (_ ∷ []) _ (x₆ .1) refl in
-    let flags : changeIn p .flags ≡ f .flags =
+    let flags : readChange p .flags ≡ f .flags =
     ap₂ (λ (a b : ℕ). fromBe (a ∷ b ∷ [])) (octet-at 1116 p _ _ (x₆ .1)) (octet-at 1117 p _ _ (x₇ .1)) ∙ fromBe-toBe 2 (f .flags) ∙ mod-eq-of-lt small in
     let size : badChangeSize p ≡ false = simp (eq-eqb (lengthOf p) 1118 all) in
     record {
@@ -109,7 +109,7 @@ change-back id f t s small =
           (fixed-field 516 _ (f .lmblock) (x₃ .0) (s .lmblock)) (fixed-field 16 _ (f .lmverifier) (x₄ .0) (s .lmverifier))
           (fixed-field 24 _ (f .lm) (x₅ .0) (s .lm)) (fixed-field 24 _ (f .nt) (x₆ .0) (s .nt)) flags;
       size = size;
-      fit = λ h. simp (size, le-ltb 3 (changeIn p .flags) (omega arith));
+      fit = λ h. simp (size, le-ltb 3 (readChange p .flags) (omega arith));
     }
 
 -- ---- what the peer reads
@@ -134,5 +134,5 @@ failure-back id m t h =
 
 -- the box's own message
 pub failure-read : (id e r v : ℕ) (t : List ℕ) → e < 1000 → r < 2 → v < 10
-    → readReply id (failurePacket id (textOf e r v) ++ t) ≡ failedWith e r v noC
+    → readReply id (failurePacket id (textOf e r v) ++ t) ≡ failedWith e r v noChallenge
 failure-read id e r v t he hr hv = failure-back id (textOf e r v) t (omega (arith, length-text e r v)) ∙ read-text e r v he hr hv

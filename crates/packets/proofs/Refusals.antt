@@ -8,7 +8,7 @@ use Prim.Native.Nat.{ℕ}
 use native.Mathlib.Omega.{arith}
 use borrow.Author.Tests.{eqb-true}
 use lib.Dec.{eqb}
-use Rattle.message.specs.Message.{readMessage, messageRefusal, messageValues, refusedWith, numberOf, valuesOf, succeeded}
+use Rattle.message.specs.Message.{readMessage, messageRefusal, messageValues, refusedWith, verdictRefusal, verdictValues, succeeded}
 use Rattle.message.specs.declared.Reading.{Reading}
 use Rattle.message.proofs.Laws.{message-told}
 use Rattle.packets.specs.Frame.{octet, badFrame, badId, dataOf}
@@ -23,8 +23,8 @@ module _ (last : ℕ) (p : List ℕ) where
   not-both e f = omega (arith, eqb-true (octet 0 p) 3 e, eqb-true (octet 0 p) 4 f)
 
   read-told : (a b c d : Bool) → eqb (octet 0 p) 3 ≡ c → eqb (octet 0 p) 4 ≡ d
-      → (numberOf (read a b c d .verdict) ≡ cond a 3 (cond b 5 (cond c 0 (cond d (messageRefusal (dataOf p)) 11))))
-      × (valuesOf (read a b c d .verdict) ≡ cond (a || (b || not d)) [] (messageValues (dataOf p)))
+      → (verdictRefusal (read a b c d .verdict) ≡ cond a 3 (cond b 5 (cond c 0 (cond d (messageRefusal (dataOf p)) 11))))
+      × (verdictValues (read a b c d .verdict) ≡ cond (a || (b || not d)) [] (messageValues (dataOf p)))
   read-told true b c d e f = (refl, refl)
   read-told false true c d e f = (refl, refl)
   read-told false false true true e f = absurd (not-both e f)
@@ -33,11 +33,11 @@ module _ (last : ℕ) (p : List ℕ) where
   read-told false false false false e f = (refl, refl)
 
   pub reply-told : {r : Reading} → r ≡ readReply last p
-      → (r ≡ readReply last p) × (numberOf (r .verdict) ≡ replyRefusal last p) × (valuesOf (r .verdict) ≡ replyValues last p)
+      → (r ≡ readReply last p) × (verdictRefusal (r .verdict) ≡ replyRefusal last p) × (verdictValues (r .verdict) ≡ replyValues last p)
   unfolding readReply replyRefusal replyValues
   reply-told e =
       let told = read-told (badFrame p) (badId last p) (eqb (octet 0 p) 3) (eqb (octet 0 p) 4) refl refl in
-      (e, ap (λ (x : Reading). numberOf (x .verdict)) e ∙ told .0, ap (λ (x : Reading). valuesOf (x .verdict)) e ∙ told .1)
+      (e, ap (λ (x : Reading). verdictRefusal (x .verdict)) e ∙ told .0, ap (λ (x : Reading). verdictValues (x .verdict)) e ∙ told .1)
 
 pub reply-identifier : (last : ℕ) (p : List ℕ) → replyRefusal last p ≡ 0 → octet 1 p ≡ last
 unfolding replyRefusal

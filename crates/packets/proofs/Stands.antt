@@ -13,8 +13,8 @@ use Rattle.octets.proofs.Parts.{fixed-part, part-join}
 use Rattle.octets.proofs.Numbers.{toBe-fromBe, Octets}
 use Rattle.octets.proofs.Listed.{part-written}
 use Rattle.packets.specs.Frame.{octet, lengthOf, framed, badFrame}
-use Rattle.packets.specs.Response.{responsePacket, responseIn, nameIn, responseRefusal}
-use Rattle.packets.specs.Change.{changePacket, changeIn, changeRefusal}
+use Rattle.packets.specs.Response.{responsePacket, readResponse, readName, responseRefusal}
+use Rattle.packets.specs.Change.{changePacket, readChange, changeRefusal}
 use Rattle.packets.proofs.Framing.{frame-bounds, frame-back, octet-join, two}
 
 -- ---- Response
@@ -39,19 +39,19 @@ response-fit p e = by (ltb (lengthOf p) 55) (ltb 310 (lengthOf p)) (eqb (octet 4
         record { least = ltb-false (lengthOf p) 55 e; most = ltb-false 310 (lengthOf p) f; size = eqb-true (octet 4 p) 49 g; flag = ltb-false 1 (octet 53 p) h }
 
 module _ (p : List ℕ) (good : badFrame p ≡ false) (fit : responseRefusal p ≡ 0) where
-  pub response-stands : (responseIn p .lm ≡ part 5 24 p) × (responseIn p .nt ≡ part 29 24 p)
+  pub response-stands : (readResponse p .lm ≡ part 5 24 p) × (readResponse p .nt ≡ part 29 24 p)
   response-stands =
       let b = frame-bounds p good in
       let f = response-fit p fit in
       (fixed-part 5 24 p (omega arith), fixed-part 29 24 p (omega arith))
 
-  pub response-again : octet 0 p ≡ 2 → Octets p → responsePacket (octet 1 p) (responseIn p) (nameIn p) ≡ take (lengthOf p) p
+  pub response-again : octet 0 p ≡ 2 → Octets p → responsePacket (octet 1 p) (readResponse p) (readName p) ≡ take (lengthOf p) p
   unfolding responsePacket
   response-again code o =
       let b = frame-bounds p good in
       let f = response-fit p fit in
       let k = lengthOf p - 54 in
-      let fields = ap₂ (λ (x y : List ℕ). framed 2 (octet 1 p) (49 ∷ (x ++ (y ++ (octet 53 p ∷ nameIn p))))) (response-stands .0) (response-stands .1) in
+      let fields = ap₂ (λ (x y : List ℕ). framed 2 (octet 1 p) (49 ∷ (x ++ (y ++ (octet 53 p ∷ readName p))))) (response-stands .0) (response-stands .1) in
       let name = octet-join 53 k p (omega arith) in
       let nt = ap (λ (x : List ℕ). part 29 24 p ++ x) name ∙ part-join 29 24 (suc k) p in
       let lm = ap (λ (x : List ℕ). part 5 24 p ++ x) nt ∙ part-join 5 24 (24 + suc k) p in
@@ -61,23 +61,23 @@ module _ (p : List ℕ) (good : badFrame p ≡ false) (fit : responseRefusal p �
 
 -- ---- Change Password
 
-pub change-fit : (p : List ℕ) → changeRefusal p ≡ 0 → (lengthOf p ≡ 1118) × (changeIn p .flags ≤ 3)
+pub change-fit : (p : List ℕ) → changeRefusal p ≡ 0 → (lengthOf p ≡ 1118) × (readChange p .flags ≤ 3)
 unfolding changeRefusal
-change-fit p e = by (eqb (lengthOf p) 1118) (ltb 3 (changeIn p .flags)) refl refl e
+change-fit p e = by (eqb (lengthOf p) 1118) (ltb 3 (readChange p .flags)) refl refl e
   where
-    by : (a b : Bool) → eqb (lengthOf p) 1118 ≡ a → ltb 3 (changeIn p .flags) ≡ b → _≡_ {A = ℕ} (cond (not a) 6 (cond b 7 0)) 0
-        → (lengthOf p ≡ 1118) × (changeIn p .flags ≤ 3)
+    by : (a b : Bool) → eqb (lengthOf p) 1118 ≡ a → ltb 3 (readChange p .flags) ≡ b → _≡_ {A = ℕ} (cond (not a) 6 (cond b 7 0)) 0
+        → (lengthOf p ≡ 1118) × (readChange p .flags ≤ 3)
     by false b e f g = absurd (omega (arith, g))
     by true true e f g = absurd (omega (arith, g))
-    by true false e f g = (eqb-true (lengthOf p) 1118 e, ltb-false 3 (changeIn p .flags) f)
+    by true false e f g = (eqb-true (lengthOf p) 1118 e, ltb-false 3 (readChange p .flags) f)
 
 pub record ChangeStands (p : List ℕ) : Type 0 where
-  pub block : changeIn p .block ≡ part 4 516 p
-  pub verifier : changeIn p .verifier ≡ part 520 16 p
-  pub lmblock : changeIn p .lmblock ≡ part 536 516 p
-  pub lmverifier : changeIn p .lmverifier ≡ part 1052 16 p
-  pub lm : changeIn p .lm ≡ part 1068 24 p
-  pub nt : changeIn p .nt ≡ part 1092 24 p
+  pub block : readChange p .block ≡ part 4 516 p
+  pub verifier : readChange p .verifier ≡ part 520 16 p
+  pub lmblock : readChange p .lmblock ≡ part 536 516 p
+  pub lmverifier : readChange p .lmverifier ≡ part 1052 16 p
+  pub lm : readChange p .lm ≡ part 1068 24 p
+  pub nt : readChange p .nt ≡ part 1092 24 p
 
 module _ (p : List ℕ) (good : badFrame p ≡ false) (fit : changeRefusal p ≡ 0) where
   long : 1118 ≤ length p
@@ -95,7 +95,7 @@ module _ (p : List ℕ) (good : badFrame p ≡ false) (fit : changeRefusal p ≡
         nt = fixed-part 1092 24 p (omega arith);
       }
 
-  pub change-again : octet 0 p ≡ 6 → Octets p → changePacket (octet 1 p) (changeIn p) ≡ take (lengthOf p) p
+  pub change-again : octet 0 p ≡ 6 → Octets p → changePacket (octet 1 p) (readChange p) ≡ take (lengthOf p) p
   unfolding changePacket
   change-again code o =
       let h = long in

@@ -17,7 +17,7 @@ use Rattle.octets.specs.Parts.{over}
 use Rattle.octets.proofs.Parts.{over-fits}
 use Rattle.octets.proofs.Laid.{Laid}
 use Rattle.packets.specs.Sizes.{nameOffset, longestName, changeSize}
-use Rattle.packets.specs.Frame.{framed, headed, headedLength, answerBy, outBy}
+use Rattle.packets.specs.Frame.{framed, writtenOver, writtenLength, answerBy, outBy}
 use Rattle.packets.specs.Response.{responsePacket, badName, shortForResponse, responseWriteRefusal}
 use Rattle.packets.specs.Change.{changePacket, shortForChange, changeWriteRefusal}
 use Rattle.packets.specs.Reply.{challengePacket, successPacket, failurePacket}
@@ -68,17 +68,17 @@ length-change id f s = omega (arith, length-fields f s)
 -- ---- a packet at the front of a buffer
 
 pub fits : (packet out : List ℕ) → length packet ≤ length out
-    → (headedLength packet out ≡ length packet) × (headed packet out ≡ packet ++ drop (length packet) out)
-unfolding headed headedLength
+    → (writtenLength packet out ≡ length packet) × (writtenOver packet out ≡ packet ++ drop (length packet) out)
+unfolding writtenOver writtenLength
 fits packet out h = (simp (le-leb (length packet) (length out) h), simp (le-leb (length packet) (length out) h))
 
-pub too-long : (packet out : List ℕ) {n : ℕ} → length packet ≡ n → length out < n → (0 ≡ headedLength packet out) × (out ≡ headed packet out)
-unfolding headed headedLength
+pub too-long : (packet out : List ℕ) {n : ℕ} → length packet ≡ n → length out < n → (0 ≡ writtenLength packet out) × (out ≡ writtenOver packet out)
+unfolding writtenOver writtenLength
 too-long packet out {n} e h =
     let f = lt-leb (length packet) (length out) (omega arith) in (simp f, simp f)
 
 -- what a reader of the buffer's written part takes
-pub taken : (packet out : List ℕ) → length packet ≤ length out → take (length packet) (headed packet out) ≡ packet
+pub taken : (packet out : List ℕ) → length packet ≤ length out → take (length packet) (writtenOver packet out) ≡ packet
 taken packet out h = ap (take (length packet)) (fits packet out h .1) ∙ take-append-seam packet (drop (length packet) out)
 
 -- ---- pieces
@@ -93,7 +93,7 @@ change-order h a b c d e = simp append-assoc
 -- pieces that begin with the four octets of a frame are the packet, where the Length there is that
 -- of all of them and there is room
 pub framed-laid : (code id : ℕ) (d : List ℕ) {l xs b head : List ℕ} {n : ℕ} → Laid l xs n b → head ≡ code ∷ id ∷ toBe 2 n → xs ≡ head ++ d → n ≤ length l
-    → (length (framed code id d) ≡ n) × ((n ≡ headedLength (framed code id d) l) × (b ≡ headed (framed code id d) l))
+    → (length (framed code id d) ≡ n) × ((n ≡ writtenLength (framed code id d) l) × (b ≡ writtenOver (framed code id d) l))
 framed-laid code id d {l} {xs} {b} {head} {n} s e f h =
     let parts : length xs ≡ length head + length d = ap length f ∙ length-append head d in
     let size : n ≡ 4 + length d = omega (arith, ap length e, s .long) in
@@ -118,7 +118,7 @@ module _ (packet out : List ℕ) (n : ℕ) {r : ℕ} (e : r ≡ n) where
   pub nothing-written : r ≢ 0 → (record { refusal = r; length = 0 } ≡ answerBy n packet) × (out ≡ outBy n packet out)
   nothing-written h = let t = ne-eqb n 0 (λ z. h (e ∙ z)) in (simp (t, e), simp t)
 
-  pub packet-written : r ≡ 0 → {k : ℕ} {b : List ℕ} → (k ≡ length packet) × (b ≡ headed packet out)
+  pub packet-written : r ≡ 0 → {k : ℕ} {b : List ℕ} → (k ≡ length packet) × (b ≡ writtenOver packet out)
       → (record { refusal = 0; length = k } ≡ answerBy n packet) × (b ≡ outBy n packet out)
   packet-written z w = let t : n ≡ 0 = sym e ∙ z in (simp (t, w .0), simp t (w .1))
 

@@ -18,8 +18,8 @@ changePacket id f =
     framed 6 id (f .block ++ (f .verifier ++ (f .lmblock ++ (f .lmverifier ++ (f .lm ++ (f .nt ++ toBe 2 (f .flags)))))))
 
 -- octets that the packet does not reach are 0
-abbrev pub changeIn : List ℕ → Change
-changeIn p =
+abbrev pub readChange : List ℕ → Change
+readChange p =
     record {
       block = fixed blockSize (part headSize blockSize p);
       verifier = fixed hashSize (part verifierOffset hashSize p);
@@ -36,7 +36,7 @@ badChangeSize p = not (eqb (lengthOf p) changeSize)
 
 -- refusal 7: one of the bits 2 to 15 is set
 abbrev pub badChangeFlags : List ℕ → Bool
-badChangeFlags p = ltb 3 (changeIn p .flags)
+badChangeFlags p = ltb 3 (readChange p .flags)
 
 -- 6, then 7; 0 is none
 unfoldable pub changeRefusal : List ℕ → ℕ

@@ -38,16 +38,16 @@ dataOf p = part headSize (lengthOf p - headSize) p
 
 -- the buffer afterwards: the packet and then the octets that lay there before or, with too little
 -- room, all as it was
-unfoldable pub headed : List ℕ → List ℕ → List ℕ
-headed packet out = cond (leb (length packet) (length out)) (packet ++ drop (length packet) out) out
+unfoldable pub writtenOver : List ℕ → List ℕ → List ℕ
+writtenOver packet out = cond (leb (length packet) (length out)) (packet ++ drop (length packet) out) out
 
 -- how many octets were written
-unfoldable pub headedLength : List ℕ → List ℕ → ℕ
-headedLength packet out = cond (leb (length packet) (length out)) (length packet) 0
+unfoldable pub writtenLength : List ℕ → List ℕ → ℕ
+writtenLength packet out = cond (leb (length packet) (length out)) (length packet) 0
 
 -- a writer's answer and its buffer afterwards, by the refusal; on refusal nothing is written
 abbrev pub answerBy : ℕ → List ℕ → Written
 answerBy n packet = record { refusal = n; length = cond (eqb n 0) (length packet) 0 }
 
 abbrev pub outBy : ℕ → List ℕ → List ℕ → List ℕ
-outBy n packet out = cond (eqb n 0) (headed packet out) out
+outBy n packet out = cond (eqb n 0) (writtenOver packet out) out

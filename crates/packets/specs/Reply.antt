@@ -11,7 +11,7 @@ use Rattle.message.specs.Message.{readMessage, messageRefusal, messageValues, r
 use Rattle.message.specs.declared.Reading.{Reading}
 use Rattle.packets.specs.Frame.{octet, lengthOf, framed, badFrame, badId, dataOf}
 use Rattle.packets.specs.Sizes.{headSize, challengeSize, challengeOffset, challengeLength, messageSize}
-use Rattle.packets.specs.declared.Asked.{Asked}
+use Rattle.packets.specs.declared.ChallengeFields.{ChallengeFields}
 
 -- a Challenge with no name, a Success with no message, a Failure with its message
 unfoldable pub challengePacket : ℕ → List ℕ → List ℕ
@@ -34,8 +34,8 @@ badReplyBuffer reply = ltb (length reply) longestReply
 -- ---- the peer's reading
 
 -- no Challenge: the refusal, with fixed values
-abbrev pub notAsked : ℕ → Asked
-notAsked n = record { refusal = n; id = 0; challenge = replicate challengeSize 0 }
+abbrev pub refusedChallenge : ℕ → ChallengeFields
+refusedChallenge n = record { refusal = n; id = 0; challenge = replicate challengeSize 0 }
 
 -- refusal 11: of another kind, cut short, or of a size other than 8. A name may follow and is
 -- ignored.
@@ -43,10 +43,10 @@ abbrev pub badChallenge : List ℕ → Bool
 badChallenge p = not (eqb (octet 0 p) 1) || (ltb (lengthOf p) challengeLength || not (eqb (octet headSize p) challengeSize))
 
 -- 3, then 11
-unfoldable pub readChallenge : List ℕ → Asked
+unfoldable pub readChallenge : List ℕ → ChallengeFields
 readChallenge p =
-    cond (badFrame p) (notAsked 3)
-    (cond (badChallenge p) (notAsked 11)
+    cond (badFrame p) (refusedChallenge 3)
+    (cond (badChallenge p) (refusedChallenge 11)
     (record { refusal = 0; id = octet 1 p; challenge = fixed challengeSize (part challengeOffset challengeSize p) }))
 
 -- what a packet says, by its code

@@ -15,8 +15,8 @@ unfoldable pub responsePacket : ℕ → Response → List ℕ → List ℕ
 responsePacket id f name = framed 2 id (valueSize ∷ (f .lm ++ (f .nt ++ (f .flag ∷ name))))
 
 -- the fields but the name; octets that the packet does not reach are 0
-abbrev pub responseIn : List ℕ → Response
-responseIn p =
+abbrev pub readResponse : List ℕ → Response
+readResponse p =
     record {
       lm = fixed answerSize (part lmOffset answerSize p);
       nt = fixed answerSize (part ntOffset answerSize p);
@@ -24,8 +24,8 @@ responseIn p =
     }
 
 -- the name ends at Length
-abbrev pub nameIn : List ℕ → List ℕ
-nameIn p = part nameOffset (lengthOf p - nameOffset) p
+abbrev pub readName : List ℕ → List ℕ
+readName p = part nameOffset (lengthOf p - nameOffset) p
 
 -- refusal 6: Length not 55 to 310, or the size not 49
 abbrev pub badResponseSize : List ℕ → Bool

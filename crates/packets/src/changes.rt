@@ -23,9 +23,9 @@ ghost use Prim.Native.Nat.{_+_, _≤_, _<_};
 ghost use lib.ListN.{length};
 ghost use Rattle.octets.specs.Parts.{part, fixed, overAt};
 ghost use Rattle.octets.specs.Numbers.{fromBe, toBe};
-ghost use Rattle.packets.specs.Frame.{octet, headed};
+ghost use Rattle.packets.specs.Frame.{octet, writtenOver};
 ghost use Rattle.packets.specs.Sizes.{hashSize, blockSize, lmAnswerOffset, flagsOffset, changeSize};
-ghost use Rattle.packets.specs.Change.{changePacket, badChangeSize, badChangeFlags, shortForChange, changeRefusal, changeIn, changeWritten, changeOut};
+ghost use Rattle.packets.specs.Change.{changePacket, badChangeSize, badChangeFlags, shortForChange, changeRefusal, readChange, changeWritten, changeOut};
 
 // The flags, the most significant octet first.
 fn flags(packet: &[u8]) -> u16
@@ -34,14 +34,14 @@ fn flags(packet: &[u8]) -> u16
     octets::u16_from_be(octet(packet, FLAGS_OFFSET), octet(packet, FLAGS_OFFSET + 1))
 }
 
-fn bad_size(packet: &[u8]) -> bool
+fn is_bad_size(packet: &[u8]) -> bool
     ensures { λ r. ⌜ r ≡ badChangeSize (now (packet .entry)) ⌝ }
 {
     length(packet) != CHANGE_SIZE
 }
 
 // One of the bits 2 to 15 is set.
-fn bad_flags(packet: &[u8]) -> bool
+fn is_bad_flags(packet: &[u8]) -> bool
     ensures { λ r. ⌜ r ≡ badChangeFlags (now (packet .entry)) ⌝ }
 {
     3 < flags(packet)
@@ -51,7 +51,7 @@ fn bad_flags(packet: &[u8]) -> bool
 pub fn change_refusal(packet: &[u8]) -> u8
     ensures { λ r. ⌜ r ≡ changeRefusal (now (packet .entry)) ⌝ }
 {
-    refuse_if(bad_size(packet), 6, refuse_if(bad_flags(packet), 7, 0))
+    refuse_if(is_bad_size(packet), 6, refuse_if(is_bad_flags(packet), 7, 0))
 }
 
 // A sealed block, from the place at on; 0 where the packet does not reach.
@@ -64,7 +64,7 @@ fn block_at(packet: &[u8], at: usize) -> [u8; BLOCK_SIZE]
 }
 
 pub fn read_change(packet: &[u8]) -> Change
-    ensures { λ r. ⌜ r ≡ changeIn (now (packet .entry)) ⌝ }
+    ensures { λ r. ⌜ r ≡ readChange (now (packet .entry)) ⌝ }
 {
     let block = block_at(packet, HEAD_SIZE);
     let verifier = octets::sixteen_at(packet, VERIFIER_OFFSET);
@@ -113,7 +113,7 @@ fn is_short(out: &[u8]) -> bool
 // Puts a change that is not refused at the front of out: how many octets it has.
 fn put_change(id: u8, fields: Change, out: &mut [u8]) -> usize
     requires { ⌜ changeSize ≤ length (now out) ⌝ }
-    ensures { λ r. ⌜ (r ≡ length (changePacket id fields)) × (now (out .exit) ≡ headed (changePacket id fields) (now (out .entry))) ⌝ }
+    ensures { λ r. ⌜ (r ≡ length (changePacket id fields)) × (now (out .exit) ≡ writtenOver (changePacket id fields) (now (out .entry))) ⌝ }
 {
     let first = head(6, id, CHANGE_SIZE as u16);
     octets::copy_at(out, 0, &first);

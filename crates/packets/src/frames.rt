@@ -23,7 +23,7 @@ pub fn length(packet: &[u8]) -> usize
 }
 
 // The packet is under 4 octets, or its Length is under 4 or over what was lent.
-pub fn bad_frame(packet: &[u8]) -> bool
+pub fn is_bad_frame(packet: &[u8]) -> bool
     ensures { λ r. ⌜ r ≡ badFrame (now (packet .entry)) ⌝ }
 {
     let n = length(packet);
@@ -31,7 +31,7 @@ pub fn bad_frame(packet: &[u8]) -> bool
 }
 
 // Its identifier is another one than this.
-pub fn bad_id(id: u8, packet: &[u8]) -> bool
+pub fn is_bad_id(id: u8, packet: &[u8]) -> bool
     ensures { λ r. ⌜ r ≡ badId id (now (packet .entry)) ⌝ }
 {
     octet(packet, 1) != id
@@ -41,7 +41,7 @@ pub fn bad_id(id: u8, packet: &[u8]) -> bool
 pub fn frame_refusal(packet: &[u8]) -> u8
     ensures { λ r. ⌜ r ≡ cond (badFrame (now (packet .entry))) 3 0 ⌝ }
 {
-    refuse_if(bad_frame(packet), 3, 0)
+    refuse_if(is_bad_frame(packet), 3, 0)
 }
 
 // What Length leaves behind the first `front` octets.

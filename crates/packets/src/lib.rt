@@ -9,8 +9,8 @@ mod sizes;
 pub use changes::change_refusal;
 pub use changes::read_change;
 pub use changes::write_change;
-pub use frames::bad_frame;
-pub use frames::bad_id;
+pub use frames::is_bad_frame;
+pub use frames::is_bad_id;
 pub use frames::frame_refusal;
 pub use frames::length;
 pub use frames::octet;
@@ -62,7 +62,7 @@ pub struct Written {
 }
 
 // What the peer reads in a Challenge; fixed values beside a refusal (0 is none).
-pub struct Asked {
+pub struct ChallengeFields {
     pub refusal: u8,
     pub id: u8,
     pub challenge: [u8; CHALLENGE_SIZE],

@@ -1,22 +1,22 @@
 // The two parts of a Response's name, for the lookup.
 use crate::Part;
-use crate::frames::bad_frame;
+use crate::frames::is_bad_frame;
 use crate::frames::behind;
 use crate::frames::octet;
-use crate::responses::bad_flag;
-use crate::responses::bad_size;
+use crate::responses::is_bad_flag;
+use crate::responses::is_bad_size;
 use crate::responses::name;
 use crate::sizes::NAME_OFFSET;
 ghost use mathlib.Core.Path.{_≡_};
 ghost use lib.ListN.{length};
-ghost use Rattle.packets.specs.Name.{isUnfit, beforeSplit, noPart, partFrom, domainPart, accountPart, domainOf, accountOf};
+ghost use Rattle.packets.specs.Name.{isBadResponse, beforeSplit, noPart, partFrom, domainPart, accountPart, domainOf, accountOf};
 
 // Whether the packet by itself is refused as a Response.
-fn is_unfit(packet: &[u8]) -> bool
-    ensures { λ r. ⌜ r ≡ isUnfit (now (packet .entry)) ⌝ }
+fn is_bad_response(packet: &[u8]) -> bool
+    ensures { λ r. ⌜ r ≡ isBadResponse (now (packet .entry)) ⌝ }
 {
     let code = octet(packet, 0);
-    bad_frame(packet) || (code != 2 || (bad_size(packet) || bad_flag(packet)))
+    is_bad_frame(packet) || (code != 2 || (is_bad_size(packet) || is_bad_flag(packet)))
 }
 
 // How many octets stand before the first backslash, or in all where there is none.
@@ -59,7 +59,7 @@ fn part_from(packet: &[u8], at: usize) -> Part
 pub fn domain_part(packet: &[u8]) -> Part
     ensures { λ r. ⌜ r ≡ domainPart (now (packet .entry)) ⌝ }
 {
-    if is_unfit(packet) {
+    if is_bad_response(packet) {
         return no_part();
     }
     let name = name(packet);
@@ -78,7 +78,7 @@ pub fn domain_part(packet: &[u8]) -> Part
 pub fn account_part(packet: &[u8]) -> Part
     ensures { λ r. ⌜ r ≡ accountPart (now (packet .entry)) ⌝ }
 {
-    if is_unfit(packet) {
+    if is_bad_response(packet) {
         return no_part();
     }
     let name = name(packet);
@@ -94,7 +94,7 @@ pub fn account_part(packet: &[u8]) -> Part
 pub fn domain<'a>(packet: &'a [u8], home: &'a [u8]) -> &'a [u8]
     ensures { λ r. ⌜ now r ≡ domainOf (now (packet .entry)) (now (home .entry)) ⌝ }
 {
-    if is_unfit(packet) {
+    if is_bad_response(packet) {
         return octets::part_of(packet, 0, 0);
     }
     let part = domain_part(packet);

@@ -1,7 +1,7 @@
 // What the authenticator sends: Challenge, Success and Failure; and what the peer reads in them.
-use crate::Asked;
-use crate::frames::bad_frame;
-use crate::frames::bad_id;
+use crate::ChallengeFields;
+use crate::frames::is_bad_frame;
+use crate::frames::is_bad_id;
 use crate::frames::behind;
 use crate::frames::head;
 use crate::frames::length;
@@ -14,9 +14,9 @@ use crate::sizes::LONGEST_REPLY;
 use message::Reading;
 use refusals::refuse_if;
 ghost use mathlib.Core.Path.{_≡_};
-ghost use Rattle.message.specs.Message.{textOf, numberOf, valuesOf};
-ghost use Rattle.packets.specs.Frame.{headed, headedLength};
-ghost use Rattle.packets.specs.Reply.{challengePacket, successPacket, failurePacket, badReplyBuffer, notAsked, badChallenge, readChallenge, bodyRead, readReply, replyRefusal, replyValues};
+ghost use Rattle.message.specs.Message.{textOf, verdictRefusal, verdictValues};
+ghost use Rattle.packets.specs.Frame.{writtenOver, writtenLength};
+ghost use Rattle.packets.specs.Reply.{challengePacket, successPacket, failurePacket, badReplyBuffer, refusedChallenge, badChallenge, readChallenge, bodyRead, readReply, replyRefusal, replyValues};
 
 // Whether a reply buffer cannot hold the longest reply, a Failure.
 pub fn is_bad_reply_buffer(reply: &[u8]) -> bool
@@ -28,7 +28,7 @@ pub fn is_bad_reply_buffer(reply: &[u8]) -> bool
 // ---- writers: each answers how many octets of out it wrote, 0 where there is too little room
 
 pub fn write_challenge(id: u8, challenge: [u8; CHALLENGE_SIZE], out: &mut [u8]) -> usize
-    ensures { λ r. ⌜ (r ≡ headedLength (challengePacket id challenge) (now (out .entry))) × (now (out .exit) ≡ headed (challengePacket id challenge) (now (out .entry))) ⌝ }
+    ensures { λ r. ⌜ (r ≡ writtenLength (challengePacket id challenge) (now (out .entry))) × (now (out .exit) ≡ writtenOver (challengePacket id challenge) (now (out .entry))) ⌝ }
 {
     if out.len() < CHALLENGE_LENGTH {
         return 0;
@@ -42,7 +42,7 @@ pub fn write_challenge(id: u8, challenge: [u8; CHALLENGE_SIZE], out: &mut [u8]) 
 }
 
 pub fn write_success(id: u8, out: &mut [u8]) -> usize
-    ensures { λ r. ⌜ (r ≡ headedLength (successPacket id) (now (out .entry))) × (now (out .exit) ≡ headed (successPacket id) (now (out .entry))) ⌝ }
+    ensures { λ r. ⌜ (r ≡ writtenLength (successPacket id) (now (out .entry))) × (now (out .exit) ≡ writtenOver (successPacket id) (now (out .entry))) ⌝ }
 {
     if out.len() < HEAD_SIZE {
         return 0;
@@ -54,7 +54,7 @@ pub fn write_success(id: u8, out: &mut [u8]) -> usize
 
 // The message is `E=691 R=1 V=2` with the numbers set.
 pub fn write_failure(id: u8, e: u16, r: u8, v: u8, out: &mut [u8]) -> usize
-    ensures { λ n. ⌜ (n ≡ headedLength (failurePacket id (textOf e r v)) (now (out .entry))) × (now (out .exit) ≡ headed (failurePacket id (textOf e r v)) (now (out .entry))) ⌝ }
+    ensures { λ n. ⌜ (n ≡ writtenLength (failurePacket id (textOf e r v)) (now (out .entry))) × (now (out .exit) ≡ writtenOver (failurePacket id (textOf e r v)) (now (out .entry))) ⌝ }
 {
     if out.len() < LONGEST_REPLY {
         return 0;
@@ -68,10 +68,10 @@ pub fn write_failure(id: u8, e: u16, r: u8, v: u8, out: &mut [u8]) -> usize
 
 // ---- readers
 
-fn not_asked(refusal: u8) -> Asked
-    ensures { λ r. ⌜ r ≡ notAsked refusal ⌝ }
+fn refused_challenge(refusal: u8) -> ChallengeFields
+    ensures { λ r. ⌜ r ≡ refusedChallenge refusal ⌝ }
 {
-    Asked {
+    ChallengeFields {
         refusal,
         id: 0,
         challenge: [0; CHALLENGE_SIZE],
@@ -79,7 +79,7 @@ fn not_asked(refusal: u8) -> Asked
 }
 
 // The packet is of another kind, cut short, or of a size other than 8.
-fn bad_challenge(packet: &[u8]) -> bool
+fn is_bad_challenge(packet: &[u8]) -> bool
     ensures { λ r. ⌜ r ≡ badChallenge (now (packet .entry)) ⌝ }
 {
     let code = octet(packet, 0);
@@ -89,20 +89,20 @@ fn bad_challenge(packet: &[u8]) -> bool
 }
 
 // A Challenge. Refusal 3: the frame; 11: another kind, cut short, or of a size other than 8.
-pub fn read_challenge(packet: &[u8]) -> Asked
+pub fn read_challenge(packet: &[u8]) -> ChallengeFields
     ensures { λ r. ⌜ r ≡ readChallenge (now (packet .entry)) ⌝ }
 {
     let refusal = refuse_if(
-        bad_frame(packet),
+        is_bad_frame(packet),
         3,
-        refuse_if(bad_challenge(packet), 11, 0),
+        refuse_if(is_bad_challenge(packet), 11, 0),
     );
     if refusal != 0 {
-        return not_asked(refusal);
+        return refused_challenge(refusal);
     }
     let challenge = octets::eight_at(packet, CHALLENGE_OFFSET);
     let id = octet(packet, 1);
-    Asked {
+    ChallengeFields {
         refusal: 0,
         id,
         challenge,
@@ -126,9 +126,9 @@ fn read_body(packet: &[u8]) -> Reading
 // A reply to the last packet, which had the identifier last. Refusal 3: the frame; 5: another
 // identifier; 11: another kind, or by the message.
 pub fn read_reply(last: u8, packet: &[u8]) -> Reading
-    ensures { λ r. ⌜ (r ≡ readReply last (now (packet .entry))) × (numberOf (r .verdict) ≡ replyRefusal last (now (packet .entry))) × (valuesOf (r .verdict) ≡ replyValues last (now (packet .entry))) ⌝ }
+    ensures { λ r. ⌜ (r ≡ readReply last (now (packet .entry))) × (verdictRefusal (r .verdict) ≡ replyRefusal last (now (packet .entry))) × (verdictValues (r .verdict) ≡ replyValues last (now (packet .entry))) ⌝ }
 {
-    let refusal = refuse_if(bad_frame(packet), 3, refuse_if(bad_id(last, packet), 5, 0));
+    let refusal = refuse_if(is_bad_frame(packet), 3, refuse_if(is_bad_id(last, packet), 5, 0));
     if refusal != 0 {
         return message::refused_with(refusal);
     }

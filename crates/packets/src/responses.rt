@@ -20,12 +20,12 @@ ghost use mathlib.Core.Path.{_≡_};
 ghost use Prim.Native.Nat.{_+_, _≤_};
 ghost use lib.ListN.{length};
 ghost use Rattle.octets.specs.Parts.{part, fixed};
-ghost use Rattle.packets.specs.Frame.{headed};
+ghost use Rattle.packets.specs.Frame.{writtenOver};
 ghost use Rattle.packets.specs.Sizes.{answerSize, nameOffset, longestName};
-ghost use Rattle.packets.specs.Response.{badResponseSize, badResponseFlag, responseRefusal, responseIn, nameIn, badName, shortForResponse, responseWriteRefusal, responsePacket, responseWritten, responseOut};
+ghost use Rattle.packets.specs.Response.{badResponseSize, badResponseFlag, responseRefusal, readResponse, readName, badName, shortForResponse, responseWriteRefusal, responsePacket, responseWritten, responseOut};
 
 // The name has not 1 to 256 octets, by the Length, or the size is not that of the value.
-pub fn bad_size(packet: &[u8]) -> bool
+pub fn is_bad_size(packet: &[u8]) -> bool
     ensures { λ r. ⌜ r ≡ badResponseSize (now (packet .entry)) ⌝ }
 {
     let n = length(packet);
@@ -33,7 +33,7 @@ pub fn bad_size(packet: &[u8]) -> bool
     n < SHORTEST_RESPONSE || (LONGEST_RESPONSE < n || size != VALUE_SIZE as u8)
 }
 
-pub fn bad_flag(packet: &[u8]) -> bool
+pub fn is_bad_flag(packet: &[u8]) -> bool
     ensures { λ r. ⌜ r ≡ badResponseFlag (now (packet .entry)) ⌝ }
 {
     1 < octet(packet, FLAG_OFFSET)
@@ -43,7 +43,7 @@ pub fn bad_flag(packet: &[u8]) -> bool
 pub fn response_refusal(packet: &[u8]) -> u8
     ensures { λ r. ⌜ r ≡ responseRefusal (now (packet .entry)) ⌝ }
 {
-    refuse_if(bad_size(packet), 6, refuse_if(bad_flag(packet), 7, 0))
+    refuse_if(is_bad_size(packet), 6, refuse_if(is_bad_flag(packet), 7, 0))
 }
 
 // An LM or NT response, from the place at on; 0 where the packet does not reach.
@@ -57,7 +57,7 @@ pub fn response_at(packet: &[u8], at: usize) -> [u8; ANSWER_SIZE]
 
 // The fields but the name.
 pub fn read_response(packet: &[u8]) -> Response
-    ensures { λ r. ⌜ r ≡ responseIn (now (packet .entry)) ⌝ }
+    ensures { λ r. ⌜ r ≡ readResponse (now (packet .entry)) ⌝ }
 {
     let lm = response_at(packet, LM_OFFSET);
     let nt = response_at(packet, NT_OFFSET);
@@ -67,14 +67,14 @@ pub fn read_response(packet: &[u8]) -> Response
 
 // The name, which ends at Length.
 pub fn name(packet: &[u8]) -> &[u8]
-    ensures { λ r. ⌜ now r ≡ nameIn (now (packet .entry)) ⌝ }
+    ensures { λ r. ⌜ now r ≡ readName (now (packet .entry)) ⌝ }
 {
     let n = behind(packet, NAME_OFFSET);
     octets::part_of(packet, NAME_OFFSET, n)
 }
 
 // A name to be written is empty or over 256 octets.
-fn bad_name(name: &[u8]) -> bool
+fn is_bad_name(name: &[u8]) -> bool
     ensures { λ r. ⌜ r ≡ badName (now (name .entry)) ⌝ }
 {
     name.len() < 1 || LONGEST_NAME < name.len()
@@ -91,13 +91,13 @@ fn is_short(out: &[u8], name: &[u8]) -> bool
 fn write_refusal(name: &[u8], out: &[u8]) -> u8
     ensures { λ r. ⌜ r ≡ responseWriteRefusal (now (name .entry)) (now (out .entry)) ⌝ }
 {
-    refuse_if(bad_name(name), 10, refuse_if(is_short(out, name), 9, 0))
+    refuse_if(is_bad_name(name), 10, refuse_if(is_short(out, name), 9, 0))
 }
 
 // Puts a Response that is not refused at the front of out: how many octets it has.
 fn put_response(id: u8, fields: Response, name: &[u8], out: &mut [u8]) -> usize
     requires { ⌜ (length (now name) ≤ longestName) × (nameOffset + length (now name) ≤ length (now out)) ⌝ }
-    ensures { λ r. ⌜ (r ≡ length (responsePacket id fields (now (name .entry)))) × (now (out .exit) ≡ headed (responsePacket id fields (now (name .entry))) (now (out .entry))) ⌝ }
+    ensures { λ r. ⌜ (r ≡ length (responsePacket id fields (now (name .entry)))) × (now (out .exit) ≡ writtenOver (responsePacket id fields (now (name .entry))) (now (out .entry))) ⌝ }
 {
     let n = NAME_OFFSET + name.len();
     let first = head(2, id, n as u16);

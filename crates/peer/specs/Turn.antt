@@ -3,19 +3,19 @@
 -- Assumes nothing: these are definitions.
 use mathlib.Core.Bool.{true, cond}
 use Rattle.message.specs.declared.Reading.{Reading}
-use Rattle.message.specs.declared.Given.{Given}
+use Rattle.message.specs.declared.NewChallenge.{NewChallenge}
 use Rattle.message.specs.declared.Verdict.{Verdict}
 use Rattle.message.specs.declared.Verdict.the-variants.{Success, Failure, Refused}
 use Rattle.message.specs.declared.Call.{Call}
 use Rattle.message.specs.declared.Call.the-variants.{Retry, ChangeTwo, ChangeOne, End}
 use Rattle.challenges.specs.Challenges.{nextId, incremented}
-use Rattle.packets.specs.declared.Asked.{Asked}
+use Rattle.packets.specs.declared.ChallengeFields.{ChallengeFields}
 use Rattle.peer.specs.declared.Peer.{Peer}
 use Rattle.peer.specs.declared.Turn.{Turn}
 use Rattle.peer.specs.declared.Sent.{Sent}
 
 -- the turn that a Challenge asks for: the first Response has its identifier (RFC 1994, section 4.1)
-abbrev pub firstTurn : Asked → Turn
+abbrev pub firstTurn : ChallengeFields → Turn
 firstTurn a = record { id = a .id; challenge = a .challenge }
 
 -- what was sent, once the packet of a turn is written
@@ -27,7 +27,7 @@ abbrev pub sameTurn : Sent → Turn
 sameTurn s = record { id = s .id; challenge = s .challenge }
 
 -- a retry takes C where given, else the 23 rule
-abbrev pub retryTurn : Sent → Given → Turn
+abbrev pub retryTurn : Sent → NewChallenge → Turn
 retryTurn s c =
     record { id = nextId (s .id); challenge = cond (c .given) (c .octets) (incremented (s .challenge)) }
 
@@ -35,14 +35,14 @@ retryTurn s c =
 abbrev pub changeTurn : Sent → Turn
 changeTurn s = record { id = nextId (s .id); challenge = s .challenge }
 
-abbrev pub turnFor : Call → Sent → Given → Turn
+abbrev pub turnFor : Call → Sent → NewChallenge → Turn
 turnFor Retry s c = retryTurn s c
 turnFor ChangeTwo s c = changeTurn s
 turnFor ChangeOne s c = sameTurn s
 turnFor End s c = sameTurn s
 
 -- by what was sent; a packet that is refused leaves the turn as it was
-abbrev pub turnAfter : Verdict → Peer → Given → Turn
+abbrev pub turnAfter : Verdict → Peer → NewChallenge → Turn
 turnAfter Success q c = sameTurn (q .sent)
 turnAfter (Failure f) q c = turnFor (f .call) (q .sent) c
 turnAfter (Refused n) q c = q .turn

@@ -10,20 +10,20 @@ use crate::turns::sent_for;
 use crate::writes::write_change;
 use crate::writes::write_response;
 use message::Reading;
-use packets::Asked;
+use packets::ChallengeFields;
 use packets::CHALLENGE_SIZE;
 use packets::Written;
 ghost use mathlib.Core.Bool.{cond};
 ghost use mathlib.Core.List.{[]};
 ghost use mathlib.Core.Path.{_≡_};
-ghost use Rattle.message.specs.Message.{numberOf, valuesOf, refusedWith};
+ghost use Rattle.message.specs.Message.{verdictRefusal, verdictValues, refusedWith};
 ghost use Rattle.packets.specs.Frame.{badFrame};
 ghost use Rattle.packets.specs.Reply.{readChallenge, readReply, replyRefusal, replyValues};
 ghost use Rattle.peer.specs.Write.{writeResponse, writeChange};
-ghost use Rattle.peer.specs.Peer.{asked, sending, Writes, Reads};
+ghost use Rattle.peer.specs.Peer.{afterChallenge, afterWriting, Writes, Reads};
 
-fn after_challenge(read: Asked) -> Peer
-    ensures { λ r. ⌜ r ≡ asked read ⌝ }
+fn after_challenge(read: ChallengeFields) -> Peer
+    ensures { λ r. ⌜ r ≡ afterChallenge read ⌝ }
 {
     let sent = Sent {
         present: false,
@@ -48,7 +48,7 @@ fn refusal_before(packet: &[u8]) -> u8
 // What a packet says as the reply to the last one that was sent; where none was, no packet has its
 // identifier.
 fn reading_after(sent: Sent, packet: &[u8]) -> Reading
-    ensures { λ r. ⌜ (r ≡ cond (sent .present) (readReply (sent .id) (now (packet .entry))) (refusedWith (cond (badFrame (now (packet .entry))) 3 5))) × (numberOf (r .verdict) ≡ cond (sent .present) (replyRefusal (sent .id) (now (packet .entry))) (cond (badFrame (now (packet .entry))) 3 5)) × (valuesOf (r .verdict) ≡ cond (sent .present) (replyValues (sent .id) (now (packet .entry))) []) ⌝ }
+    ensures { λ r. ⌜ (r ≡ cond (sent .present) (readReply (sent .id) (now (packet .entry))) (refusedWith (cond (badFrame (now (packet .entry))) 3 5))) × (verdictRefusal (r .verdict) ≡ cond (sent .present) (replyRefusal (sent .id) (now (packet .entry))) (cond (badFrame (now (packet .entry))) 3 5)) × (verdictValues (r .verdict) ≡ cond (sent .present) (replyValues (sent .id) (now (packet .entry))) []) ⌝ }
 {
     if sent.present {
         return packets::read_reply(sent.id, packet);
@@ -62,7 +62,7 @@ impl Peer {
     pub fn read_challenge(packet: &[u8]) -> ChallengeRead
         ensures { λ r. ⌜ r ≡ record {
           refusal = readChallenge (now (packet .entry)) .refusal;
-          peer = asked (readChallenge (now (packet .entry)));
+          peer = afterChallenge (readChallenge (now (packet .entry)));
         } ⌝ }
     {
         let read = packets::read_challenge(packet);
@@ -75,7 +75,7 @@ impl Peer {
 
     // The peer once a writer has answered: a packet that was refused was not sent.
     fn after_writing(self, written: Written) -> Peer
-        ensures { λ r. ⌜ r ≡ sending self written ⌝ }
+        ensures { λ r. ⌜ r ≡ afterWriting self written ⌝ }
     {
         if written.refusal != 0 {
             return self;

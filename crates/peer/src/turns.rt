@@ -3,10 +3,10 @@ use crate::Peer;
 use crate::Sent;
 use crate::Turn;
 use message::Call;
-use message::Given;
+use message::NewChallenge;
 use message::Reading;
 use message::Verdict;
-use packets::Asked;
+use packets::ChallengeFields;
 use packets::CHALLENGE_SIZE;
 ghost use mathlib.Core.Path.{_≡_};
 ghost use mathlib.Core.Bool.{cond};
@@ -14,12 +14,12 @@ ghost use Rattle.challenges.specs.Challenges.{incremented};
 ghost use Rattle.peer.specs.Turn.{firstTurn, sentFor, sameTurn, retryTurn, changeTurn, turnFor, nextTurn};
 
 // The turn that a Challenge asks for.
-pub(crate) fn first_turn(asked: Asked) -> Turn
-    ensures { λ r. ⌜ r ≡ firstTurn asked ⌝ }
+pub(crate) fn first_turn(fields: ChallengeFields) -> Turn
+    ensures { λ r. ⌜ r ≡ firstTurn fields ⌝ }
 {
-    let challenge = asked.challenge;
+    let challenge = fields.challenge;
     Turn {
-        id: asked.id,
+        id: fields.id,
         challenge,
     }
 }
@@ -48,7 +48,7 @@ fn same_turn(sent: Sent) -> Turn
 }
 
 // C where given, else the 23 rule.
-fn retry_challenge(last: [u8; CHALLENGE_SIZE], c: Given) -> [u8; CHALLENGE_SIZE]
+fn retry_challenge(last: [u8; CHALLENGE_SIZE], c: NewChallenge) -> [u8; CHALLENGE_SIZE]
     ensures { λ r. ⌜ r ≡ cond (c .given) (c .octets) (incremented last) ⌝ }
 {
     if c.given {
@@ -58,7 +58,7 @@ fn retry_challenge(last: [u8; CHALLENGE_SIZE], c: Given) -> [u8; CHALLENGE_SIZE]
     challenges::incremented(last)
 }
 
-fn retry_turn(sent: Sent, c: Given) -> Turn
+fn retry_turn(sent: Sent, c: NewChallenge) -> Turn
     ensures { λ r. ⌜ r ≡ retryTurn sent c ⌝ }
 {
     let last = sent.challenge;
@@ -79,7 +79,7 @@ fn change_turn(sent: Sent) -> Turn
     }
 }
 
-fn turn_for(call: Call, sent: Sent, c: Given) -> Turn
+fn turn_for(call: Call, sent: Sent, c: NewChallenge) -> Turn
     ensures { λ r. ⌜ r ≡ turnFor call sent c ⌝ }
 {
     match call {

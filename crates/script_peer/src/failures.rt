@@ -1,7 +1,7 @@
 // The command of the Failure message.
 use message::Call;
 use message::Failed;
-use message::Given;
+use message::NewChallenge;
 use message::Verdict;
 
 fn put_call(call: Call) {
@@ -14,7 +14,7 @@ fn put_call(call: Call) {
 }
 
 // The octets of C, or `-`.
-fn put_c(c: Given) {
+fn put_c(c: NewChallenge) {
     if c.given {
         let octets = c.octets;
         return script::put_hex(&octets);
@@ -23,7 +23,7 @@ fn put_c(c: Given) {
 }
 
 // E R C V CALL
-pub(crate) fn put_failed(failed: Failed, c: Given) {
+pub(crate) fn put_failed(failed: Failed, c: NewChallenge) {
     let call = failed.call;
     script::put_field(failed.e);
     script::put_field(failed.r);

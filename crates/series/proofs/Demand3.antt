@@ -8,7 +8,7 @@ use native.Mathlib.Omega.{arith}
 use lib.ListN.{length, replicate, length-append, length-replicate}
 use Rattle.credentials.specs.Credentials.{ntHashOf}
 use Rattle.message.specs.Reasons.{authenticationFailure, passwordExpired}
-use Rattle.packets.specs.Response.{responseIn}
+use Rattle.packets.specs.Response.{readResponse}
 use Rattle.packets.specs.Reply.{successPacket}
 use Rattle.authenticator.specs.Encode.{replyPacket}
 use Rattle.accounts.specs.Account.{blankAccount, found, changed, Rightful}
@@ -63,13 +63,13 @@ module _ (p : SeriesState) (h : InStep (p .conversation) (p .peer .turn)) where
     try-name : (1 ≤ length name) × (length name ≤ 256)
     try-name = name-fits turn password name (l .out) try-written
 
-    invalid-exchanged : (l .account .found && validIn (p .conversation) (l .account .account) (responseIn (reaching wrote l .packet))) ≡ false → 0 < p .conversation .retries
+    invalid-exchanged : (l .account .found && validIn (p .conversation) (l .account .account) (readResponse (reaching wrote l .packet))) ≡ false → 0 < p .conversation .retries
         → Exchanged p wrote l (tryAgain (p .conversation))
     invalid-exchanged v pos =
         exchanged p wrote l (tryAgain (p .conversation)) (h .id) try-written (kept .not2) (omega arith)
         (ap (λ (x : List ℕ). step (p .conversation) x (l .account) (l .buffer)) try-left
         ∙ invalid-taken (p .conversation) turn h ph password name (l .packetPadding) (l .buffer) (kept .not2) try-name (l .account)
-        (ap (λ (x : List ℕ). l .account .found && validIn (p .conversation) (l .account .account) (responseIn x)) (sym try-left) ∙ v) pos)
+        (ap (λ (x : List ℕ). l .account .found && validIn (p .conversation) (l .account .account) (readResponse x)) (sym try-left) ∙ v) pos)
 
     right-exchanged : (a : Account) → Rightful a → ntHashOf password ≡ a .nt .octets → l .account ≡ found a
         → Exchanged p wrote l (drawnRight (a .expired) (p .conversation) a)

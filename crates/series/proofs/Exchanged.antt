@@ -17,7 +17,7 @@ use Rattle.authenticator.proofs.Steps.{reply-of, judged-as}
 use Rattle.authenticator.specs.declared.Conversation.{Conversation}
 use Rattle.peer.specs.Turn.{sentFor, nextTurn}
 use Rattle.peer.specs.Write.{Wrote}
-use Rattle.peer.specs.Peer.{sending, reads, receiving}
+use Rattle.peer.specs.Peer.{afterWriting, peerReads, afterReply}
 use Rattle.peer.specs.declared.Peer.{Peer}
 use Rattle.peer.specs.declared.Turn.{Turn}
 use Rattle.series.specs.Series.{ExchangeInput, SeriesState, reaching, carried, Draws}
@@ -37,7 +37,7 @@ pub record Exchanged (p : SeriesState) (w : Wrote) (l : ExchangeInput) (d : Judg
       (readingFor (d .reply))
   pub judges : judged stepOn (p .conversation) (reaching w l) ≡ 1
   pub leads : _≡_ {A = SeriesState}
-      (record { conversation = carried stepOn p w l .outcome .answer .next; peer = receiving (carried stepOn p w l .peer) (carried stepOn p w l .reply) })
+      (record { conversation = carried stepOn p w l .outcome .answer .next; peer = afterReply (carried stepOn p w l .peer) (carried stepOn p w l .reply) })
       (record { conversation = d .next; peer = record { sent = sentFor (p .peer .turn); turn = nextTurn (sentBy (p .peer .turn)) (readingFor (d .reply)) } })
 
 module _ (p : SeriesState) (w : Wrote) (l : ExchangeInput) (d : Judgement) (same-id : p .conversation .id ≡ p .peer .turn .id)
@@ -51,14 +51,14 @@ module _ (p : SeriesState) (w : Wrote) (l : ExchangeInput) (d : Judgement) (same
         (sym same-id)
         ∙ read-reply (p .conversation .id) (d .reply) (l .replyPadding) small
 
-    sent-same : sending (p .peer) (w .answer) ≡ sentBy (p .peer .turn)
+    sent-same : afterWriting (p .peer) (w .answer) ≡ sentBy (p .peer .turn)
     sent-same = rw zero
 
     reply-same : replyOf (stepOn (p .conversation) (reaching w l)) ≡ replyPacket (p .conversation .id) (d .reply)
     reply-same = ap replyOf took ∙ reply-of (p .conversation) d (l .buffer) room
 
-    read-same : reads (sending (p .peer) (w .answer)) (replyOf (stepOn (p .conversation) (reaching w l)) ++ l .replyPadding) ≡ readingFor (d .reply)
-    read-same = ap₂ (λ (q : Peer) (r : List ℕ). reads q (r ++ l .replyPadding)) sent-same reply-same ∙ heard
+    read-same : peerReads (afterWriting (p .peer) (w .answer)) (replyOf (stepOn (p .conversation) (reaching w l)) ++ l .replyPadding) ≡ readingFor (d .reply)
+    read-same = ap₂ (λ (q : Peer) (r : List ℕ). peerReads q (r ++ l .replyPadding)) sent-same reply-same ∙ heard
 
     pub exchanged : Exchanged p w l d
     exchanged =

@@ -13,7 +13,7 @@ use lib.ListN.{length}
 use Rattle.octets.specs.Parts.{agrees}
 use Rattle.octets.proofs.Parts.{agrees-equal}
 use Rattle.octets.proofs.Numbers.{Octets}
-use Rattle.issued.specs.Issued.{Issued, listed, holds}
+use Rattle.issued.specs.Issued.{Issued, listed, contains}
 use Rattle.issued.proofs.Listing.{not-met}
 use Rattle.credentials.specs.Credentials.{ntHashOf, responseOf, lengthUnder, unsealedAs, passwordIn}
 use Rattle.credentials.proofs.Laws.{response-tells}
@@ -30,7 +30,7 @@ use Rattle.verify.proofs.Accepted.{accepted-only}
 use Rattle.authenticator.specs.declared.Conversation.{Conversation}
 use Rattle.authenticator.specs.declared.Opened.{Opened}
 use Rattle.authenticator.proofs.Spends.{challenges-octets}
-use Rattle.authenticator.proofs.Openings.{opened-first, opened-written, opened-fresh, opened-not, opened-holds, opened-keeps, may-open}
+use Rattle.authenticator.proofs.Openings.{opened-first, opened-written, opened-fresh, opened-not, opened-contains, opened-keeps, may-open}
 use Rattle.authenticator.proofs.InForce.{CanBeInForce, now-in-force, step-adds-none}
 use Rattle.series.specs.Course.{end, Along}
 use Rattle.series.specs.Openers.{spendsAll, ourOpener}
@@ -54,7 +54,7 @@ steps-add-none : (c : Conversation) (ss : List StepInput) (x : List ℕ) → Can
 steps-add-none c [] x h = h
 steps-add-none c (s ∷ ss) x h = step-adds-none c s x (steps-add-none (nextAfter stepOn c s) ss x h)
 
-reached-spent : (o : Opening) → opened o .refusal ≡ 0 → (ss : List StepInput) → holds (spends o) (reached spendsAll o ss .challenge) ≡ true
+reached-spent : (o : Opening) → opened o .refusal ≡ 0 → (ss : List StepInput) → contains (spends o) (reached spendsAll o ss .challenge) ≡ true
 reached-spent o ok ss =
     subst (λ (c : Conversation). CanBeInForce c (reached spendsAll o ss .challenge)) (opened-first o ok)
     (steps-add-none (opened o .conversation) ss (reached spendsAll o ss .challenge) (now-in-force (reached spendsAll o ss)))
@@ -62,7 +62,7 @@ reached-spent o ok ss =
 -- ---- what stands in the list stays there
 
 listed-stays : (i : Issued) (os : List Opening) (p : Opening) (after : List Opening) (x : List ℕ) → OnOneList spendsAll i (os ++ (p ∷ after))
-    → holds (listed 8 i) x ≡ true → holds (listed 8 (p .issued)) x ≡ true
+    → contains (listed 8 i) x ≡ true → contains (listed 8 (p .issued)) x ≡ true
 listed-stays i [] p after x h e = h .0 .kept x e
 listed-stays i (o ∷ os) p after x h e = listed-stays (openedIssued o) os p after x (h .1) (opened-keeps o (h .0 .eight) x (h .0 .kept x e))
 
@@ -80,9 +80,9 @@ module _ (i : Issued) (first second : Opening) (two : Two spendsAll i first seco
   of-second = along-behind (leftBy spendsAll) PassedOn (openedIssued first) (two .between) (second ∷ two .after) (from-first .1)
 
   -- what the first opening spent, the second did not
-  apart : (x : List ℕ) → holds (spends first) x ≡ true → holds (spends second) x ≡ true → ⊥
+  apart : (x : List ℕ) → contains (spends first) x ≡ true → contains (spends second) x ≡ true → ⊥
   apart x h k =
-      let there = listed-stays (openedIssued first) (two .between) second (two .after) x (from-first .1) (opened-holds first (from-first .0 .eight) first-opens x h) in
+      let there = listed-stays (openedIssued first) (two .between) second (two .after) x (from-first .1) (opened-contains first (from-first .0 .eight) first-opens x h) in
       false≢true (sym (not-met (spends second) (listed 8 (second .issued)) x (opened-fresh second second-opens) k) ∙ there)
 
   module _ (ss ts : List StepInput) where
@@ -95,7 +95,7 @@ module _ (i : Issued) (first second : Opening) (two : Two spendsAll i first seco
     never : inFirst .challenge ≢ inSecond .challenge
     never e =
         apart (inFirst .challenge) (reached-spent first first-opens ss)
-        (subst (λ (x : List ℕ). holds (spends second) x ≡ true) (sym e) (reached-spent second second-opens ts))
+        (subst (λ (x : List ℕ). contains (spends second) x ≡ true) (sym e) (reached-spent second second-opens ts))
 
     -- ---- a recorded answer
 

@@ -9,7 +9,7 @@ use native.Mathlib.Omega.{arith}
 use lib.ListN.{length}
 use Rattle.message.specs.Message.{calledFor, succeeded}
 use Rattle.challenges.specs.Challenges.{nextId, incremented}
-use Rattle.packets.specs.declared.Asked.{Asked}
+use Rattle.packets.specs.declared.ChallengeFields.{ChallengeFields}
 use Rattle.accounts.specs.Account.{blankAccount}
 use Rattle.authenticator.specs.Conversation.{ended, retried, awaitingChange}
 use Rattle.authenticator.specs.Opening.{Opening, opened}
@@ -56,8 +56,8 @@ module _ (o : Opening) (ok : opened o .refusal ≡ 0) (eight : length (o .challe
       let c = opened-first o ok in
       let q = challenge-read o ok eight behind in
       record {
-        id = ap (λ (x : Conversation). x .id) c ∙ sym (ap (λ (x : Asked). x .id) q);
-        challenge = ap (λ (x : Conversation). x .challenge) c ∙ sym (ap (λ (x : Asked). x .challenge) q);
+        id = ap (λ (x : Conversation). x .id) c ∙ sym (ap (λ (x : ChallengeFields). x .id) q);
+        challenge = ap (λ (x : Conversation). x .challenge) c ∙ sym (ap (λ (x : ChallengeFields). x .challenge) q);
       }
 
 -- the right password, by whether the record is expired: what it draws

@@ -11,7 +11,7 @@ use Rattle.credentials.specs.Credentials.{ntHashOf, sealedBlock, unsealedAs, pa
 use Rattle.credentials.specs.declared.Unsealed.{Unsealed}
 use Rattle.credentials.specs.declared.Content.the-variants.{Password}
 use Rattle.credentials.proofs.Laws.{length-response, unseal-sealed, password-sealed, content-password}
-use Rattle.packets.specs.Change.{changeIn}
+use Rattle.packets.specs.Change.{readChange}
 use Rattle.packets.specs.Name.{isSplit, domainOf, accountOf}
 use Rattle.packets.specs.Reply.{readChallenge, readReply}
 use Rattle.packets.specs.declared.Change.{Change}
@@ -25,7 +25,7 @@ use Rattle.authenticator.proofs.Replies.{readingFor, judged-read}
 use Rattle.authenticator.specs.declared.Conversation.{Conversation}
 use Rattle.authenticator.proofs.Openings.{opened-written}
 use Rattle.peer.specs.Write.{responseFields, changeFields, responseFor, writeResponse, writeChange}
-use Rattle.peer.specs.Peer.{reads}
+use Rattle.peer.specs.Peer.{peerReads}
 use Rattle.peer.specs.declared.Peer.{Peer}
 use Rattle.peer.specs.declared.Turn.{Turn}
 use Rattle.peer.proofs.Found.{response-found, change-found}
@@ -42,7 +42,7 @@ challenge-read o ok eight behind =
 
 -- Success, or the Failure with the reason (646 to 649, 691, 709), R, no C and V=2: what our peer reads of the reply to its last packet
 pub reply-read : (c : Conversation) (s : StepInput) (q : Peer) (behind : List ℕ) → refusalAt stepOn c s ≡ 0 → q .sent .present ≡ true → q .sent .id ≡ c .id
-    → reads q (replyOf (stepOn c s) ++ behind) ≡ readingFor (replyFor c (reasonIn (stepOn c s .answer .kind)))
+    → peerReads q (replyOf (stepOn c s) ++ behind) ≡ readingFor (replyFor c (reasonIn (stepOn c s .answer .kind)))
 reply-read c s q behind ok sent id =
     rw sent (ap (λ (i : ℕ). readReply i (replyOf (stepOn c s) ++ behind)) id ∙ judged-read c s ok behind)
 
@@ -92,12 +92,12 @@ module _ (t : Turn) (old new filler out padding : List ℕ) (ok : writeChange t 
       (change-found t old new filler (filler-full t old new filler out ok) (new-fits t old new filler out ok .0) padding)
 
   -- its block, opened under the old hash, holds the new password
-  pub password-round-trip : (unsealedAs (ntHashOf old) (changeIn change .block) .content ≡ Password (length new))
-      × (passwordIn (unsealedAs (ntHashOf old) (changeIn change .block)) (length new) ≡ new)
+  pub password-round-trip : (unsealedAs (ntHashOf old) (readChange change .block) .content ≡ Password (length new))
+      × (passwordIn (unsealedAs (ntHashOf old) (readChange change .block)) (length new) ≡ new)
   password-round-trip =
       let full = filler-full t old new filler out ok in
       let fits = new-fits t old new filler out ok in
-      let block : changeIn change .block ≡ sealedBlock (ntHashOf old) filler new = ap (λ (f : Change). f .block) (change-round-trip .fields) in (
+      let block : readChange change .block ≡ sealedBlock (ntHashOf old) filler new = ap (λ (f : Change). f .block) (change-round-trip .fields) in (
         ap (λ (x : List ℕ). unsealedAs (ntHashOf old) x .content) block
             ∙ ap (λ (o : Unsealed). o .content) (unseal-sealed filler new full (fits .0) (ntHashOf old)) ∙ content-password (length new) (fits .0) (fits .1),
         ap (λ (x : List ℕ). passwordIn (unsealedAs (ntHashOf old) x) (length new)) block ∙ password-sealed filler new full (fits .0) (ntHashOf old),

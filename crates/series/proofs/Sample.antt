@@ -10,7 +10,7 @@ use lib.Dec.{eqb}
 use lib.ListN.{length, replicate}
 use Rattle.issued.specs.Issued.{emptyList, badBuffer}
 use Rattle.credentials.specs.Credentials.{ntHashOf, badNtPassword}
-use Rattle.packets.specs.Response.{responseIn}
+use Rattle.packets.specs.Response.{readResponse}
 use Rattle.packets.specs.declared.Response as fields
 use Rattle.accounts.specs.Account.{noHash, blankAccount, notFound, found, Rightful}
 use Rattle.verify.specs.Response.{answers, valid}
@@ -131,7 +131,7 @@ module _ (box : Box) (writer : Writer) (p : SeriesState) where
   pub blank-allowed : (a : Account) → Allowed box writer a p (badTry (found blankAccount))
   blank-allowed a = (
     try-within bad (line 60 (found blankAccount)) refl (omega arith) (omega arith),
-    λ e. no-hash (p .conversation) (responseIn (exchange box writer p (invalid bad user) (line 60 (found blankAccount)) .input .packet)),
+    λ e. no-hash (p .conversation) (readResponse (exchange box writer p (invalid bad user) (line 60 (found blankAccount)) .input .packet)),
   )
 
   pub right-allowed : (expired : Bool) → Allowed box writer (account expired) p (rightTry expired)

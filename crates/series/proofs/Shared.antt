@@ -10,7 +10,7 @@ use borrow.Author.Tests.{ltb-true}
 use lib.Dec.{ltb}
 use lib.ListN.{length, getD, replicate}
 use Rattle.octets.specs.Parts.{over, agrees}
-use Rattle.issued.specs.Issued.{Issued, holds, meets, ending, endings, emptyList, badBuffer, spendRefusal}
+use Rattle.issued.specs.Issued.{Issued, contains, containsAny, ending, endings, emptyList, badBuffer, spendRefusal}
 use Rattle.challenges.specs.Challenges.{incremented, challengesFrom}
 use Rattle.authenticator.specs.Conversation.{isEnded}
 use Rattle.authenticator.specs.Opening.{Opening, openRefusal, opened, openedIssued}
@@ -45,7 +45,7 @@ pub first-opens : opened first .refusal ≡ 0
 first-opens = may-open-empty first (omega arith) (omega arith) six-places refl refl (omega arith)
 
 second-opens : opened second .refusal ≡ 0
-unfolding opened openedIssued openRefusal spendRefusal badBuffer flatten over agrees ending endings holds meets challengesFrom
+unfolding opened openedIssued openRefusal spendRefusal badBuffer flatten over agrees ending endings contains containsAny challengesFrom
 second-opens = refl
 
 -- ---- the premises
@@ -85,9 +85,9 @@ two =
 -- ---- refused
 
 pub again-refused : opened (openingOn (openedIssued first) Default challenge) .refusal ≡ 16
-unfolding opened openedIssued openRefusal spendRefusal badBuffer flatten over agrees ending endings holds meets challengesFrom
+unfolding opened openedIssued openRefusal spendRefusal badBuffer flatten over agrees ending endings contains containsAny challengesFrom
 again-refused = refl
 
 pub successor-refused : opened (openingOn (openedIssued first) (Count 0) (incremented challenge)) .refusal ≡ 16
-unfolding opened openedIssued openRefusal spendRefusal badBuffer flatten over agrees ending endings holds meets challengesFrom
+unfolding opened openedIssued openRefusal spendRefusal badBuffer flatten over agrees ending endings contains containsAny challengesFrom
 successor-refused = refl

@@ -12,8 +12,8 @@ use lib.ListN.{length}
 use Rattle.octets.specs.Parts.{agrees}
 use Rattle.octets.proofs.Parts.{agrees-refl}
 use Rattle.credentials.specs.Credentials.{ntHashOf, responseOf, oldUnderNew, unsealedAs}
-use Rattle.packets.specs.Response.{responseIn}
-use Rattle.packets.specs.Change.{changeIn}
+use Rattle.packets.specs.Response.{readResponse}
+use Rattle.packets.specs.Change.{readChange}
 use Rattle.accounts.specs.Account.{found, Rightful}
 use Rattle.verify.specs.Response.{answers, valid}
 use Rattle.authenticator.specs.Judge.{validIn, newHashIn}
@@ -68,7 +68,7 @@ module _ (c : Conversation) (t : Turn) (h : InStep c t) (ph : c .phase ≡ Respo
         body = ap (λ (x : Phase). bodyRefusal x try) ph ∙ f .fit (omega arith);
       })
 
-  pub invalid-taken : (l : Lookup) → (l .found && validIn c (l .account) (responseIn try)) ≡ false → 0 < c .retries
+  pub invalid-taken : (l : Lookup) → (l .found && validIn c (l .account) (readResponse try)) ≡ false → 0 < c .retries
       → step c try l b ≡ judgedAs c (tryAgain c) b
   invalid-taken l v pos = invalid-law c try b try-passes l ph v pos
 
@@ -80,7 +80,7 @@ module _ (c : Conversation) (t : Turn) (h : InStep c t) (ph : c .phase ≡ Respo
         (ap₂ (λ (x y : List ℕ). agrees (responseOf (ntHashOf password) (t .challenge)) (responseOf x y)) (sym right) (h .challenge)
         ∙ agrees-refl (responseOf (ntHashOf password) (t .challenge)))
 
-    right-valid : validIn c a (responseIn try) ≡ true
+    right-valid : validIn c a (readResponse try) ≡ true
     unfolding valid
     right-valid =
         let f = responseFields (t .challenge) password in
@@ -115,7 +115,7 @@ module _ (c : Conversation) (t : Turn) (h : InStep c t) (ph : c .phase ≡ Chang
       })
 
   module _ (there : c .kept .nt .present ≡ true) (right : ntHashOf old ≡ c .kept .nt .octets) where
-    change-hash : newHashIn c (changeIn change) ≡ some (ntHashOf new)
+    change-hash : newHashIn c (readChange change) ≡ some (ntHashOf new)
     change-hash =
         let f = changeFields (t .challenge) old new filler in
         let inside : unsealedHash (unsealedAs (c .kept .nt .octets) (f .block)) ≡ some (ntHashOf new) =

@@ -12,7 +12,7 @@ use lib.ListN.{length, replicate}
 use Rattle.octets.specs.Digits.{hexOf}
 use Rattle.message.specs.Message.{textOf}
 use Rattle.packets.specs.Frame.{octet}
-use Rattle.packets.specs.Response.{responseIn, responseRefusal}
+use Rattle.packets.specs.Response.{readResponse, responseRefusal}
 use Rattle.packets.specs.Reply.{successPacket, failurePacket}
 use Rattle.accounts.specs.Account.{notFound, found}
 use Rattle.authenticator.specs.Encode.{replyPacket}
@@ -155,7 +155,7 @@ Expired c p =
 
 expired-first : (p : List ℕ) → Expired (firstConversation (opening Default)) p
 unfolding judge judgeResponse responseReason firstReason failurePacket textOf hexOf
-expired-first p = which (validIn (firstConversation (opening Default)) (account true) (responseIn p))
+expired-first p = which (validIn (firstConversation (opening Default)) (account true) (readResponse p))
   where
     c : Conversation
     c = firstConversation (opening Default)

@@ -9,7 +9,7 @@ use Prim.Native.Nat.{ℕ}
 use native.Mathlib.Omega.{arith}
 use lib.ListN.{replicate}
 use Rattle.octets.specs.Parts.{over, agrees}
-use Rattle.issued.specs.Issued.{holds, meets, ending, endings, emptyList, badBuffer, spendRefusal}
+use Rattle.issued.specs.Issued.{contains, containsAny, ending, endings, emptyList, badBuffer, spendRefusal}
 use Rattle.challenges.specs.Challenges.{incremented, challengesFrom}
 use Rattle.packets.specs.Response.{responseRefusal}
 use Rattle.accounts.specs.Account.{notFound}
@@ -32,7 +32,7 @@ use Rattle.series.proofs.Shared.{openingOn, challenge, first, six-place
 
 -- the first opening on an empty list needs nothing more
 first-openable : Openable first
-unfolding endings ending meets challengesFrom holds
+unfolding endings ending containsAny challengesFrom contains
 first-openable =
     record {
       eight = refl;
@@ -99,7 +99,7 @@ retrying-opens : opened (noRetries retrying) .refusal ≡ 0
 retrying-opens = may-open-empty (noRetries retrying) (omega arith) (omega arith) six-places refl refl (omega arith)
 
 following-opens : opened (noRetries following) .refusal ≡ 0
-unfolding opened openedIssued openRefusal spendRefusal badBuffer flatten over agrees ending endings holds meets challengesFrom
+unfolding opened openedIssued openRefusal spendRefusal badBuffer flatten over agrees ending endings contains containsAny challengesFrom
 following-opens = refl
 
 -- a Response that is lent no record: it draws 691 with R=1

@@ -12,7 +12,7 @@ use borrow.Author.Tests.{lt-ltb}
 use lib.ListN.{take, replicate}
 use Rattle.octets.specs.Parts.{agrees}
 use Rattle.message.specs.Message.{textOf}
-use Rattle.packets.specs.Frame.{octet, headed}
+use Rattle.packets.specs.Frame.{octet, writtenOver}
 use Rattle.packets.specs.Response.{responseRefusal}
 use Rattle.packets.specs.Reply.{successPacket, failurePacket}
 use Rattle.accounts.specs.Account.{found}
@@ -51,7 +51,7 @@ abbrev strays : Box → Conversation → ℕ
 strays box c = total (nextAfter box) (judged box) c (stray ∷ stray ∷ stray ∷ stray ∷ [])
 
 four-laid : strays (answeringRefused laysReply) first ≡ 4
-unfolding stepRefusal responseRefusal step judge judgeResponse responseReason firstReason failurePacket textOf headed agrees
+unfolding stepRefusal responseRefusal step judge judgeResponse responseReason firstReason failurePacket textOf writtenOver agrees
 four-laid = refl
 
 pub not-laying-replies : Demand3 (answeringRefused laysReply) ourWriter → ⊥

@@ -13,7 +13,7 @@ use Rattle.credentials.specs.Credentials.{ntHashOf}
 use Rattle.credentials.proofs.Laws.{length-response}
 use Rattle.message.specs.Message.{textOf}
 use Rattle.packets.specs.Frame.{octet}
-use Rattle.packets.specs.Response.{responsePacket, responseIn, responseWriteRefusal}
+use Rattle.packets.specs.Response.{responsePacket, readResponse, responseWriteRefusal}
 use Rattle.packets.specs.Reply.{failurePacket}
 use Rattle.packets.specs.declared.Response as fields
 use Rattle.packets.proofs.ReadBack.{response-back}
@@ -66,13 +66,13 @@ not-refusing-to-write n h =
 
 -- with the flag 0, where LM is not allowed, no Response draws Success: it is refused, or draws a
 -- Failure
-module _ (c : Conversation) (lm : c .terms .lm ≡ false) (ph : c .phase ≡ Response) (s : StepInput) (flag : responseIn (s .packet) .flag ≡ 0)
+module _ (c : Conversation) (lm : c .terms .lm ≡ false) (ph : c .phase ≡ Response) (s : StepInput) (flag : readResponse (s .packet) .flag ≡ 0)
     (room : 17 ≤ length (s .buffer)) where
-  not-valid : validIn c (s .account .account) (responseIn (s .packet)) ≡ false
+  not-valid : validIn c (s .account .account) (readResponse (s .packet)) ≡ false
   unfolding valid
   not-valid = simp (flag, lm)
 
-  found-not : (f : Bool) → (f && validIn c (s .account .account) (responseIn (s .packet))) ≡ false
+  found-not : (f : Bool) → (f && validIn c (s .account .account) (readResponse (s .packet))) ≡ false
   found-not true = not-valid
   found-not false = refl
 
@@ -109,7 +109,7 @@ not-asking-for-lm h =
     let nt = length-response (ntHashOf old) (p .peer .turn .challenge) in
     let long = writing.length-response (p .peer .turn .id) f user refl nt in
     let same = ap (λ (x : List ℕ). x ++ 9 ∷ []) (left-good 0 packet (replicate 55 0) refl (omega (arith, long))) in
-    let flag = ap (λ (x : List ℕ). responseIn x .flag) same
+    let flag = ap (λ (x : List ℕ). readResponse x .flag) same
     ∙ ap (λ (g : fields.Response). g .flag) (response-back (p .peer .turn .id) f user (9 ∷ []) refl nt (omega arith) (omega arith) .fields) in
     no-success (p .conversation) (ap (λ (c : Conversation). c .terms .lm) first-default) (ap (λ (c : Conversation). c .phase) first-default) s flag (omega arith)
     (ap (octet 0) (all .0 .0 .0 .0) ∙ success-code _)

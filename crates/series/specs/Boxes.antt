@@ -6,7 +6,7 @@ use mathlib.Core.Bool.{true, cond}
 use Prim.Native.Nat.{ℕ}
 use lib.Dec.{eqb, ltb}
 use Rattle.message.specs.Reasons.{noReason}
-use Rattle.packets.specs.Frame.{octet, headed}
+use Rattle.packets.specs.Frame.{octet, writtenOver}
 use Rattle.authenticator.specs.Encode.{replyPacket}
 use Rattle.accounts.specs.Account.{notFound, found}
 use Rattle.authenticator.specs.Conversation.{ended}
@@ -71,7 +71,7 @@ abbrev pub laysReply : Box
 laysReply c s =
     record {
       answer = refusedAs (refusalAt stepOn c s) c (s .buffer) .answer;
-      buffer = headed (replyPacket (c .id) (judge c (s .packet) (s .account) .reply)) (s .buffer);
+      buffer = writtenOver (replyPacket (c .id) (judge c (s .packet) (s .account) .reply)) (s .buffer);
     }
 
 -- hands out the record that was lent

@@ -8,7 +8,7 @@ use mathlib.Core.Option.{none, some}
 use mathlib.Core.Path.{_≡_}
 use Prim.Native.Nat.{ℕ, suc, _+_, _≤_, _<_}
 use lib.ListN.{length, getD, take}
-use Rattle.issued.specs.Issued.{Issued, places, listed, holds, meets, countsOf, badBuffer}
+use Rattle.issued.specs.Issued.{Issued, places, listed, contains, containsAny, countsOf, badBuffer}
 use Rattle.packets.specs.declared.Change.{Change}
 use Rattle.packets.specs.declared.Response.{Response}
 use Rattle.verify.specs.Response.{answers}
@@ -25,7 +25,7 @@ use Rattle.series.specs.Openers.{Opener}
 
 -- An opening is lent what the one before it left in the list, or more: nobody took an entry out. Its challenge has eight octets.
 pub record PassedOn (i : Issued) (o : Opening) : Type 0 where
-  pub kept : (x : List ℕ) → holds (listed 8 i) x ≡ true → holds (listed 8 (o .issued)) x ≡ true
+  pub kept : (x : List ℕ) → contains (listed 8 i) x ≡ true → contains (listed 8 (o .issued)) x ≡ true
   pub eight : length (o .challenge) ≡ 8
   pub octets : (k : ℕ) → getD (o .challenge) k 0 < 256
 
@@ -36,7 +36,7 @@ pub record Openable (o : Opening) : Type 0 where
   pub not2 : 17 ≤ length (o .buffer)
   pub buffer24 : badBuffer 8 (o .issued .buffer) (o .issued .used) ≡ false
   pub counts24 : o .issued .counts ≡ countsOf (listed 8 (o .issued))
-  pub not16 : meets (spends o) (listed 8 (o .issued)) ≡ false
+  pub not16 : containsAny (spends o) (listed 8 (o .issued)) ≡ false
   pub not17 : o .issued .used + suc (retriesOf (o .retries)) ≤ places 8 (o .issued .buffer)
 
 module _ (opener : Opener) where

@@ -7,11 +7,11 @@ use Prim.Native.Nat.{ℕ, _+_, _≤_}
 use lib.ListN.{length, take, replicate}
 use Rattle.credentials.specs.Credentials.{ntHashOf, badNtPassword, badFiller}
 use Rattle.message.specs.Reasons.{authenticationFailure, passwordExpired}
-use Rattle.message.specs.Message.{textOf, failedWith, noC, succeeded}
+use Rattle.message.specs.Message.{textOf, failedWith, noChallenge, succeeded}
 use Rattle.message.specs.declared.Reading.{Reading}
-use Rattle.packets.specs.Response.{badName, responseIn}
+use Rattle.packets.specs.Response.{badName, readResponse}
 use Rattle.packets.specs.Reply.{successPacket, failurePacket, readChallenge}
-use Rattle.packets.specs.declared.Asked.{Asked}
+use Rattle.packets.specs.declared.ChallengeFields.{ChallengeFields}
 use Rattle.accounts.specs.Account.{found, Rightful}
 use Rattle.authenticator.specs.Judge.{validIn}
 use Rattle.authenticator.specs.Opening.{Opening, retriesOf, opened, openedBuffer}
@@ -23,7 +23,7 @@ use Rattle.accounts.specs.declared.Lookup.{Lookup}
 use Rattle.authenticator.specs.declared.Conversation.{Conversation}
 use Rattle.authenticator.specs.declared.Phase.the-variants.{Ended}
 use Rattle.peer.specs.Write.{Wrote}
-use Rattle.peer.specs.Peer.{asked, sending, reads, receiving}
+use Rattle.peer.specs.Peer.{afterChallenge, afterWriting, peerReads, afterReply}
 use Rattle.peer.specs.declared.Peer.{Peer}
 use Rattle.peer.specs.declared.Turn.{Turn}
 use Rattle.series.specs.Course.{collect, end, Along, total}
@@ -75,11 +75,11 @@ pub record SeriesState : Type 0 where
   pub peer : Peer
 
 -- "Our peer reads the Challenge .. as the box wrote" it, with padding behind it
-abbrev pub challengeRead : Opening → List ℕ → Asked
+abbrev pub challengeRead : Opening → List ℕ → ChallengeFields
 challengeRead o behind = readChallenge (take (opened o .written) (openedBuffer o) ++ behind)
 
 abbrev pub start : Opening → List ℕ → SeriesState
-start o behind = record { conversation = opened o .conversation; peer = asked (challengeRead o behind) }
+start o behind = record { conversation = opened o .conversation; peer = afterChallenge (challengeRead o behind) }
 
 -- our peer "writes its next packet from" its turn
 abbrev pub writes : Writer → Turn → Packet → List ℕ → Wrote
@@ -126,11 +126,11 @@ Within (passwordChange o n f) l = ChangeWithin o n f l
 
 -- what a packet draws, octet for octet, and what our peer reads of it
 abbrev pub Draws : Exchange → List ℕ → Reading → Type 0
-Draws x reply reading = (replyOf (x .outcome) ≡ reply) × (reads (x .peer) (x .reply) ≡ reading)
+Draws x reply reading = (replyOf (x .outcome) ≡ reply) × (peerReads (x .peer) (x .reply) ≡ reading)
 
 -- a Failure that our box writes
 abbrev pub DrawsFailure : Exchange → ℕ → ℕ → ℕ → Type 0
-DrawsFailure x id e r = Draws x (failurePacket id (textOf e r version)) (failedWith e r version noC)
+DrawsFailure x id e r = Draws x (failurePacket id (textOf e r version)) (failedWith e r version noChallenge)
 
 abbrev pub DrawsSuccess : Exchange → ℕ → Type 0
 DrawsSuccess x id = Draws x (successPacket id) succeeded
@@ -143,7 +143,7 @@ carried box p w l =
       wrote = w;
       input = reaching w l;
       outcome = box (p .conversation) (reaching w l);
-      peer = sending (p .peer) (w .answer);
+      peer = afterWriting (p .peer) (w .answer);
       reply = replyOf (box (p .conversation) (reaching w l)) ++ l .replyPadding;
     }
 
@@ -154,7 +154,7 @@ module _ (box : Box) (writer : Writer) where
   -- where a step leads
   abbrev pub next : SeriesState → Step → SeriesState
   next p (ours t l) =
-      record { conversation = exchange p t l .outcome .answer .next; peer = receiving (exchange p t l .peer) (exchange p t l .reply) }
+      record { conversation = exchange p t l .outcome .answer .next; peer = afterReply (exchange p t l .peer) (exchange p t l .reply) }
   next p (other s) = record { conversation = nextAfter box (p .conversation) s; peer = p .peer }
 
   -- what a step is lent, and whether its packet is judged
@@ -169,7 +169,7 @@ module _ (box : Box) (writer : Writer) where
   -- is lent. The change is "written with the right password as the old one", and lent any record or none.
   abbrev pub Meant : Account → SeriesState → Packet → ExchangeInput → Type 0
   Meant a p (invalid w n) l =
-      l .account .found ≡ true → validIn (p .conversation) (l .account .account) (responseIn (exchange p (invalid w n) l .input .packet)) ≡ false
+      l .account .found ≡ true → validIn (p .conversation) (l .account .account) (readResponse (exchange p (invalid w n) l .input .packet)) ≡ false
   Meant a p (right w n) l = (ntHashOf w ≡ a .nt .octets) × (l .account ≡ found a)
   Meant a p (passwordChange o n f) l = ntHashOf o ≡ a .nt .octets
 

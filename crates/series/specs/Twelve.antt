@@ -10,7 +10,7 @@ use Rattle.credentials.specs.Credentials.{lengthIn, contentFor}
 use Rattle.credentials.specs.declared.Content.{Content}
 use Rattle.credentials.specs.declared.Content.the-variants.{Over, Odd, Password}
 use Rattle.message.specs.Message.{readMessage}
-use Rattle.message.specs.declared.Given.{Given}
+use Rattle.message.specs.declared.NewChallenge.{NewChallenge}
 use Rattle.message.specs.declared.Verdict.{Verdict}
 use Rattle.message.specs.declared.Verdict.the-variants.{Success, Failure, Refused}
 use Rattle.issued.specs.Issued.{emptyList}
@@ -62,10 +62,10 @@ held Odd = password none
 held (Password n) = password (some n)
 
 -- C, where it is given
-abbrev givenIn : Given → Option (List ℕ)
+abbrev givenIn : NewChallenge → Option (List ℕ)
 givenIn c = cond (c .given) (some (c .octets)) none
 
-abbrev readAs : Verdict → Given → Output
+abbrev readAs : Verdict → NewChallenge → Output
 readAs Success c = refusal 0
 readAs (Failure f) c = fields (f .e) (f .r) (givenIn c) (f .v)
 readAs (Refused n) c = refusal n

@@ -21,7 +21,7 @@ fn show_octets(octets: [u8; 8]) {
 }
 
 // The line of C: its digits, or '-' where it is not given.
-fn show_c(c: message::Given) {
+fn show_c(c: message::NewChallenge) {
     io::write_all(1, b"C ");
     if c.given {
         let octets = c.octets;

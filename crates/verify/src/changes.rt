@@ -7,7 +7,7 @@ ghost use mathlib.Core.Bool.{cond, _&&_};
 ghost use lib.Dec.{eqb};
 ghost use Prim.Native.Nat.{_-_, _%_, _≤_};
 ghost use Rattle.octets.specs.Parts.{part, agrees};
-ghost use Rattle.credentials.specs.Credentials.{ntHashOf, Sound};
+ghost use Rattle.credentials.specs.Credentials.{ntHashOf, ValidLength};
 ghost use Rattle.accounts.specs.Account.{noHash, hashOf, hashFrom};
 ghost use Rattle.verify.specs.Change.{unsealedHash, proves, newHash};
 use accounts::Account;
@@ -29,7 +29,7 @@ fn hash_of_last(octets: [u8; 512], n: usize) -> Hash
 
 // The hash of the password in an unsealed block, or none.
 fn unsealed_hash(unsealed: Unsealed) -> Hash
-    requires { ⌜ Sound (unsealed .content) ⌝ }
+    requires { ⌜ ValidLength (unsealed .content) ⌝ }
     ensures { λ r. ⌜ r ≡ hashFrom (unsealedHash unsealed) ⌝ }
 {
     let content = unsealed.content;

@@ -11,10 +11,10 @@ use borrow.Author.Needs.{needs}
 use lib.Dec.{ltb}
 use lib.ListN.{length, length-replicate}
 use Rattle.octets.specs.Parts.{agrees}
-use Rattle.issued.specs.Issued.{Issued, places, entriesIn, listed, meets, countsOf, untrue, full}
+use Rattle.issued.specs.Issued.{Issued, places, entriesIn, listed, containsAny, countsOf, badCounts, full}
 use Rattle.issued.proofs.Listing.{length-entries}
 use Rattle.issued.proofs.Counting.{counted, zeros-room}
-use Rattle.issued.proofs.Spending.{Sound, sound, places-fit}
+use Rattle.issued.proofs.Spending.{GoodList, sound, places-fit}
 use Rattle.issued.proofs.pass_refusal.Statement.{statement}
 use Rattle.issued.proofs.pass_refusal.Tie as tie
 
@@ -29,7 +29,7 @@ width c = c .args .width
 abbrev run : tie.Start → List ℕ
 run c = c .args .run .now
 
-fine : (c : tie.Start) → Sound (width c) (given c .buffer) (given c .used)
+fine : (c : tie.Start) → GoodList (width c) (given c .buffer) (given c .used)
 fine c = sound (width c) (given c .buffer) (given c .used) (c .pre)
 
 -- ---- the places, from the last to the first
@@ -77,11 +77,11 @@ is-full-requires c κs = let s = start (marked (c .before)) in (fine s .positive
 -- ---- the three tests
 
 met-told : (c : tie.After-agree)
-    → scanned (filled c) .scan .result ≡ meets (entriesIn (width (first c)) (run (first c))) (listed (width (first c)) (given (first c)))
+    → scanned (filled c) .scan .result ≡ containsAny (entriesIn (width (first c)) (run (first c))) (listed (width (first c)) (given (first c)))
 met-told c = scanned (filled c) .scan .ensures .0
 
-untrue-told : (c : tie.After-agree) → not (c .agree .result) ≡ untrue (width (first c)) (given (first c))
-untrue-told c =
+bad-counts-told : (c : tie.After-agree) → not (c .agree .result) ≡ badCounts (width (first c)) (given (first c))
+bad-counts-told c =
     let s = first c in
     let l = listed (width s) (given s) in
     ap not (c .agree .ensures ∙ ap (λ (x : List ℕ). agrees x (given s .counts)) (counted l (scanned (filled c) .scan .ensures .1)))
@@ -96,7 +96,7 @@ returns : tie.Need-returns
 returns c =
     let k = c .before .before .before in
     c .refuse-if3 .ensures
-    ∙ ap₂ (λ (b : Bool) (n : ℕ). cond b 24 n) (untrue-told k)
+    ∙ ap₂ (λ (b : Bool) (n : ℕ). cond b 24 n) (bad-counts-told k)
     (c .before .refuse-if2 .ensures
     ∙ ap₂ (λ (b : Bool) (n : ℕ). cond b 16 n) (met-told k)
     (c .before .before .refuse-if .ensures ∙ ap (λ (b : Bool). cond b 17 0) (full-told k)))

@@ -7,7 +7,7 @@ use Prim.Native.Nat.{ℕ}
 use lib.Dec.{lit<, lit≤}
 use borrow.Author.Needs.{needs}
 use Rattle.message.specs.declared.Place.{Place}
-use Rattle.message.specs.Message.{words, digitsOf, first, fieldE, fieldR, fieldV, fieldC, numberFrom, numberOr, givenAs}
+use Rattle.message.specs.Message.{words, digitsOf, firstField, fieldE, fieldR, fieldV, fieldC, numberFrom, numberOr, newChallengeFrom}
 use Rattle.message.specs.Inner.{ParsedFields, wordAt, digitsAt, IfSome, Small, Eight}
 use Rattle.message.proofs.Formed.{first-small, first-eight}
 use Rattle.message.proofs.judge.Statement.{statement}
@@ -37,8 +37,8 @@ number-or-requires-3 c κs =
     let here = sym (ap (λ (p : ParsedFields). p .v) (s .pre)) in
     (lit< tt, subst (SmallAt 10) here (first-small 86 10 1 10 ws (lit< tt) (lit≤ tt)))
 
-given-at-requires : tie.Need-given-at-requires
-given-at-requires c κs =
+new-challenge-at-requires : tie.Need-new-challenge-at-requires
+new-challenge-at-requires c κs =
     let s = c .before .before .before .before .before .before in
     let here = sym (ap (λ (p : ParsedFields). p .c) (s .pre)) in
     subst (IfSome Eight) here (first-eight (words (s .args .message .now)))
@@ -54,16 +54,16 @@ returns c =
     let ws = words m in
     let place = told .enum-told .given in
     let ds : List ℕ = digitsOf (wordAt m (place .0 .0)) in
-    let fe : first fieldE ws ≡ some ds =
+    let fe : firstField fieldE ws ≡ some ds =
     sym (ap (λ (p : ParsedFields). p .e) (s .pre)) ∙ ap (digitsAt m) (place .1) in
     let e : at-e .number-or .result ≡ numberFrom 10 0 ds =
     at-e .number-or .ensures ∙ ap (λ (p : Place). numberOr 10 0 (digitsAt m p)) (place .1) in
-    let r : at-r .number-or2 .result ≡ numberOr 2 0 (first fieldR ws) =
+    let r : at-r .number-or2 .result ≡ numberOr 2 0 (firstField fieldR ws) =
     at-r .number-or2 .ensures ∙ ap (λ (p : ParsedFields). numberOr 2 0 (p .r)) (s .pre) in
-    let v : at-v .number-or3 .result ≡ numberOr 10 1 (first fieldV ws) =
+    let v : at-v .number-or3 .result ≡ numberOr 10 1 (firstField fieldV ws) =
     at-v .number-or3 .ensures ∙ ap (λ (p : ParsedFields). numberOr 10 1 (p .v)) (s .pre) in
-    let g : c .before .given-at .result ≡ givenAs (first fieldC ws) =
-    c .before .given-at .ensures ∙ ap (λ (p : ParsedFields). givenAs (p .c)) (s .pre) in
+    let g : c .before .given-at .result ≡ newChallengeFrom (firstField fieldC ws) =
+    c .before .given-at .ensures ∙ ap (λ (p : ParsedFields). newChallengeFrom (p .c)) (s .pre) in
     rw fe (cc)
 
 returns-2 : tie.Need-returns-2
@@ -71,7 +71,7 @@ returns-2 c =
     let told = c .before in
     let s = told .before .before .before in
     let m = s .args .message .now in
-    let e : first fieldE (words m) ≡ none =
+    let e : firstField fieldE (words m) ≡ none =
     sym (ap (λ (p : ParsedFields). p .e) (s .pre)) ∙ ap (digitsAt m) (told .enum-told2 .given .1) in
     rw e (c .refused-with .ensures)
 
@@ -79,5 +79,5 @@ pub judge-spec : {M : Type 1} → statement M
 judge-spec =
     tie.close
     (tie.spec
-    (λ c. search needs) number-or-requires number-or-requires-2 number-or-requires-3 given-at-requires (λ c κs. search needs) (λ c. search needs)
+    (λ c. search needs) number-or-requires number-or-requires-2 number-or-requires-3 new-challenge-at-requires (λ c κs. search needs) (λ c. search needs)
     (λ c κs. search needs) returns returns-2)

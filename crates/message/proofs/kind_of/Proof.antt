@@ -3,16 +3,16 @@
 use mathlib.Core.Path.{sym, _∙_}
 use borrow.Author.Needs.{needs}
 use Rattle.message.specs.Message.{fieldOf}
-use Rattle.message.specs.Inner.{kindOf}
+use Rattle.message.specs.Inner.{wordKindOf}
 use Rattle.message.proofs.kind_of.Statement.{statement}
 use Rattle.message.proofs.kind_of.Tie as tie
 
 returns : tie.Need-returns
-unfolding kindOf fieldOf
+unfolding wordKindOf fieldOf
 returns c = rw (sym (c .before .is-field .ensures) ∙ c .if1 .taken)
 
 returns-2 : tie.Need-returns-2
-unfolding kindOf fieldOf
+unfolding wordKindOf fieldOf
 returns-2 c =
     let e = c .before .before in
     rw (
@@ -21,7 +21,7 @@ returns-2 c =
     )
 
 returns-3 : tie.Need-returns-3
-unfolding kindOf fieldOf
+unfolding wordKindOf fieldOf
 returns-3 c =
     let r = c .before .before in
     let e = r .before .before in
@@ -32,7 +32,7 @@ returns-3 c =
     )
 
 returns-4 : tie.Need-returns-4
-unfolding kindOf fieldOf
+unfolding wordKindOf fieldOf
 returns-4 c =
     let v = c .before .before in
     let r = v .before .before in
@@ -45,7 +45,7 @@ returns-4 c =
     )
 
 returns-5 : tie.Need-returns-5
-unfolding kindOf fieldOf
+unfolding wordKindOf fieldOf
 returns-5 c =
     let v = c .before .before in
     let r = v .before .before in

@@ -2,14 +2,14 @@
 -- Assumes nothing.
 use borrow.Author.Needs.{needs}
 use mathlib.Core.Path.{ap}
-use Rattle.message.specs.declared.Given.{Given}
+use Rattle.message.specs.declared.NewChallenge.{NewChallenge}
 use Rattle.message.specs.declared.Reading.{Reading}
 use Rattle.message.specs.declared.Verdict.the-variants.{Success}
 use Rattle.message.proofs.succeeded.Statement.{statement}
 use Rattle.message.proofs.succeeded.Tie as tie
 
 returns : tie.Need-returns
-returns c = ap (λ (x : Given). record { verdict = Success; c = x }) (c .no-c .ensures)
+returns c = ap (λ (x : NewChallenge). record { verdict = Success; c = x }) (c .no-c .ensures)
 
 pub succeeded-spec : {M : Type 1} → statement M
 succeeded-spec = tie.close (tie.spec (λ c κs. search needs) returns)

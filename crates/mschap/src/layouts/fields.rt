@@ -3,7 +3,7 @@ use crate::buffers::fill;
 use crate::layouts::records::flag;
 use message::Call;
 use message::Failed;
-use message::Given;
+use message::NewChallenge;
 use message::Reading;
 use message::Verdict;
 ghost use mathlib.Core.Path.{_≡_};
@@ -66,7 +66,7 @@ fn encode_verdict(verdict: Verdict) -> [u8; VERDICT_SIZE]
     }
 }
 
-fn encode_new_challenge(c: Given) -> [u8; NEW_CHALLENGE_SIZE]
+fn encode_new_challenge(c: NewChallenge) -> [u8; NEW_CHALLENGE_SIZE]
     ensures { λ r. ⌜ r ≡ encodeNewChallenge c ⌝ }
 {
     let mut bytes = [0u8; NEW_CHALLENGE_SIZE];

@@ -7,7 +7,7 @@ use mathlib.Core.Path.{_≡_, ap, _∙_}
 use Prim.Native.Nat.{ℕ}
 use Rattle.accounts.specs.Account.{found, hashFrom}
 use Rattle.accounts.specs.declared.Account.{Account}
-use Rattle.packets.specs.Change.{changeIn}
+use Rattle.packets.specs.Change.{readChange}
 use Rattle.packets.specs.declared.Change.{Change}
 use Rattle.verify.specs.Change.{newHash}
 use Rattle.authenticator.specs.Judge.{judgeChange}
@@ -23,7 +23,7 @@ abbrev self : tie.After-new-hash → Conversation
 self c = start c .args .self
 
 abbrev new : tie.After-new-hash → Option (List ℕ)
-new c = newHash (self c .kept) (self c .challenge) (changeIn (start c .args .packet .now))
+new c = newHash (self c .kept) (self c .challenge) (readChange (start c .args .packet .now))
 
 hash-told : (c : tie.After-new-hash) → c .new-hash .result ≡ hashFrom (new c)
 hash-told c =

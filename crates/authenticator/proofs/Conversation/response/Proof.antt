@@ -5,7 +5,7 @@ use mathlib.Core.Path.{_≡_, ap, _∙_}
 use Prim.Native.Nat.{ℕ}
 use Rattle.accounts.specs.declared.Lookup.{Lookup}
 use Rattle.packets.specs.declared.Response.{Response}
-use Rattle.packets.specs.Response.{responseIn}
+use Rattle.packets.specs.Response.{readResponse}
 use Rattle.verify.specs.Response.{responseReason}
 use Rattle.authenticator.specs.Judge.{judgementFor, judgeResponse}
 use Rattle.authenticator.specs.declared.Conversation.{Conversation}

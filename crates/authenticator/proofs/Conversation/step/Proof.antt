@@ -7,7 +7,7 @@ use mathlib.Core.Path.{_≡_, sym, ap, ap₂, _∙_}
 use Prim.Native.Nat.{ℕ}
 use lib.ListN.{length}
 use Rattle.accounts.specs.declared.Lookup.{Lookup}
-use Rattle.packets.specs.Frame.{headed}
+use Rattle.packets.specs.Frame.{writtenOver}
 use Rattle.authenticator.specs.Admit.{stepRefusal}
 use Rattle.authenticator.specs.Judge.{reasonOf, judge}
 use Rattle.authenticator.specs.Encode.{replyPacket}
@@ -77,7 +77,7 @@ returns-2 c =
     ∙ ap length same in (
       ap (λ (x : Judgement). answer x (w .write-reply .result) (e .reason-of .result)) (j .judge .ensures)
           ∙ ap₂ (answer judgement) written reason ∙ sym (ap (λ (o : Outcome). o .answer) whole),
-      w .write-reply .ensures .1 ∙ ap (λ (r : List ℕ). headed r b) same
+      w .write-reply .ensures .1 ∙ ap (λ (r : List ℕ). writtenOver r b) same
           ∙ sym (ap (λ (o : Outcome). o .buffer) whole),
       sym ok,
       reason ∙ sym (judged-reason (a .self) p (a .lookup) b ok),

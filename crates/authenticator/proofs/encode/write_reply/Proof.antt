@@ -6,7 +6,7 @@ use mathlib.Core.Path.{_≡_, sym, ap, _∙_}
 use Prim.Native.Nat.{ℕ}
 use lib.ListN.{length}
 use Rattle.message.specs.Message.{textOf}
-use Rattle.packets.specs.Frame.{headed, headedLength}
+use Rattle.packets.specs.Frame.{writtenOver, writtenLength}
 use Rattle.packets.specs.Reply.{failurePacket}
 use Rattle.authenticator.specs.Encode.{version, replyPacket}
 use Rattle.authenticator.specs.declared.Reply.{Reply}
@@ -15,10 +15,10 @@ use Rattle.authenticator.proofs.encode.write_reply.Tie as tie
 
 -- what was written is the packet of the reply
 same : (out : List ℕ) {n : ℕ} {packet reply after : List ℕ} → packet ≡ reply
-    → (n ≡ headedLength packet out) × (after ≡ headed packet out)
-    → (n ≡ headedLength reply out) × (after ≡ headed reply out)
+    → (n ≡ writtenLength packet out) × (after ≡ writtenOver packet out)
+    → (n ≡ writtenLength reply out) × (after ≡ writtenOver reply out)
 same out e w =
-    (w .0 ∙ ap (λ (x : List ℕ). headedLength x out) e, w .1 ∙ ap (λ (x : List ℕ). headed x out) e)
+    (w .0 ∙ ap (λ (x : List ℕ). writtenLength x out) e, w .1 ∙ ap (λ (x : List ℕ). writtenOver x out) e)
 
 returns : tie.Need-returns
 returns c =

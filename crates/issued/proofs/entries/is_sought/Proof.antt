@@ -6,7 +6,7 @@ use native.Mathlib.Omega.{arith}
 use borrow.Author.Needs.{needs}
 use borrow.Author.Tests.{not-true}
 use lib.ListN.{length}
-use Rattle.issued.proofs.Counting.{none-holds}
+use Rattle.issued.proofs.Counting.{none-contains}
 use Rattle.issued.proofs.entries.is_sought.Statement.{statement}
 use Rattle.issued.proofs.entries.is_sought.Tie as tie
 
@@ -21,7 +21,7 @@ shared-slice-read-if1 c =
 returns : tie.Need-returns
 returns c =
     let s = c .before .before .before .before .before .before in
-    sym (none-holds _ (s .args .entry .now) (s .pre .3 _ (not-true _ (c .if1 .taken))))
+    sym (none-contains _ (s .args .entry .now) (s .pre .3 _ (not-true _ (c .if1 .taken))))
 
 pub is-sought-spec : {M : Type 1} → statement M
 is-sought-spec =

@@ -9,7 +9,7 @@ use native.Mathlib.Omega.{arith}
 use borrow.Author.Needs.{needs}
 use lib.ListN.{length, take}
 use lib.Seq.{length-take-le}
-use Rattle.issued.specs.Issued.{entries, holds, meets}
+use Rattle.issued.specs.Issued.{entries, contains, containsAny}
 use Rattle.issued.specs.Inner.{raised, Marked}
 use Rattle.issued.proofs.Listing.{first-fits}
 use Rattle.issued.proofs.Counting.{Uncounted, raise-fits, raise-next, all-counted}
@@ -20,7 +20,7 @@ use Rattle.issued.proofs.entries.scan.Tie as tie
 abbrev Inv-loop : tie.InvT-loop
 Inv-loop buffer used width run n marks counts₀ met₀ rest₀ left₀ counts met rest left =
     Uncounted width counts rest left (raised counts₀ (entries width used buffer))
-    × ((met || meets (entries width n run) (entries width left rest)) ≡ meets (entries width n run) (entries width used buffer))
+    × ((met || containsAny (entries width n run) (entries width left rest)) ≡ containsAny (entries width n run) (entries width used buffer))
 
 abbrev μ-loop : tie.MeasureT-loop
 μ-loop buffer used width run n marks counts₀ met₀ rest₀ left₀ counts met rest left = left
@@ -93,7 +93,7 @@ loop-again c =
     let h = l .before .loop in
     let s = start (l .before) in
     let run = s .args .run .now in
-    let one = o .is-sought .ensures ∙ ap (λ (n : ℕ). holds (entries n (s .args .n) run) (take (width l) (rest l))) (first-length l) in (
+    let one = o .is-sought .ensures ∙ ap (λ (n : ℕ). contains (entries n (s .args .n) run) (take (width l) (rest l))) (first-length l) in (
       raise-next _ _ _ _ _ (omega arith) (h .inv .0) (k .raise .ensures),
       met-next (width l) (h .left) (rest l) (entries (width l) (s .args .n) run) (h .met) (omega arith) (e .either .ensures) one ∙ h .inv .1,
     )

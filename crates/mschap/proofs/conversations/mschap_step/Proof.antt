@@ -4,7 +4,7 @@ use mathlib.Core.Path.{_≡_, refl, sym, ap, ap₂, _∙_}
 use mathlib.Core.Bool.{Bool, true}
 use borrow.Author.Needs.{needs}
 use borrow.Author.Tests.{not-true, not-false}
-use Rattle.authenticator.specs.Step.{step, numberOf}
+use Rattle.authenticator.specs.Step.{step, verdictRefusal}
 use Rattle.authenticator.specs.declared.Conversation.{Conversation}
 use Rattle.authenticator.specs.declared.Lookup.{Lookup}
 use Rattle.mschap.specs.Conversations.{stepArguments, stepOf}

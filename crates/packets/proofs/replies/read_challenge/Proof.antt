@@ -10,8 +10,8 @@ use Rattle.octets.specs.Parts.{part, fixed}
 use Rattle.refusals.proofs.Answers.{refused-two, passed-two}
 use Rattle.packets.specs.Sizes.{challengeSize, challengeOffset}
 use Rattle.packets.specs.Frame.{octet, badFrame}
-use Rattle.packets.specs.Reply.{notAsked, badChallenge, readChallenge}
-use Rattle.packets.specs.declared.Asked.{Asked}
+use Rattle.packets.specs.Reply.{refusedChallenge, badChallenge, readChallenge}
+use Rattle.packets.specs.declared.ChallengeFields.{ChallengeFields}
 use Rattle.packets.proofs.Fields.{asked-same}
 use Rattle.packets.proofs.replies.read_challenge.Statement.{statement}
 use Rattle.packets.proofs.replies.read_challenge.Tie as tie
@@ -25,7 +25,7 @@ told : (c : tie.After-refuse-if2) → c .refuse-if2 .result ≡ cond (badFrame (
 told c = cc
 
 -- what is read where neither finds fault
-abbrev good : List ℕ → Asked
+abbrev good : List ℕ → ChallengeFields
 good p = record { refusal = 0; id = octet 1 p; challenge = fixed challengeSize (part challengeOffset challengeSize p) }
 
 -- ---- the answers
@@ -35,7 +35,7 @@ unfolding readChallenge
 returns c =
     let t = c .before .before in
     let p = packet t in
-    c .not-asked .ensures ∙ refused-two notAsked (good p) (badFrame p) 3 (badChallenge p) 11 (told t) (c .before .if1 .taken)
+    c .not-asked .ensures ∙ refused-two refusedChallenge (good p) (badFrame p) 3 (badChallenge p) 11 (told t) (c .before .if1 .taken)
 
 returns-2 : tie.Need-returns-2
 unfolding readChallenge
@@ -43,7 +43,7 @@ returns-2 c =
     let passed = c .before .before in
     let p = packet (passed .before) in
     asked-same refl (c .octet .ensures) (c .before .eight-at .ensures)
-    ∙ passed-two notAsked (good p) (badFrame p) 3 (badChallenge p) 11 (told (passed .before)) (omega arith) (omega arith) (passed .if1 .left)
+    ∙ passed-two refusedChallenge (good p) (badFrame p) 3 (badChallenge p) 11 (told (passed .before)) (omega arith) (omega arith) (passed .if1 .left)
 
 pub read-challenge-spec : {M : Type 1} → statement M
 read-challenge-spec =

@@ -9,7 +9,7 @@ use native.Mathlib.Omega.{arith}
 use lib.ListN.{length}
 use Rattle.octets.specs.Parts.{part}
 use Rattle.octets.proofs.Parts.{length-part}
-use Rattle.credentials.specs.Credentials.{ntHashOf, badNtPassword, hashed}
+use Rattle.credentials.specs.Credentials.{ntHashOf, badNtPassword, hashAnswer}
 use Rattle.credentials.specs.declared.Hashed.{Hashed}
 use Rattle.credentials.proofs.Laws.{small-even}
 use Rattle.accounts.specs.Account.{hashOf}
@@ -27,8 +27,8 @@ returns c =
     let n : length (a .args .t1) ≡ 512 = whole a in
     let size : length (part (512 - a .args .n) (a .args .n) (a .args .t1)) ≡ a .args .n = length-part (512 - a .args .n) (a .args .n) (a .args .t1) (omega (arith, a .pre)) in
     let good : badNtPassword (part (512 - a .args .n) (a .args .n) (a .args .t1)) ≡ false = small-even (part (512 - a .args .n) (a .args .n) (a .args .t1)) (omega (arith, size, a .pre)) (ap (λ (k : ℕ). k % 2) size ∙ a .pre .1) in
-    c .hash-of .ensures ∙ ap (λ (x : Hashed). hashOf (x .hash)) (h .nt-hash .ensures ∙ ap (λ (x : List ℕ). hashed (badNtPassword x) (ntHashOf x)) p)
-    ∙ ap (λ (b : Bool). hashOf (hashed b (ntHashOf (part (512 - a .args .n) (a .args .n) (a .args .t1))) .hash)) good
+    c .hash-of .ensures ∙ ap (λ (x : Hashed). hashOf (x .hash)) (h .nt-hash .ensures ∙ ap (λ (x : List ℕ). hashAnswer (badNtPassword x) (ntHashOf x)) p)
+    ∙ ap (λ (b : Bool). hashOf (hashAnswer b (ntHashOf (part (512 - a .args .n) (a .args .n) (a .args .t1))) .hash)) good
 
 pub hash-of-last-spec : {M : Type 1} → statement M
 hash-of-last-spec =

@@ -6,7 +6,7 @@ use mathlib.Core.Bool.{Bool, cond, _&&_}
 use mathlib.Core.Path.{_≡_, sym, ap, _∙_, subst}
 use Prim.Native.Nat.{_%_}
 use lib.Dec.{eqb}
-use Rattle.credentials.specs.Credentials.{Sound, unsealedAs}
+use Rattle.credentials.specs.Credentials.{ValidLength, unsealedAs}
 use Rattle.credentials.specs.declared.Unsealed.{Unsealed}
 use Rattle.credentials.proofs.Laws.{sound-unsealed}
 use Rattle.accounts.specs.Account.{noHash, hashFrom}
@@ -18,7 +18,7 @@ use Rattle.verify.proofs.changes.new_hash.Tie as tie
 
 unsealed-hash-requires : tie.Need-unsealed-hash-requires
 unsealed-hash-requires c κs =
-    subst Sound (ap (λ (o : Unsealed). o .content) (sym (c .unseal .ensures .0)))
+    subst ValidLength (ap (λ (o : Unsealed). o .content) (sym (c .unseal .ensures .0)))
     (sound-unsealed _ _)
 
 returns : tie.Need-returns

@@ -2,7 +2,7 @@
 -- Assumes nothing.
 use borrow.Author.Needs.{needs}
 use mathlib.Core.Path.{sym, ap, _∙_, subst}
-use Rattle.credentials.specs.Credentials.{Sound, passwordIn}
+use Rattle.credentials.specs.Credentials.{ValidLength, passwordIn}
 use Rattle.credentials.specs.declared.Content.{Content}
 use Rattle.verify.specs.Change.{contentHash}
 use Rattle.accounts.specs.Account.{hashFrom}
@@ -10,7 +10,7 @@ use Rattle.verify.proofs.changes.unsealed_hash.Statement.{statement}
 use Rattle.verify.proofs.changes.unsealed_hash.Tie as tie
 
 hash-of-last-requires : tie.Need-hash-of-last-requires
-hash-of-last-requires c κs = subst Sound (c .before .content .given .1) (c .before .before .before .before .pre)
+hash-of-last-requires c κs = subst ValidLength (c .before .content .given .1) (c .before .before .before .before .pre)
 
 returns-3 : tie.Need-returns-3
 unfolding passwordIn

@@ -1,12 +1,12 @@
--- `packets::names::is_unfit` meets its contract.
+-- `packets::names::is_bad_response` meets its contract.
 -- Assumes nothing.
 use mathlib.Core.Path.{sym, _∙_}
 use native.Mathlib.Omega.{arith}
 use borrow.Author.Tests.{eq-eqb, ne-eqb}
 use borrow.Author.Needs.{needs}
 use Rattle.packets.specs.Frame.{octet}
-use Rattle.packets.proofs.names.is_unfit.Statement.{statement}
-use Rattle.packets.proofs.names.is_unfit.Tie as tie
+use Rattle.packets.proofs.names.is_bad_response.Statement.{statement}
+use Rattle.packets.proofs.names.is_bad_response.Tie as tie
 
 returns : tie.Need-returns
 returns c = simp (sym (c .before .bad-frame .ensures) ∙ c .if1 .taken, c .if1 .taken)
@@ -40,8 +40,8 @@ returns-4 c =
       c .bad-flag .ensures,
     )
 
-pub is-unfit-spec : {M : Type 1} → statement M
-is-unfit-spec =
+pub is-bad-response-spec : {M : Type 1} → statement M
+is-bad-response-spec =
     tie.close
     (tie.spec
     (λ c κs. search needs) (λ c κs. search needs) (λ c κs. search needs) (λ c κs. search needs) returns returns-2 returns-3 returns-4)

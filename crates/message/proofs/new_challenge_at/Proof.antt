@@ -1,11 +1,11 @@
--- `message::given_at` meets its contract.
+-- `message::new_challenge_at` meets its contract.
 -- Assumes nothing.
 use mathlib.Core.Path.{subst}
 use borrow.Author.Needs.{needs}
 use Rattle.message.specs.Inner.{IfSome, Eight}
 use Rattle.message.proofs.Formed.{found}
-use Rattle.message.proofs.given_at.Statement.{statement}
-use Rattle.message.proofs.given_at.Tie as tie
+use Rattle.message.proofs.new_challenge_at.Statement.{statement}
+use Rattle.message.proofs.new_challenge_at.Tie as tie
 
 octets-of-requires : tie.Need-octets-of-requires
 octets-of-requires c κs =
@@ -27,8 +27,8 @@ returns c =
 returns-2 : tie.Need-returns-2
 returns-2 c = rw (c .before .enum-told .given .1) (c .no-c .ensures)
 
-pub given-at-spec : {M : Type 1} → statement M
-given-at-spec =
+pub new-challenge-at-spec : {M : Type 1} → statement M
+new-challenge-at-spec =
     tie.close
     (tie.spec
     (λ c. search needs) (λ c. search needs) (λ c κs. search needs) (λ c κs. search needs)

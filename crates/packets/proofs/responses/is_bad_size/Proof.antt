@@ -1,4 +1,4 @@
--- `packets::responses::bad_size` meets its contract.
+-- `packets::responses::is_bad_size` meets its contract.
 -- Assumes nothing.
 use native.Mathlib.Omega.{arith}
 use borrow.Author.Tests.{lt-ltb, le-ltb}
@@ -6,8 +6,8 @@ use borrow.Author.Needs.{needs}
 use lib.ListN.{length}
 use Rattle.packets.specs.Sizes.{shortestResponse, longestResponse}
 use Rattle.packets.specs.Frame.{octet, lengthOf}
-use Rattle.packets.proofs.responses.bad_size.Statement.{statement}
-use Rattle.packets.proofs.responses.bad_size.Tie as tie
+use Rattle.packets.proofs.responses.is_bad_size.Statement.{statement}
+use Rattle.packets.proofs.responses.is_bad_size.Tie as tie
 
 returns : tie.Need-returns
 returns c =
@@ -23,5 +23,5 @@ returns-3 c =
     let p = c .before .before .before .before .before .args .packet .now in
     simp (le-ltb (lengthOf p) shortestResponse (omega arith), le-ltb longestResponse (lengthOf p) (omega arith), c .before .before .octet .ensures)
 
-pub bad-size-spec : {M : Type 1} → statement M
-bad-size-spec = tie.close (tie.spec (λ c κs. search needs) (λ c κs. search needs) (λ c. search needs) returns returns-2 returns-3)
+pub is-bad-size-spec : {M : Type 1} → statement M
+is-bad-size-spec = tie.close (tie.spec (λ c κs. search needs) (λ c κs. search needs) (λ c. search needs) returns returns-2 returns-3)

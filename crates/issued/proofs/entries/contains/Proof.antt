@@ -1,4 +1,4 @@
--- `issued::entries::holds` meets its contract. The loop's invariant: the entry stands among those
+-- `issued::entries::contains` meets its contract. The loop's invariant: the entry stands among those
 -- that are left exactly where it stands among all.
 -- Assumes nothing.
 use mathlib.Core.Bool.{Bool, true, false, _||_}
@@ -10,30 +10,30 @@ use borrow.Author.Needs.{needs}
 use lib.ListN.{length, take, drop}
 use lib.Seq.{length-take-le}
 use Rattle.octets.specs.Parts.{agrees}
-use Rattle.issued.specs.Issued.{entries, holds}
+use Rattle.issued.specs.Issued.{entries, contains}
 use Rattle.issued.proofs.Listing.{Lie, entries-next, rest-part, first-fits, rest-lies}
-use Rattle.issued.proofs.entries.holds.Statement.{statement}
-use Rattle.issued.proofs.entries.holds.Tie as tie
+use Rattle.issued.proofs.entries.contains.Statement.{statement}
+use Rattle.issued.proofs.entries.contains.Tie as tie
 
 abbrev Inv-loop : tie.InvT-loop
 Inv-loop run n entry width rest₀ left₀ rest left =
-    (width ≡ length entry) × Lie width rest left × (holds (entries width left rest) entry ≡ holds (entries width n run) entry)
+    (width ≡ length entry) × Lie width rest left × (contains (entries width left rest) entry ≡ contains (entries width n run) entry)
 
 abbrev μ-loop : tie.MeasureT-loop
 μ-loop run n entry width rest₀ left₀ rest left = left
 
 -- the first that is left is the entry, or it stands behind that one
-found : (w n : ℕ) (l e : List ℕ) → 0 < n → agrees (take w l) e ≡ true → true ≡ holds (entries w n l) e
-unfolding holds
-found w n l e h a = sym (ap (λ (es : List (List ℕ)). holds es e) (entries-next w n l h) ∙ ap (λ (t : Bool). t || holds (entries w (n - 1) (drop w l)) e) a)
+found : (w n : ℕ) (l e : List ℕ) → 0 < n → agrees (take w l) e ≡ true → true ≡ contains (entries w n l) e
+unfolding contains
+found w n l e h a = sym (ap (λ (es : List (List ℕ)). contains es e) (entries-next w n l h) ∙ ap (λ (t : Bool). t || contains (entries w (n - 1) (drop w l)) e) a)
 
-passed : (w n : ℕ) (l e : List ℕ) → 0 < n → agrees (take w l) e ≡ false → holds (entries w (n - 1) (drop w l)) e ≡ holds (entries w n l) e
-unfolding holds
-passed w n l e h a = sym (ap (λ (es : List (List ℕ)). holds es e) (entries-next w n l h) ∙ ap (λ (t : Bool). t || holds (entries w (n - 1) (drop w l)) e) a)
+passed : (w n : ℕ) (l e : List ℕ) → 0 < n → agrees (take w l) e ≡ false → contains (entries w (n - 1) (drop w l)) e ≡ contains (entries w n l) e
+unfolding contains
+passed w n l e h a = sym (ap (λ (es : List (List ℕ)). contains es e) (entries-next w n l h) ∙ ap (λ (t : Bool). t || contains (entries w (n - 1) (drop w l)) e) a)
 
-none : (w n : ℕ) (l e : List ℕ) → n ≡ 0 → false ≡ holds (entries w n l) e
-unfolding holds
-none w n l e z = ap (λ (k : ℕ). holds (entries w k l) e) (sym z)
+none : (w n : ℕ) (l e : List ℕ) → n ≡ 0 → false ≡ contains (entries w n l) e
+unfolding contains
+none w n l e z = ap (λ (k : ℕ). contains (entries w k l) e) (sym z)
 
 returns : tie.Need-returns Inv-loop μ-loop
 returns c =
@@ -50,7 +50,7 @@ loop-again c =
     let l = h .loop .rest .now in (
       refl,
       rest-lies w l (h .loop .left) (omega arith) (h .loop .inv .1),
-      ap (λ (m : List ℕ). holds (entries w (h .loop .left - 1) m) (s .args .entry .now)) (rest-part w l)
+      ap (λ (m : List ℕ). contains (entries w (h .loop .left - 1) m) (s .args .entry .now)) (rest-part w l)
           ∙ passed w (h .loop .left) l (s .args .entry .now) (omega arith) (sym (c .before .before .agree .ensures) ∙ c .before .if1 .left) ∙ h .loop .inv .2,
     )
 
@@ -71,8 +71,8 @@ sub-rest c = first-fits _ _ _ (omega arith) (c .before .before .before .before .
 part-rest-start : tie.Need-part-rest-start Inv-loop μ-loop
 part-rest-start c = first-fits _ _ _ (omega arith) (c .before .before .before .before .loop .inv .1)
 
-pub holds-spec : {M : Type 1} → statement M
-holds-spec =
+pub contains-spec : {M : Type 1} → statement M
+contains-spec =
     tie.close
     (tie.spec
     Inv-loop μ-loop (λ c. (refl, record { positive = c .before .before .pre .0; fits = c .before .before .pre .1 }, refl)) slice-aggregate-agree (λ c κs. search needs) returns sub-rest part-rest-start
