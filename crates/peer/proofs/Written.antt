@@ -8,7 +8,7 @@ use mathlib.Core.Logic.{_≢_}
 use Prim.Native.Nat.{ℕ}
 use native.Mathlib.Omega.{arith}
 use Rattle.refusals.proofs.Answers.{refused-two, passed-two, both-passed}
-use Rattle.credentials.specs.Credentials.{ntHashOf, badNtPassword, badFiller, hashed, ntHashed, sealedBlock, sealedAs}
+use Rattle.credentials.specs.Credentials.{ntHashOf, badNtPassword, badFiller, hashAnswer, ntHashed, sealedBlock, sealedAs}
 use Rattle.credentials.specs.declared.Hashed.{Hashed}
 use Rattle.credentials.specs.declared.Sealed.{Sealed}
 use Rattle.credentials.proofs.Laws.{sealed-good}
@@ -25,7 +25,7 @@ use Rattle.peer.specs.Write.{responseFields, changeFields, responseFor, 
 -- ---- what a hash and a seal give where they are not refused
 
 pub hash-given : (password : List ℕ) {r : Hashed} → badNtPassword password ≡ false → r ≡ ntHashed password → r .hash ≡ ntHashOf password
-hash-given password good e = ap (λ (x : Hashed). x .hash) e ∙ ap (λ (b : Bool). hashed b (ntHashOf password) .hash) good
+hash-given password good e = ap (λ (x : Hashed). x .hash) e ∙ ap (λ (b : Bool). hashAnswer b (ntHashOf password) .hash) good
 
 pub block-given : (old new filler : List ℕ) {r : Sealed} → badNtPassword new ≡ false → badFiller filler ≡ false → r ≡ sealedAs old new filler
     → r .block ≡ sealedBlock old filler new

@@ -49,9 +49,9 @@ in-text-below t = and 1 in-text-kinds.ps (falls 1 in-text-kinds.ps _<_ μ-in-tex
 -- what it asks of its callees and learns from them
 abbrev field-calls : ℕ → in-field-lts.Claims
 field-calls t = (
-  word-at-reads.ChallengeFields,
+  word-at-reads.Asked,
   word-at-reads.Learnt,
-  note-reads.ChallengeFields,
+  note-reads.Asked,
   note-reads.Learnt,
   in-text-below t,
   in-text.Post,
@@ -97,9 +97,9 @@ field-returns t c =
 
 abbrev text-calls : ℕ → in-text-lts.Claims
 text-calls t = (
-  word-at-reads.ChallengeFields,
+  word-at-reads.Asked,
   word-at-reads.Learnt,
-  is-new-reads.ChallengeFields,
+  is-new-reads.Asked,
   is-new-reads.Learnt,
   in-field-below t,
   in-field.Post,

@@ -62,8 +62,8 @@ returns c =
     at-r .number-or2 .ensures ∙ ap (λ (p : ParsedFields). numberOr 2 0 (p .r)) (s .pre) in
     let v : at-v .number-or3 .result ≡ numberOr 10 1 (firstField fieldV ws) =
     at-v .number-or3 .ensures ∙ ap (λ (p : ParsedFields). numberOr 10 1 (p .v)) (s .pre) in
-    let g : c .before .given-at .result ≡ newChallengeFrom (firstField fieldC ws) =
-    c .before .given-at .ensures ∙ ap (λ (p : ParsedFields). newChallengeFrom (p .c)) (s .pre) in
+    let g : c .before .new-challenge-at .result ≡ newChallengeFrom (firstField fieldC ws) =
+    c .before .new-challenge-at .ensures ∙ ap (λ (p : ParsedFields). newChallengeFrom (p .c)) (s .pre) in
     rw fe (cc)
 
 returns-2 : tie.Need-returns-2

@@ -25,7 +25,7 @@ returns c =
     rw here (cc)
 
 returns-2 : tie.Need-returns-2
-returns-2 c = rw (c .before .enum-told .given .1) (c .no-c .ensures)
+returns-2 c = rw (c .before .enum-told .given .1) (c .no-challenge .ensures)
 
 pub new-challenge-at-spec : {M : Type 1} → statement M
 new-challenge-at-spec =

@@ -12,19 +12,19 @@ use Rattle.packets.proofs.names.account_part.Tie as tie
 returns : tie.Need-returns
 returns c =
     c .no-part .ensures
-    ∙ part-unfit (c .before .before .before .before .args .packet .now) (sym (c .before .before .is-unfit .ensures) ∙ c .before .if1 .taken) .1
+    ∙ part-unfit (c .before .before .before .before .args .packet .now) (sym (c .before .before .is-bad-response .ensures) ∙ c .before .if1 .taken) .1
 
 returns-2 : tie.Need-returns-2
 returns-2 c =
     let p = c .before .before .before .before .before .before .before .args .packet .now in
-    let u = sym (c .before .before .before .before .before .is-unfit .ensures) ∙ c .before .before .before .before .if1 .left in
+    let u = sym (c .before .before .before .before .before .is-bad-response .ensures) ∙ c .before .before .before .before .if1 .left in
     let e = c .before .before .before .name .ensures in
     c .part-from .ensures ∙ part-split p u (c .before .before .split-at .ensures ∙ ap place e) (omega (arith, ap length e)) .1
 
 returns-3 : tie.Need-returns-3
 returns-3 c =
     let p = c .before .before .before .before .before .before .before .args .packet .now in
-    let u = sym (c .before .before .before .before .before .is-unfit .ensures) ∙ c .before .before .before .before .if1 .left in
+    let u = sym (c .before .before .before .before .before .is-bad-response .ensures) ∙ c .before .before .before .before .if1 .left in
     let e = c .before .before .before .name .ensures in
     c .part-from2 .ensures ∙ part-whole p u (c .before .before .split-at .ensures ∙ ap place e) (omega (arith, ap length e)) .1
 

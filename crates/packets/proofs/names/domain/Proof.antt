@@ -10,12 +10,12 @@ use Rattle.packets.proofs.names.domain.Tie as tie
 returns : tie.Need-returns
 returns c =
     let a = c .before .before .before .before .before .args in
-    c .part-of .ensures ∙ sym (domain-unfit (a .packet .now) (a .home .now) (sym (c .before .before .is-unfit .ensures) ∙ c .before .if1 .taken))
+    c .part-of .ensures ∙ sym (domain-unfit (a .packet .now) (a .home .now) (sym (c .before .before .is-bad-response .ensures) ∙ c .before .if1 .taken))
 
 returns-2 : tie.Need-returns-2
 returns-2 c =
     let a = c .before .before .before .before .before .before .before .args in
-    let u = sym (c .before .before .before .before .is-unfit .ensures) ∙ c .before .before .before .if1 .left in
+    let u = sym (c .before .before .before .before .is-bad-response .ensures) ∙ c .before .before .before .if1 .left in
     sym (domain-home (a .packet .now) (a .home .now) u (ap (λ (r : Part). r .offset) (sym (c .before .before .domain-part .ensures)) ∙ c .if2 .taken))
 
 returns-3 : tie.Need-returns-3

@@ -9,14 +9,14 @@ use Rattle.packets.proofs.names.is_bad_response.Statement.{statement}
 use Rattle.packets.proofs.names.is_bad_response.Tie as tie
 
 returns : tie.Need-returns
-returns c = simp (sym (c .before .bad-frame .ensures) ∙ c .if1 .taken, c .if1 .taken)
+returns c = simp (sym (c .before .is-bad-frame .ensures) ∙ c .if1 .taken, c .if1 .taken)
 
 returns-2 : tie.Need-returns-2
 returns-2 c =
     let p = c .before .before .before .before .before .args .packet .now in
     simp (
       c .before .before .before .octet .ensures,
-      sym (c .before .before .bad-frame .ensures) ∙ c .before .if1 .left,
+      sym (c .before .before .is-bad-frame .ensures) ∙ c .before .if1 .left,
       ne-eqb (octet 0 p) 2 (omega arith),
     )
 
@@ -24,9 +24,9 @@ returns-3 : tie.Need-returns-3
 returns-3 c =
     let p = c .before .before .before .before .before .before .before .args .packet .now in
     simp (
-      sym (c .before .before .before .before .bad-frame .ensures) ∙ c .before .before .before .if1 .left,
+      sym (c .before .before .before .before .is-bad-frame .ensures) ∙ c .before .before .before .if1 .left,
       eq-eqb (octet 0 p) 2 (omega arith),
-      sym (c .before .bad-size .ensures) ∙ c .if3 .taken,
+      sym (c .before .is-bad-size .ensures) ∙ c .if3 .taken,
       c .if3 .taken,
     )
 
@@ -34,10 +34,10 @@ returns-4 : tie.Need-returns-4
 returns-4 c =
     let p = c .before .before .before .before .before .before .before .before .args .packet .now in
     simp (
-      sym (c .before .before .before .before .before .bad-frame .ensures) ∙ c .before .before .before .before .if1 .left,
+      sym (c .before .before .before .before .before .is-bad-frame .ensures) ∙ c .before .before .before .before .if1 .left,
       eq-eqb (octet 0 p) 2 (omega arith),
-      sym (c .before .before .bad-size .ensures) ∙ c .before .if3 .left,
-      c .bad-flag .ensures,
+      sym (c .before .before .is-bad-size .ensures) ∙ c .before .if3 .left,
+      c .is-bad-flag .ensures,
     )
 
 pub is-bad-response-spec : {M : Type 1} → statement M

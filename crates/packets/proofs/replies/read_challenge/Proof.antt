@@ -35,7 +35,7 @@ unfolding readChallenge
 returns c =
     let t = c .before .before in
     let p = packet t in
-    c .not-asked .ensures ∙ refused-two refusedChallenge (good p) (badFrame p) 3 (badChallenge p) 11 (told t) (c .before .if1 .taken)
+    c .refused-challenge .ensures ∙ refused-two refusedChallenge (good p) (badFrame p) 3 (badChallenge p) 11 (told t) (c .before .if1 .taken)
 
 returns-2 : tie.Need-returns-2
 unfolding readChallenge
