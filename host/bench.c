@@ -1,6 +1,7 @@
 /*
- * How long the library takes, next to OpenSSL's libcrypto where its headers are installed (HAVE_OPENSSL): medians of interleaved batches.
- * Exit status 1 where the two do not give the same octets, or a call is not answered as it should be. tests/bench.sh compiles and runs it.
+ * How long the library takes, next to OpenSSL's libcrypto where its headers are installed
+ * (HAVE_OPENSSL): medians of interleaved batches. Exit status 1 where the two do not give the same
+ * bytes, or a call is not answered as it should be. tests/bench.sh compiles and runs it.
  */
 #define _XOPEN_SOURCE 700 /* clock_gettime, which C11 alone hides */
 
@@ -18,8 +19,9 @@
 #endif
 
 #define ROUNDS 201
-#define BATCH_NS 2.5e5 /* well under the slice of a scheduler: few batches are broken into, and the median leaves those out */
-#define CHAINED 100 /* calls in a row for the comparison of octets */
+/* well under the slice of a scheduler: few batches are broken into; the median leaves them out */
+#define BATCH_NS 2.5e5
+#define CHAINED 100 /* calls in a row for the comparison of bytes */
 #define LONGEST 4096
 #define STREAM 516
 #define PASSWORD 20
@@ -28,10 +30,10 @@
 #define HALF (MSCHAP_LIST_PLACES / 2)
 #define NEARLY (MSCHAP_LIST_PLACES - SPENT) /* used places that leave room for one opening */
 #define FEW 8
-#define MESSAGE 256 /* octets, the longest that is read */
+#define MESSAGE 256 /* bytes, the longest that is read */
 
-/* What a batch works on. Every call takes its input from the output of the call before: so none can be dropped, no two can overlap, and one
-   wrong octet shows in all that follows. */
+/* What a batch works on. Every call takes its input from the output of the call before: so none can
+   be dropped, no two can overlap, and one wrong byte shows in all that follows. */
 struct work {
     uint8_t octets[LONGEST];
     uint8_t key[16];
@@ -52,11 +54,11 @@ struct judged {
 
 static struct judged response, wrong_response, unknown, change;
 
-/* An opening, with the list that it is lent. */
+/* An opening, with the list that is passed to it. */
 struct opening {
     uint8_t challenge[MSCHAP_CHALLENGE_SIZE];
     uint8_t list[MSCHAP_LIST_PLACES * MSCHAP_CHALLENGE_SIZE];
-    size_t places; /* how many of them are lent */
+    size_t places; /* how many of them are passed */
     size_t used;
     uint16_t counts[MSCHAP_COUNTS_SIZE];
     uint32_t answer; /* the one that is expected */
@@ -101,7 +103,8 @@ static void our_answer(struct work *w, long calls)
 {
     uint8_t out[24];
     while (calls-- > 0) {
-        w->wrong |= mschap_challenge_response(w->key, sizeof w->key, w->challenge, 8, out, sizeof out);
+        w->wrong |= mschap_challenge_response(w->key, sizeof w->key, w->challenge, 8, out,
+                                              sizeof out);
         memcpy(w->key, out, 16);
         memcpy(w->challenge, out + 16, 8);
     }
@@ -118,15 +121,17 @@ static void our_hash_and_answer(struct work *w, long calls)
     }
 }
 
-/* A judged packet ends or changes its conversation, so each call starts from a copy. The identifier is the reply's plus 1: it is the one part of
-   the input that may follow the output while the verdict stays the same. */
+/* A judged packet ends or changes its conversation, so each call starts from a copy. The identifier
+   is the reply's plus 1: it is the one part of the input that may follow the output while the
+   verdict stays the same. */
 static void judge(struct judged *j, struct work *w, long calls)
 {
     uint8_t conversation[MSCHAP_CONVERSATION_SIZE];
     while (calls-- > 0) {
         memcpy(conversation, j->conversation, sizeof conversation);
         conversation[2] = j->packet[1] = (uint8_t)(j->reply[1] + 1);
-        w->wrong |= mschap_step(conversation, sizeof conversation, j->packet, j->size, j->record, sizeof j->record,
+        w->wrong |= mschap_step(conversation, sizeof conversation, j->packet, j->size, j->record,
+                                sizeof j->record,
                                 j->reply, sizeof j->reply, j->handed, sizeof j->handed);
         w->wrong |= j->reply[0] != j->code;
     }
@@ -152,14 +157,17 @@ static void our_change(struct work *w, long calls)
     judge(&change, w, calls);
 }
 
-/* Every call finds as many used places as the first: what an accepted opening adds is taken back. Its identifier follows from the call before. */
+/* Every call finds as many used places as the first: what an accepted opening adds is taken back.
+   Its identifier follows from the call before. */
 static void open_again(struct opening *o, struct work *w, long calls)
 {
     uint32_t answer = 0;
     while (calls-- > 0) {
         size_t used = o->used;
-        answer = mschap_open((uint8_t)(o->reply[1] + 1 + answer), o->challenge, sizeof o->challenge, RETRIES, 1,
-                             o->list, o->places * MSCHAP_CHALLENGE_SIZE, &used, o->counts, MSCHAP_COUNTS_SIZE,
+        answer = mschap_open((uint8_t)(o->reply[1] + 1 + answer), o->challenge, sizeof o->challenge,
+                             RETRIES, 1,
+                             o->list, o->places * MSCHAP_CHALLENGE_SIZE, &used, o->counts,
+                                 MSCHAP_COUNTS_SIZE,
                              o->conversation, sizeof o->conversation, o->reply, sizeof o->reply);
         w->wrong |= answer != o->answer;
         w->wrong |= used != o->used + (answer == MSCHAP_OK ? SPENT : 0);
@@ -208,7 +216,8 @@ static void read_failure(struct work *w, long calls)
     memcpy(packet + 4, "E=691 R=1 V=2 ", 14);
     while (calls-- > 0) {
         peer[1] = packet[1];
-        w->wrong |= mschap_read_reply(peer, sizeof peer, packet, sizeof packet, fields, sizeof fields);
+        w->wrong |= mschap_read_reply(peer, sizeof peer, packet, sizeof packet, fields,
+                                      sizeof fields);
         w->wrong |= fields[8] != 691 >> 8;
         packet[1] = (uint8_t)(packet[1] + fields[9]);
     }
@@ -227,7 +236,8 @@ static void their_md4(struct work *w, long calls)
     }
 }
 
-/* libcrypto takes a key of 8 octets, with a parity bit in each that it ignores: spreading the 7 is part of what a caller pays. */
+/* libcrypto takes a key of 8 bytes, with a parity bit in each that it ignores: spreading the 7 is
+   part of what a caller pays. */
 static void their_block(const uint8_t *key, uint8_t *block, uint8_t *out)
 {
     DES_cblock spread;
@@ -309,7 +319,8 @@ static struct line {
     {.what = "DES block, fresh key", .run = {our_des, THEIRS(their_des)}},
     {.what = "RC4 key and 516 octets", .run = {our_rc4, THEIRS(their_rc4)}},
     {.what = "challenge response", .run = {our_answer, THEIRS(their_answer)}},
-    {.what = "NT hash, challenge response", .run = {our_hash_and_answer, THEIRS(their_hash_and_answer)}},
+    {.what = "NT hash, challenge response", .run = {our_hash_and_answer,
+                                                    THEIRS(their_hash_and_answer)}},
     {.what = "judged Response", .run = {our_response, NULL}},
     {.what = "judged Response, wrong", .run = {our_wrong_response, NULL}},
     {.what = "judged Response, no record", .run = {our_unknown, NULL}},
@@ -381,10 +392,12 @@ static double median(double *ns)
     return ns[ROUNDS / 2];
 }
 
-/* A conversation up to each of the packets, by the library's own peer. Returns 0 where all could be made. */
+/* A conversation up to each of the packets, by the library's own peer. Returns 0 where all could be
+   made. */
 static uint32_t prepare(const struct work *w)
 {
-    static const uint8_t password[PASSWORD] = {'c', 0, 'l', 0, 'i', 0, 'e', 0, 'n', 0, 't', 0, 'P', 0, 'a', 0, 's', 0, 's', 0};
+    static const uint8_t password[PASSWORD] = {'c', 0, 'l', 0, 'i', 0, 'e', 0, 'n', 0, 't', 0, 'P',
+                                               0, 'a', 0, 's', 0, 's', 0};
     static const uint8_t renewed[] = {'n', 0, 'e', 0, 'w', 0, 'e', 0, 'r', 0};
     static const uint8_t name[] = {'D', 'O', 'M', '\\', 'U', 's', 'e', 'r'};
     uint8_t list[SPENT * MSCHAP_CHALLENGE_SIZE];
@@ -395,8 +408,10 @@ static uint32_t prepare(const struct work *w)
 
     response.record[0] = response.record[1] = 1; /* found, with an NT hash */
     wrong |= mschap_nt_hash(password, sizeof password, response.record + 2, MSCHAP_HASH_SIZE);
-    wrong |= mschap_open(7, w->challenge, 8, RETRIES, 0, list, sizeof list, &used, counts, MSCHAP_COUNTS_SIZE,
-                         response.conversation, sizeof response.conversation, response.reply, sizeof response.reply);
+    wrong |= mschap_open(7, w->challenge, 8, RETRIES, 0, list, sizeof list, &used, counts,
+                         MSCHAP_COUNTS_SIZE,
+                         response.conversation, sizeof response.conversation, response.reply,
+                             sizeof response.reply);
     wrong |= mschap_read_challenge(response.reply, sizeof response.reply, peer, sizeof peer);
     wrong |= mschap_write_response(peer, sizeof peer, password, sizeof password, name, sizeof name,
                                    response.packet, sizeof response.packet);
@@ -414,18 +429,24 @@ static uint32_t prepare(const struct work *w)
     /* the same Response where the password has expired: then a change is awaited */
     change = response;
     change.record[38] = 1;
-    wrong |= mschap_step(change.conversation, sizeof change.conversation, response.packet, response.size, change.record, sizeof change.record,
+    wrong |= mschap_step(change.conversation, sizeof change.conversation, response.packet,
+                         response.size, change.record, sizeof change.record,
                          change.reply, sizeof change.reply, change.handed, sizeof change.handed);
     wrong |= change.conversation[0] != 6;
-    wrong |= mschap_read_reply(peer, sizeof peer, change.reply, sizeof change.reply, fields, sizeof fields);
-    wrong |= mschap_write_change(peer, sizeof peer, password, sizeof password, renewed, sizeof renewed,
-                                 w->octets, MSCHAP_FILLER_SIZE, change.packet, sizeof change.packet);
+    wrong |= mschap_read_reply(peer, sizeof peer, change.reply, sizeof change.reply, fields,
+                               sizeof fields);
+    wrong |= mschap_write_change(peer, sizeof peer, password, sizeof password, renewed,
+                                 sizeof renewed,
+                                 w->octets, MSCHAP_FILLER_SIZE, change.packet,
+                                     sizeof change.packet);
     change.size = sizeof change.packet;
     return wrong;
 }
 
-/* A list with that many places, of which the first are used: by drawn octets, or by drawn octets that all end as the challenge does. */
-static void fill(struct opening *o, const struct work *w, size_t places, size_t used, int one_end, uint32_t answer)
+/* A list with that many places, of which the first are used: by drawn bytes, or by drawn bytes that
+   all end as the challenge does. */
+static void fill(struct opening *o, const struct work *w, size_t places, size_t used, int one_end,
+                 uint32_t answer)
 {
     uint32_t x = 1994; /* not as in begin, where the challenge is from */
     memcpy(o->challenge, w->challenge, sizeof o->challenge);
@@ -481,8 +502,9 @@ int main(void)
             if (lines[i].run[side])
                 lines[i].calls[side] = sized(lines[i].run[side], works[side]);
 
-    /* Every round runs every line once, ours first in one round and OpenSSL's first in the next: a busy while hits all alike. The line that comes
-       first changes irregularly, so that no line keeps step with the slices of the scheduler. */
+    /* Every round runs every line once, ours first in one round and OpenSSL's first in the next: a
+       busy while hits all alike. The line that comes first changes irregularly, so that no line
+       keeps step with the slices of the scheduler. */
     for (int round = 0; round < ROUNDS; round++) {
         x = x * 1664525 + 1013904223;
         for (size_t i = 0; i < LINES; i++)
@@ -490,7 +512,8 @@ int main(void)
                 struct line *l = &lines[((x >> 16) + i) % LINES];
                 int side = turn ^ (round & 1);
                 if (l->run[side])
-                    l->ns[side][round] = timed(l->run[side], works[side], l->calls[side]) / (double)l->calls[side];
+                    l->ns[side][round] = timed(l->run[side], works[side],
+                                               l->calls[side]) / (double)l->calls[side];
             }
     }
     if (ours.wrong) {
@@ -515,12 +538,16 @@ int main(void)
             printf("%12s%10s\n", "-", "-");
         }
     }
-    printf("\njudged Response / (challenge response + NT hash): %.2f\n", ns[RESPONSE][OURS] / ns[HASH_AND_ANSWER][OURS]);
-    /* The record holds the hash, so a step has only the answer to work out: this is what judging adds to that. */
+    printf("\njudged Response / (challenge response + NT hash): %.2f\n",
+           ns[RESPONSE][OURS] / ns[HASH_AND_ANSWER][OURS]);
+    /* The record holds the hash, so a step has only the answer to work out: this is what judging
+       adds to that. */
     printf("judged Response / challenge response: %.2f\n", ns[RESPONSE][OURS] / ns[ANSWER][OURS]);
     printf("opening, for each used place: %.2f ns; %.2f ns where all end as the challenge does\n",
-           (ns[OPEN_NEARLY][OURS] - ns[OPEN_EMPTY][OURS]) / NEARLY, (ns[OPEN_ALIKE][OURS] - ns[OPEN_EMPTY][OURS]) / NEARLY);
+           (ns[OPEN_NEARLY][OURS] - ns[OPEN_EMPTY][OURS]) / NEARLY,
+               (ns[OPEN_ALIKE][OURS] - ns[OPEN_EMPTY][OURS]) / NEARLY);
     /* Unused places are not looked at, so their number must not matter. */
-    printf("opening, none of 4,096 used / none of 8 used: %.2f\n", ns[OPEN_EMPTY][OURS] / ns[OPEN_FEW][OURS]);
+    printf("opening, none of 4,096 used / none of 8 used: %.2f\n",
+           ns[OPEN_EMPTY][OURS] / ns[OPEN_FEW][OURS]);
     return 0;
 }

@@ -1,7 +1,7 @@
 /*
- * How much stack each function of mschap.h takes, in octets below its return address: a line
+ * How much stack each function of mschap.h takes, in bytes below its return address: a line
  * `NAME OCTETS` for each, the most over all inputs that are tried here. After that the same calls
- * are made on a stack of MSCHAP_STACK_SIZE octets, and from a thread with the smallest stack that
+ * are made on a stack of MSCHAP_STACK_SIZE bytes, and from a thread with the smallest stack that
  * there is: the program dies where that is too little. tests/stack.sh compiles and runs it, and
  * compares the lines with docs/PERFORMANCE.md. Exit status 1 where a call is not answered as it
  * should be.
@@ -26,20 +26,20 @@
 #define ANY 1000  /* expected: no certain answer */
 #define LENGTH(array) (sizeof(array) / sizeof *(array))
 
-/* ---- what is lent: each call works on a copy of it */
+/* ---- the arguments: each call works on a copy of them */
 
-#define RUNS 5
+#define BUFFERS 5
 #define LARGEST (MSCHAP_LIST_PLACES * MSCHAP_CHALLENGE_SIZE)
 
-struct run {
+struct buffer {
     uint8_t octets[LARGEST];
     size_t size;
 };
 
-static struct run lent[RUNS], run[RUNS];
+static struct buffer given[BUFFERS], passed[BUFFERS];
 static uint8_t retries, lm;
-static size_t lent_used, used, counts_size;
-static uint16_t lent_counts[MSCHAP_COUNTS_SIZE], counts[MSCHAP_COUNTS_SIZE];
+static size_t given_used, used, counts_size;
+static uint16_t given_counts[MSCHAP_COUNTS_SIZE], counts[MSCHAP_COUNTS_SIZE];
 static uint32_t drawn;
 
 static uint8_t draw(void)
@@ -48,32 +48,32 @@ static uint8_t draw(void)
     return (uint8_t)(drawn >> 24);
 }
 
-static uint8_t *lend(int i, size_t size)
+static uint8_t *give(int i, size_t size)
 {
-    lent[i].size = size;
+    given[i].size = size;
     for (size_t k = 0; k < size; k++)
-        lent[i].octets[k] = draw();
-    return lent[i].octets;
+        given[i].octets[k] = draw();
+    return given[i].octets;
 }
 
-static void copy_lent(void)
+static void copy_given(void)
 {
-    for (int i = 0; i < RUNS; i++) {
-        run[i].size = lent[i].size;
-        memcpy(run[i].octets, lent[i].octets, lent[i].size);
+    for (int i = 0; i < BUFFERS; i++) {
+        passed[i].size = given[i].size;
+        memcpy(passed[i].octets, given[i].octets, given[i].size);
     }
-    used = lent_used;
-    memcpy(counts, lent_counts, sizeof counts);
+    used = given_used;
+    memcpy(counts, given_counts, sizeof counts);
 }
 
-/* ---- a function, with a call of it that takes what is lent and leaves its answer */
+/* ---- a function, with a call of it that takes the arguments and leaves its answer */
 
 typedef void function(void);
 
 struct measured {
     const char *name;
     function *itself, *call;
-    size_t caller, most; /* octets */
+    size_t caller, most; /* bytes */
 };
 
 static function *volatile callee; /* the function itself, or the one that does nothing */
@@ -83,7 +83,7 @@ static void nothing(void)
 {
 }
 
-#define RUN(i) run[i].octets, run[i].size
+#define BUFFER(i) passed[i].octets, passed[i].size
 #define CALL(name, ...)                                    \
     static void call_##name(void)                          \
     {                                                      \
@@ -120,7 +120,7 @@ static size_t touched(struct measured *m, function *f)
         uint64_t eight = paints[p] * (UINT64_MAX / 255);
         size_t clean = 0;
         memset(painted, paints[p], sizeof painted);
-        copy_lent();
+        copy_given();
         callee = f;
         visit(m->call, painted, sizeof painted);
         while (clean < LENGTH(painted) && painted[clean] == eight)
@@ -148,14 +148,14 @@ static void measure(struct measured *m)
 
 static void call_on_provided(struct measured *m)
 {
-    copy_lent();
+    copy_given();
     callee = m->itself;
     visit(m->call, provided, MSCHAP_STACK_SIZE);
 }
 
 static void call_here(struct measured *m)
 {
-    copy_lent();
+    copy_given();
     callee = m->itself;
     m->call();
 }
@@ -176,32 +176,32 @@ static void try(struct measured *m, size_t expected)
 
 /* ---- ciphers and hashes */
 
-CALL(mschap_md4, RUN(0), RUN(1))
-CALL(mschap_rc4, RUN(0), RUN(1))
-CALL(mschap_des_encrypt, RUN(0), RUN(1), RUN(2))
-CALL(mschap_des_decrypt, RUN(0), RUN(1), RUN(2))
-CALL(mschap_nt_hash, RUN(0), RUN(1))
-CALL(mschap_lm_hash, RUN(0), RUN(1))
-CALL(mschap_challenge_response, RUN(0), RUN(1), RUN(2))
+CALL(mschap_md4, BUFFER(0), BUFFER(1))
+CALL(mschap_rc4, BUFFER(0), BUFFER(1))
+CALL(mschap_des_encrypt, BUFFER(0), BUFFER(1), BUFFER(2))
+CALL(mschap_des_decrypt, BUFFER(0), BUFFER(1), BUFFER(2))
+CALL(mschap_nt_hash, BUFFER(0), BUFFER(1))
+CALL(mschap_lm_hash, BUFFER(0), BUFFER(1))
+CALL(mschap_challenge_response, BUFFER(0), BUFFER(1), BUFFER(2))
 
 static void try_ciphers(void)
 {
     static const size_t keys[] = {0, 1, 7, 16, 255, 256, 257}, streams[] = {0, 1, 516, 4096};
     for (size_t n = 0; n <= 4097; n++) {
-        lend(0, n);
-        lend(1, MSCHAP_DIGEST_SIZE);
+        give(0, n);
+        give(1, MSCHAP_DIGEST_SIZE);
         TRY(mschap_md4, n > 4096 ? MSCHAP_INPUT : MSCHAP_OK);
     }
     for (size_t k = 0; k < LENGTH(keys); k++)
         for (size_t s = 0; s < LENGTH(streams); s++) {
-            lend(0, keys[k]);
-            lend(1, streams[s]);
+            give(0, keys[k]);
+            give(1, streams[s]);
             TRY(mschap_rc4, keys[k] == 0 || keys[k] > 256 ? MSCHAP_INPUT : MSCHAP_OK);
         }
     for (int k = 0; k < DRAWN; k++) {
-        lend(0, MSCHAP_KEY_SIZE);
-        lend(1, MSCHAP_BLOCK_SIZE);
-        lend(2, MSCHAP_BLOCK_SIZE);
+        give(0, MSCHAP_KEY_SIZE);
+        give(1, MSCHAP_BLOCK_SIZE);
+        give(2, MSCHAP_BLOCK_SIZE);
         TRY(mschap_des_encrypt, MSCHAP_OK);
         TRY(mschap_des_decrypt, MSCHAP_OK);
     }
@@ -210,38 +210,39 @@ static void try_ciphers(void)
 static void try_hashes(void)
 {
     for (size_t n = 0; n <= 514; n++) {
-        lend(0, n);
-        lend(1, MSCHAP_HASH_SIZE);
+        give(0, n);
+        give(1, MSCHAP_HASH_SIZE);
         TRY(mschap_nt_hash, n % 2 || n > 512 ? MSCHAP_INPUT : MSCHAP_OK);
         TRY(mschap_lm_hash, n > 14 ? MSCHAP_INPUT : MSCHAP_OK);
     }
     for (int k = 0; k < DRAWN; k++) {
-        lend(0, MSCHAP_HASH_SIZE);
-        lend(1, MSCHAP_CHALLENGE_SIZE);
-        lend(2, MSCHAP_RESPONSE_SIZE);
+        give(0, MSCHAP_HASH_SIZE);
+        give(1, MSCHAP_CHALLENGE_SIZE);
+        give(2, MSCHAP_RESPONSE_SIZE);
         TRY(mschap_challenge_response, MSCHAP_OK);
     }
 }
 
 /* ---- openings */
 
-CALL(mschap_open, 7, RUN(0), retries, lm, RUN(1), &used, counts, counts_size, RUN(2), RUN(3))
+CALL(mschap_open, 7, BUFFER(0), retries, lm, BUFFER(1), &used, counts, counts_size, BUFFER(2),
+     BUFFER(3))
 
 /* A list with so many places and so many of them used. Alike: all entries end as the challenge. */
-static void lend_list(size_t places, size_t in_use, int alike)
+static void give_list(size_t places, size_t in_use, int alike)
 {
-    const uint8_t *challenge = lend(0, MSCHAP_CHALLENGE_SIZE);
-    uint8_t *list = lend(1, places * MSCHAP_CHALLENGE_SIZE);
-    memset(lent_counts, 0, sizeof lent_counts);
+    const uint8_t *challenge = give(0, MSCHAP_CHALLENGE_SIZE);
+    uint8_t *list = give(1, places * MSCHAP_CHALLENGE_SIZE);
+    memset(given_counts, 0, sizeof given_counts);
     for (size_t i = 0; i < in_use; i++) {
         if (alike)
             list[8 * i + 7] = challenge[7];
-        lent_counts[list[8 * i + 7]]++;
+        given_counts[list[8 * i + 7]]++;
     }
-    lent_used = in_use;
+    given_used = in_use;
     counts_size = MSCHAP_COUNTS_SIZE;
-    lend(2, MSCHAP_CONVERSATION_SIZE);
-    lend(3, MSCHAP_REPLY_SIZE);
+    give(2, MSCHAP_CONVERSATION_SIZE);
+    give(3, MSCHAP_REPLY_SIZE);
 }
 
 static void try_opening(size_t places, size_t in_use, uint8_t r, int alike)
@@ -251,7 +252,7 @@ static void try_opening(size_t places, size_t in_use, uint8_t r, int alike)
         expected = MSCHAP_RETRIES;
     else if (places - in_use < spent)
         expected = MSCHAP_LIST_FULL;
-    lend_list(places, in_use, alike);
+    give_list(places, in_use, alike);
     retries = r;
     lm = (uint8_t)(alike ? 255 : in_use % 2);
     TRY(mschap_open, expected);
@@ -270,37 +271,37 @@ static void try_openings(void)
             }
     /* the last successor of the challenge is the last entry */
     retries = 7;
-    lend_list(MSCHAP_LIST_PLACES, 4000, 0);
-    lent_counts[lent[1].octets[last + 7]]--;
-    memcpy(lent[1].octets + last, lent[0].octets, MSCHAP_CHALLENGE_SIZE);
-    lent[1].octets[last] = (uint8_t)(lent[0].octets[0] + 7 * 23);
-    lent_counts[lent[1].octets[last + 7]]++;
+    give_list(MSCHAP_LIST_PLACES, 4000, 0);
+    given_counts[given[1].octets[last + 7]]--;
+    memcpy(given[1].octets + last, given[0].octets, MSCHAP_CHALLENGE_SIZE);
+    given[1].octets[last] = (uint8_t)(given[0].octets[0] + 7 * 23);
+    given_counts[given[1].octets[last + 7]]++;
     TRY(mschap_open, MSCHAP_SPENT);
-    lent_counts[0]++;
+    given_counts[0]++;
     TRY(mschap_open, MSCHAP_LIST);
-    lent[3].size = MSCHAP_REPLY_SIZE - 1;
+    given[3].size = MSCHAP_REPLY_SIZE - 1;
     TRY(mschap_open, MSCHAP_REPLY_ROOM);
-    lent[2].size = 0;
-    TRY(mschap_open, MSCHAP_MISFIT);
+    given[2].size = 0;
+    TRY(mschap_open, MSCHAP_BAD_ARGUMENT);
 }
 
-/* ---- steps: what is lent are conversation, packet, record, reply and the record handed out */
+/* ---- steps: the arguments are conversation, packet, record, reply and the record handed out */
 
-CALL(mschap_step, RUN(0), RUN(1), RUN(2), RUN(3), RUN(4))
-CALL(mschap_account_offset, RUN(0))
-CALL(mschap_account_length, RUN(0))
-CALL(mschap_domain_offset, RUN(0))
-CALL(mschap_domain_length, RUN(0))
+CALL(mschap_step, BUFFER(0), BUFFER(1), BUFFER(2), BUFFER(3), BUFFER(4))
+CALL(mschap_account_offset, BUFFER(0))
+CALL(mschap_account_length, BUFFER(0))
+CALL(mschap_domain_offset, BUFFER(0))
+CALL(mschap_domain_length, BUFFER(0))
 
 static const uint8_t password[] = {'C', 0, 'L', 0, 'I', 0, 'E', 0, 'N', 0, 'T', 0};
 static uint8_t nt[MSCHAP_HASH_SIZE], lan[MSCHAP_HASH_SIZE], challenge[MSCHAP_CHALLENGE_SIZE];
 
 /* A conversation that awaits a packet of that code with identifier 7, LM allowed and 2 retries
-   left, and a record with both hashes and no mark. */
-static void lend_step(uint8_t code)
+   left, and a record with both hashes and no flag. */
+static void give_step(uint8_t code)
 {
-    uint8_t *conversation = lend(0, MSCHAP_CONVERSATION_SIZE);
-    uint8_t *record = lend(2, MSCHAP_RECORD_SIZE);
+    uint8_t *conversation = give(0, MSCHAP_CONVERSATION_SIZE);
+    uint8_t *record = give(2, MSCHAP_RECORD_SIZE);
     memset(record, 0, MSCHAP_RECORD_SIZE);
     record[0] = record[1] = record[18] = 1;
     memcpy(record + 2, nt, sizeof nt);
@@ -313,24 +314,24 @@ static void lend_step(uint8_t code)
     memcpy(conversation + 4, challenge, sizeof challenge);
     if (code == 6)
         memcpy(conversation + 12, record + 1, MSCHAP_ACCOUNT_SIZE);
-    lend(3, MSCHAP_REPLY_SIZE);
-    lend(4, MSCHAP_RECORD_SIZE);
+    give(3, MSCHAP_REPLY_SIZE);
+    give(4, MSCHAP_RECORD_SIZE);
 }
 
 /* A step that is answered with a packet of that code. */
 static void try_step(uint8_t code)
 {
     TRY(mschap_step, MSCHAP_OK);
-    if (run[3].octets[0] != code) {
-        printf("stack: a step writes code %d and not %d\n", run[3].octets[0], code);
+    if (passed[3].octets[0] != code) {
+        printf("stack: a step writes code %d and not %d\n", passed[3].octets[0], code);
         wrong = 1;
     }
 }
 
 /* The front of a packet with identifier 7. */
-static uint8_t *lend_packet(int i, uint8_t code, size_t size)
+static uint8_t *give_packet(int i, uint8_t code, size_t size)
 {
-    uint8_t *packet = lend(i, size);
+    uint8_t *packet = give(i, size);
     packet[0] = code;
     packet[1] = 7;
     packet[2] = (uint8_t)(size >> 8);
@@ -338,10 +339,10 @@ static uint8_t *lend_packet(int i, uint8_t code, size_t size)
     return packet;
 }
 
-/* A valid Response with a name of n octets, and a backslash at a place of it or, at n, none. */
-static uint8_t *lend_response(int i, size_t n, size_t backslash)
+/* A valid Response with a name of n bytes, and a backslash at a place of it or, at n, none. */
+static uint8_t *give_response(int i, size_t n, size_t backslash)
 {
-    uint8_t *packet = lend_packet(i, 2, 54 + n);
+    uint8_t *packet = give_packet(i, 2, 54 + n);
     packet[4] = 49;
     mschap_challenge_response(lan, sizeof lan, challenge, sizeof challenge, packet + 5, 24);
     mschap_challenge_response(nt, sizeof nt, challenge, sizeof challenge, packet + 29, 24);
@@ -353,9 +354,9 @@ static uint8_t *lend_response(int i, size_t n, size_t backslash)
 }
 
 /* A change to a password of that size, whose block tells a size. */
-static uint8_t *lend_change(size_t size, size_t told)
+static uint8_t *give_change(size_t size, size_t told)
 {
-    uint8_t *packet = lend_packet(1, 6, MSCHAP_CHANGE_PACKET), *block = packet + 4;
+    uint8_t *packet = give_packet(1, 6, MSCHAP_CHANGE_PACKET), *block = packet + 4;
     uint8_t hash[MSCHAP_HASH_SIZE];
     mschap_nt_hash(block + 512 - size, size, hash, sizeof hash);
     block[512] = (uint8_t)told;
@@ -373,67 +374,67 @@ static uint8_t *lend_change(size_t size, size_t told)
 static void try_judged(void)
 {
     for (size_t n = 1; n <= 256; n++) {
-        lend_step(2);
-        lend_response(1, n, n / 2);
+        give_step(2);
+        give_response(1, n, n / 2);
         try_step(3);
-        lent[2].octets[38] = 1; /* the password has expired */
+        given[2].octets[38] = 1; /* the password has expired */
         try_step(4);
-        lent[1].octets[29] ^= 1; /* the NT response is wrong */
+        given[1].octets[29] ^= 1; /* the NT response is wrong */
         try_step(4);
-        lent[1].octets[53] = 0; /* the LM response counts */
+        given[1].octets[53] = 0; /* the LM response counts */
         try_step(4);
-        lent[2].octets[38] = 0;
+        given[2].octets[38] = 0;
         try_step(3);
-        lent[0].octets[1] = 0; /* but is not allowed */
+        given[0].octets[1] = 0; /* but is not allowed */
         try_step(4);
-        lent[0].octets[3] = 0; /* no retry */
+        given[0].octets[3] = 0; /* no retry */
         try_step(4);
-        lent[2].octets[0] = 0; /* no record */
+        given[2].octets[0] = 0; /* no record */
         try_step(4);
     }
     for (size_t n = 0; n <= 512; n += 2) {
-        lend_step(6);
-        lend_change(n, n);
+        give_step(6);
+        give_change(n, n);
         try_step(3);
-        lend_change(n, n + 1);
+        give_change(n, n + 1);
         try_step(4);
-        lend_change(n, n + 514);
+        give_change(n, n + 514);
         try_step(4);
-        lent[0].octets[12] = 0; /* the kept record has no NT hash */
+        given[0].octets[12] = 0; /* the kept record has no NT hash */
         try_step(4);
     }
-    for (int k = 0; k < DRAWN; k++) { /* with a few other octets, and other marks */
+    for (int k = 0; k < DRAWN; k++) { /* with a few other bytes, and other flags */
         size_t n = draw();
         uint8_t *packet;
-        lend_step(k % 2 ? 2 : 6);
-        packet = k % 2 ? lend_response(1, n + 1, draw()) : lend_change(2 * n, 2 * n);
+        give_step(k % 2 ? 2 : 6);
+        packet = k % 2 ? give_response(1, n + 1, draw()) : give_change(2 * n, 2 * n);
         for (int others = draw() % 4; others > 0; others--)
-            packet[(draw() * 256u + draw()) % lent[1].size] = draw();
-        for (int mark = 35; mark < 39; mark++)
-            lent[2].octets[mark] = draw() % 2;
+            packet[(draw() * 256u + draw()) % given[1].size] = draw();
+        for (int flag = 35; flag < 39; flag++)
+            given[2].octets[flag] = draw() % 2;
         TRY(mschap_step, ANY);
     }
 }
 
 static void try_refused(void)
 {
-    lend_step(2);
-    lend_response(1, 256, 0)[53] = 2;
+    give_step(2);
+    give_response(1, 256, 0)[53] = 2;
     TRY(mschap_step, MSCHAP_FLAGS);
-    lent[1].octets[4] = 48;
+    given[1].octets[4] = 48;
     TRY(mschap_step, MSCHAP_SIZE);
-    lent[1].octets[1] = 8;
+    given[1].octets[1] = 8;
     TRY(mschap_step, MSCHAP_IDENTIFIER);
-    lent[1].octets[0] = 3;
+    given[1].octets[0] = 3;
     TRY(mschap_step, MSCHAP_CODE);
-    lent[1].size = 3;
+    given[1].size = 3;
     TRY(mschap_step, MSCHAP_FRAME);
-    lent[3].size = MSCHAP_REPLY_SIZE - 1;
+    given[3].size = MSCHAP_REPLY_SIZE - 1;
     TRY(mschap_step, MSCHAP_REPLY_ROOM);
-    lent[0].octets[0] = 0;
+    given[0].octets[0] = 0;
     TRY(mschap_step, MSCHAP_ENDED);
-    lent[2].octets[0] = 2;
-    TRY(mschap_step, MSCHAP_MISFIT);
+    given[2].octets[0] = 2;
+    TRY(mschap_step, MSCHAP_BAD_ARGUMENT);
 }
 
 static void try_names(void)
@@ -441,7 +442,7 @@ static void try_names(void)
     for (size_t n = 1; n <= 257; n++)
         for (size_t quarters = 0; quarters <= 4; quarters++) {
             size_t at = n * quarters / 4, account = at < n ? at + 1 : 0;
-            lend_response(0, n, at);
+            give_response(0, n, at);
             TRY(mschap_account_offset, n > 256 ? 0 : 54 + account);
             TRY(mschap_account_length, n > 256 ? 0 : n - account);
             TRY(mschap_domain_offset, n > 256 || at == n ? 0 : 54);
@@ -462,50 +463,50 @@ static void try_steps(void)
 
 /* ---- the peer: its functions are called by what stands from here to try_peer, and nowhere else */
 
-CALL(mschap_read_challenge, RUN(0), RUN(1))
-CALL(mschap_read_reply, RUN(2), RUN(0), RUN(1))
-CALL(mschap_write_response, RUN(0), RUN(1), RUN(2), RUN(3))
-CALL(mschap_write_change, RUN(0), RUN(1), RUN(2), RUN(3), RUN(4))
+CALL(mschap_read_challenge, BUFFER(0), BUFFER(1))
+CALL(mschap_read_reply, BUFFER(2), BUFFER(0), BUFFER(1))
+CALL(mschap_write_response, BUFFER(0), BUFFER(1), BUFFER(2), BUFFER(3))
+CALL(mschap_write_change, BUFFER(0), BUFFER(1), BUFFER(2), BUFFER(3), BUFFER(4))
 
 /* It sent a packet with the identifier 7. */
-static void lend_peer(size_t i)
+static void give_peer(size_t i)
 {
-    uint8_t *peer = lend(i, MSCHAP_PEER_SIZE);
+    uint8_t *peer = give(i, MSCHAP_PEER_SIZE);
     peer[0] = 1;
     peer[1] = 7;
 }
 
 static void try_reply(uint8_t code, const char *data, size_t size, size_t expected)
 {
-    memcpy(lend_packet(0, code, 4 + size) + 4, data, size);
-    lend(1, MSCHAP_FIELDS_SIZE);
-    lend_peer(2);
+    memcpy(give_packet(0, code, 4 + size) + 4, data, size);
+    give(1, MSCHAP_FIELDS_SIZE);
+    give_peer(2);
     TRY(mschap_read_reply, expected);
 }
 
 static void try_challenge(size_t size, size_t expected)
 {
-    lend_packet(0, 1, 4 + size)[4] = 8;
-    lend(1, MSCHAP_PEER_SIZE);
+    give_packet(0, 1, 4 + size)[4] = 8;
+    give(1, MSCHAP_PEER_SIZE);
     TRY(mschap_read_challenge, expected);
 }
 
 static void try_write_response(size_t password_size, size_t name_size, size_t expected)
 {
-    lend_peer(0);
-    lend(1, password_size);
-    lend(2, name_size);
-    lend(3, MSCHAP_RESPONSE_PACKET);
+    give_peer(0);
+    give(1, password_size);
+    give(2, name_size);
+    give(3, MSCHAP_RESPONSE_PACKET);
     TRY(mschap_write_response, expected);
 }
 
 static void try_write_change(size_t old_size, size_t new_size, size_t room, size_t expected)
 {
-    lend_peer(0);
-    lend(1, old_size);
-    lend(2, new_size);
-    lend(3, MSCHAP_FILLER_SIZE);
-    lend(4, room);
+    give_peer(0);
+    give(1, old_size);
+    give(2, new_size);
+    give(3, MSCHAP_FILLER_SIZE);
+    give(4, room);
     TRY(mschap_write_change, expected);
 }
 
@@ -524,7 +525,7 @@ static void try_peer(void)
 
 /* ---- the messages of a Failure */
 
-#define MESSAGE 256 /* octets, the most that are read */
+#define MESSAGE 256 /* bytes, the most that are read */
 
 static size_t add(char *message, size_t n, const char *word)
 {

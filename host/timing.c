@@ -8,7 +8,7 @@
 #include <stdio.h>
 #include <string.h>
 
-#define PACKET 62 /* 54 octets and the name */
+#define PACKET 62 /* 54 bytes and the name */
 #define FLAG 53
 #define LM_RESPONSE 5
 #define NT_RESPONSE 29
@@ -17,14 +17,14 @@
 #define FOUND 0
 #define NT 1
 #define LM 18
-#define MARKS 35
+#define FLAGS 35
 
 /* conversation */
 #define LM_ALLOWED 1
 #define RETRIES 3
 #define CHALLENGE 4
 
-/* Every call works on these same octets, so that no call differs from another by alignment. */
+/* Every call works on these same bytes, so that no call differs from another by alignment. */
 static uint8_t conversation[MSCHAP_CONVERSATION_SIZE];
 static uint8_t record[MSCHAP_RECORD_SIZE];
 static uint8_t packet[PACKET];
@@ -95,7 +95,7 @@ static void invalid(const char *way)
         judged(way, "R=0", no_more, MSCHAP_REPLY_SIZE);
 }
 
-/* Without a hash, the octets that stand beside the mark stay: they are to have no effect. */
+/* Without a hash, the bytes that stand beside the flag stay: they are to have no effect. */
 static void without(size_t hash)
 {
     record[hash] = 0;
@@ -123,8 +123,8 @@ static void all_ways(void)
     conversation[LM_ALLOWED] = 0;
     invalid("a wrong NT response, LM off");
     packet[NT_RESPONSE] ^= 1;
-    memset(record + MARKS, 1, 4);
-    invalid("a wrong NT response, every mark set");
+    memset(record + FLAGS, 1, 4);
+    invalid("a wrong NT response, every flag set");
     packet[FLAG] = 0;
     packet[LM_RESPONSE] ^= 1;
     invalid("a wrong LM response, flag 0");
@@ -143,9 +143,9 @@ static void all_ways(void)
     packet[FLAG] = 0;
     invalid("no record, an account's octets, LM response right for them");
     record[FOUND] = 0;
-    memset(record + MARKS, 1, 4);
+    memset(record + FLAGS, 1, 4);
     conversation[LM_ALLOWED] = 0;
-    invalid("no record, an account's octets, every mark set, LM off");
+    invalid("no record, an account's octets, every flag set, LM off");
 
     memset(record + NT, 0, MSCHAP_ACCOUNT_SIZE);
     invalid("no hash, octets 0, flag 1");
@@ -154,11 +154,11 @@ static void all_ways(void)
     invalid("no hash, octets 0, flag 0");
     without(NT);
     without(LM);
-    invalid("no hash, a hash's octets beside the mark, flag 1");
+    invalid("no hash, a hash's octets beside the flag, flag 1");
     without(NT);
     without(LM);
     packet[FLAG] = 0;
-    invalid("no hash, a hash's octets beside the mark, flag 0");
+    invalid("no hash, a hash's octets beside the flag, flag 0");
     without(LM);
     packet[FLAG] = 0;
     invalid("no LM hash, flag 0");

@@ -115,7 +115,8 @@ unfolding step
 step-kept c p l b = by (eqb (refusalOf c p b) 0) refl
   where
     by : (t : Bool) → eqb (refusalOf c p b) 0 ≡ t
-        → step c p l b .buffer ≡ left (verdictRefusal (step c p l b .answer .kind)) (step c p l b .buffer) b
+        → step c p l b .buffer
+        ≡ left (verdictRefusal (step c p l b .answer .kind)) (step c p l b .buffer) b
     by true e = simp e
     by false e = simp e
 

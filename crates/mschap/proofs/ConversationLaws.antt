@@ -20,8 +20,8 @@ use Rattle.mschap.proofs.Encodings.{encoding-fits, encoding-length}
 use Rattle.mschap.proofs.RecordLaws.{SizedAccount, decoded-account-sized, length-account}
 use Rattle.mschap.proofs.RecordLaws.{flag-back, account-back}
 
-pub conversation-same : {t t' : Bool} {i i' r r' : ℕ} {c c' : List ℕ} {p p' : Phase} {k k' : Account}
-    → t ≡ t' → i ≡ i' → c ≡ c' → r ≡ r' → p ≡ p' → k ≡ k'
+pub conversation-same : {t t' : Bool} {i i' r r' : ℕ} {c c' : List ℕ} {p p' : Phase}
+    {k k' : Account} → t ≡ t' → i ≡ i' → c ≡ c' → r ≡ r' → p ≡ p' → k ≡ k'
     → _≡_ {A = Conversation}
     (record { terms = record { lm = t }; id = i; challenge = c; retries = r; phase = p; kept = k })
     (record {
@@ -34,12 +34,16 @@ pub conversation-same : {t t' : Bool} {i i' r r' : ℕ} {c c' : List ℕ} {p p' 
     })
 conversation-same e₁ e₂ e₃ e₄ e₅ e₆ = cc
 
-pub conversation-pieces : (c : Conversation) {code lm : ℕ} {kept : List ℕ}
-    → code ≡ awaitedCode (c .phase) → lm ≡ layout.flag (c .terms .lm)
-    → kept ≡ layout.encodeAccount (c .kept)
-    → code ∷ lm ∷ c .id ∷ c .retries ∷ (c .challenge ++ kept) ≡ layout.encodeConversation c
+pub conversation-pieces : (c : Conversation) {code : ℕ} → code ≡ awaitedCode (c .phase)
+    → code ∷ layout.flag (c .terms .lm) ∷ c .id ∷ c .retries
+    ∷ (c .challenge ++ layout.encodeAccount (c .kept))
+    ≡ layout.encodeConversation c
 unfolding layout.encodeConversation
-conversation-pieces c e₁ e₂ e₃ = cc
+conversation-pieces c e =
+    ap
+    (λ (code : ℕ). code ∷ layout.flag (c .terms .lm) ∷ c .id ∷ c .retries
+    ∷ (c .challenge ++ layout.encodeAccount (c .kept)))
+    e
 
 -- ---- the sizes of a value's arrays, which the code's types fix
 
@@ -56,7 +60,7 @@ decoded-conversation-sized bytes =
       kept = decoded-account-sized (part layout.keptAt layout.accountSize bytes);
     }
 
-length-conversation : (c : Conversation) → SizedConversation c
+pub length-conversation : (c : Conversation) → SizedConversation c
     → length (layout.encodeConversation c) ≡ layout.conversationSize
 unfolding layout.encodeConversation
 length-conversation c s = simp (length-append, s .challenge, length-account (c .kept) (s .kept))
@@ -87,7 +91,8 @@ conversation-back c s =
     ap (fixed 8) (take-at (c .challenge) kept 8 (s .challenge))
     ∙ fixed-same 8 (c .challenge) (s .challenge) in
     let account =
-    ap (λ (l : List ℕ). layout.decodeAccount (take 38 l)) (drop-at (c .challenge) kept 8 (s .challenge))
+    ap (λ (l : List ℕ). layout.decodeAccount (take 38 l))
+    (drop-at (c .challenge) kept 8 (s .challenge))
     ∙ ap layout.decodeAccount (take-all 38 kept (omega arith))
     ∙ account-back (c .kept) (s .kept) in
     conversation-same (flag-back (c .terms .lm)) refl challenge refl (phase-back (c .phase)) account

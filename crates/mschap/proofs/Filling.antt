@@ -25,7 +25,8 @@ module _ {out : List ℕ} {r : ℕ} {after : List ℕ} where
 
   -- what `fill` returns and leaves, by the size and the value of its bytes
   pub filled-with : {n k k' : ℕ} {bytes value : List ℕ} → length bytes ≡ n → bytes ≡ value → k ≡ k'
-      → Fills (sized (length bytes) out) k bytes out r after → Fills (sized n out) k' value out r after
+      → Fills (sized (length bytes) out) k bytes out r after
+      → Fills (sized n out) k' value out r after
   filled-with e f g h = fills-as (ap (λ (i : ℕ). sized i out) e) g f h
 
   -- a buffer of the right size makes the number the refusal

@@ -1,5 +1,5 @@
--- What an opening and a step write is valid for the next step: the library never refuses an encoding
--- of its own as a bad argument.
+-- What an opening and a step write is valid for the next step: the library never refuses an
+-- encoding of its own as a bad argument.
 -- Assumes nothing.
 use mathlib.Core.Bool.{Bool, true, false, cond, _&&_}
 use mathlib.Core.List.{List}
@@ -19,10 +19,12 @@ use Rattle.packets.specs.declared.Change as changes
 use Rattle.authenticator.proofs.Spends.{length-incremented}
 use Rattle.authenticator.specs.Account.{blank}
 use Rattle.authenticator.specs.Conversation.{ended, retried, closed}
-use Rattle.authenticator.specs.Opening.{Opening, openRefusal, openedIssued, firstConversation, openingPacket, opened}
+use Rattle.authenticator.specs.Opening.{Opening, openRefusal, openedIssued, firstConversation}
+use Rattle.authenticator.specs.Opening.{openingPacket, opened}
 use Rattle.authenticator.specs.Refusal.{refusalOf}
 use Rattle.authenticator.specs.Response.{Drawn, mayRetry, reasonOf, afterReason, responseDrawn}
-use Rattle.authenticator.specs.Change.{hashInside, hashIn, proves, proven, newHash, drawnBy, changeDrawn}
+use Rattle.authenticator.specs.Change.{hashInside, hashIn, proves, proven, newHash}
+use Rattle.authenticator.specs.Change.{drawnBy, changeDrawn}
 use Rattle.authenticator.specs.Step.{Outcome, drawnIn, drawn, judgedAs, refusedAs, step}
 use Rattle.authenticator.specs.declared.Account.{Account}
 use Rattle.authenticator.specs.declared.Lookup.{Lookup}
@@ -43,7 +45,8 @@ use Rattle.mschap.proofs.ConversationLaws.{decoded-conversation-sized}
 blank-sized : SizedAccount blank
 blank-sized = record { nt = refl; lm = refl }
 
-choice-sized : (b : Bool) {x y : Conversation} → SizedConversation x → SizedConversation y → SizedConversation (cond b x y)
+choice-sized : (b : Bool) {x y : Conversation} → SizedConversation x → SizedConversation y
+    → SizedConversation (cond b x y)
 choice-sized true s t = s
 choice-sized false s t = t
 
@@ -60,7 +63,8 @@ module _ (c : Conversation) (s : SizedConversation c) where
 
   after-sized : (a : Account) (e : ℕ) → SizedAccount a → SizedConversation (afterReason c a e)
   after-sized a e t =
-      choice-sized (mayRetry c e) retried-sized (choice-sized (eqb e 648) (record { challenge = s .challenge; kept = t }) ended-sized)
+      choice-sized (mayRetry c e) retried-sized
+      (choice-sized (eqb e 648) (record { challenge = s .challenge; kept = t }) ended-sized)
 
   -- ---- the hash of an accepted change has sixteen octets
 
@@ -85,7 +89,8 @@ module _ (c : Conversation) (s : SizedConversation c) where
   unfolding newHash
   new-whole f =
       let o = unsealedAs (c .kept .nt .octets) (f .block) in
-      choice-whole (c .kept .nt .present && eqb (f .flags % 2) 1) (proven c f (hashIn o)) (proven-whole f (hashIn o) (inside-whole (o .content) o))
+      choice-whole (c .kept .nt .present && eqb (f .flags % 2) 1) (proven c f (hashIn o))
+      (proven-whole f (hashIn o) (inside-whole (o .content) o))
 
   drawn-by-sized : (x : Option (List ℕ)) → Whole x → SizedDrawn (drawnBy c x)
   drawn-by-sized none h = record { next = ended-sized; handed = blank-sized }
@@ -93,42 +98,76 @@ module _ (c : Conversation) (s : SizedConversation c) where
 
   -- ---- the step
 
-  drawn-in-sized : (phase : Phase) (p : List ℕ) (l : Lookup) → SizedAccount (l .account) → SizedDrawn (drawnIn phase c p l)
+  drawn-in-sized : (phase : Phase) (p : List ℕ) (l : Lookup) → SizedAccount (l .account)
+      → SizedDrawn (drawnIn phase c p l)
   unfolding responseDrawn changeDrawn
-  drawn-in-sized Response p l t = record { next = after-sized (l .account) (reasonOf c l (readResponse p)) t; handed = blank-sized }
+  drawn-in-sized Response p l t =
+      record {
+        next = after-sized (l .account) (reasonOf c l (readResponse p)) t;
+        handed = blank-sized;
+      }
   drawn-in-sized Change p l t = drawn-by-sized (newHash c (readChange p)) (new-whole (readChange p))
   drawn-in-sized Ended p l t = record { next = s; handed = blank-sized }
 
   pub step-sized : (p : List ℕ) (l : Lookup) (b : List ℕ) → SizedAccount (l .account)
-      → SizedConversation (step c p l b .answer .next) × SizedAccount (step c p l b .answer .handed .account)
+      → SizedConversation (step c p l b .answer .next)
+      × SizedAccount (step c p l b .answer .handed .account)
   unfolding step drawn
   step-sized p l b t = by (eqb (refusalOf c p b) 0)
     where
-      by : (k : Bool) → let o = cond {A = Outcome} k (judgedAs (drawn c p l) b) (refusedAs (refusalOf c p b) c b) in
+      by : (k : Bool)
+          → let o =
+          cond {A = Outcome} k (judgedAs (drawn c p l) b) (refusedAs (refusalOf c p b) c b) in
           SizedConversation (o .answer .next) × SizedAccount (o .answer .handed .account)
       by true = let d = drawn-in-sized (c .phase) p l t in (d .next, d .handed)
       by false = (s, blank-sized)
 
-pub step-fits : (conversation packet account reply : List ℕ)
-    → (isEncodedConversation (encodeConversation (stepOf conversation packet account reply .answer .next)) ≡ true)
-    × (isEncodedRecord (encodeRecord (stepOf conversation packet account reply .answer .handed)) ≡ true)
-step-fits conversation packet account reply =
-    let t = step-sized (decodeConversation conversation) (decoded-conversation-sized conversation) packet (decodeRecord account) reply (decoded-record-sized account) in
-    (conversation-fits (stepOf conversation packet account reply .answer .next) (t .0), record-fits (stepOf conversation packet account reply .answer .handed) (t .1))
+module _ (conversation packet account buffer : List ℕ) where
+  abbrev done : Outcome
+  done = stepOf conversation packet account buffer
+
+  pub step-fits : (isEncodedConversation (encodeConversation (done .answer .next)) ≡ true)
+      × (isEncodedRecord (encodeRecord (done .answer .handed)) ≡ true)
+  step-fits =
+      let c = decodeConversation conversation in
+      let l = decodeRecord account in
+      let sized =
+      step-sized c (decoded-conversation-sized conversation) packet l buffer
+      (decoded-record-sized account) in (
+        conversation-fits (done .answer .next) (sized .0),
+        record-fits (done .answer .handed) (sized .1),
+      )
 
 -- ---- the opening
 
-opened-sized : (o : Opening) → length (o .challenge) ≡ 8 → SizedConversation (opened o .conversation)
+opened-sized : (o : Opening) → length (o .challenge) ≡ 8
+    → SizedConversation (opened o .conversation)
 unfolding opened
 opened-sized o e = by (eqb (openRefusal o) 0)
   where
+    accepted : openings.Opened
+    accepted =
+        record {
+          refusal = 0;
+          conversation = firstConversation o;
+          written = length (openingPacket o);
+          used = openedIssued o .used;
+        }
+
+    refused : openings.Opened
+    refused =
+        record {
+          refusal = openRefusal o;
+          conversation = closed;
+          written = 0;
+          used = o .issued .used;
+        }
+
     by : (k : Bool)
-        → SizedConversation
-        (cond {A = openings.Opened} k
-        (record { refusal = 0; conversation = firstConversation o; written = length (openingPacket o); used = openedIssued o .used })
-        (record { refusal = openRefusal o; conversation = closed; written = 0; used = o .issued .used }) .conversation)
+        → SizedConversation (cond {A = openings.Opened} k accepted refused .conversation)
     by true = record { challenge = e; kept = blank-sized }
     by false = record { challenge = refl; kept = blank-sized }
 
-pub open-fits : (o : Opening) → length (o .challenge) ≡ 8 → isEncodedConversation (encodeConversation (opened o .conversation)) ≡ true
+pub open-fits : (o : Opening) → length (o .challenge) ≡ 8
+    → isEncodedConversation (encodeConversation (opened o .conversation)) ≡ true
 open-fits o e = conversation-fits (opened o .conversation) (opened-sized o e)

@@ -1,8 +1,10 @@
 pub mod Filling
+pub mod Putting
 pub mod Encodings
 pub mod RecordLaws
 pub mod ConversationLaws
 pub mod PeerLaws
+pub mod FieldsLaws
 pub mod Calls
 pub mod PeerCalls
 pub mod Fitting

@@ -74,7 +74,8 @@ reply-given last p =
 
 -- before the first packet none is given
 peer-reads-given : (q : Peer) (p : List ℕ) → EightGiven (peerReads q p)
-peer-reads-given q p = choice-given (q .sent .present) (reply-given (q .sent .id) p) (record { eight = refl })
+peer-reads-given q p =
+    choice-given (q .sent .present) (reply-given (q .sent .id) p) (record { eight = refl })
 
 -- ---- the peer's next turn
 
@@ -132,8 +133,10 @@ challenge-fits packet = peer-fits (afterChallenge (readChallenge packet)) (after
 
 pub writing-fits : (peer : List ℕ) (w : Written) → Fits (afterWriting (decodePeer peer) w)
 writing-fits peer w =
-    peer-fits (afterWriting (decodePeer peer) w) (after-writing-sized (decodePeer peer) w (decoded-peer-sized peer))
+    let q = decodePeer peer in
+    peer-fits (afterWriting q w) (after-writing-sized q w (decoded-peer-sized peer))
 
 pub reply-fits : (peer packet : List ℕ) → Fits (afterReply (decodePeer peer) packet)
 reply-fits peer packet =
-    peer-fits (afterReply (decodePeer peer) packet) (after-reply-sized (decodePeer peer) packet (decoded-peer-sized peer))
+    let q = decodePeer peer in
+    peer-fits (afterReply q packet) (after-reply-sized q packet (decoded-peer-sized peer))

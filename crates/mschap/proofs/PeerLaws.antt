@@ -1,5 +1,5 @@
--- The layout of a peer, field by field: a value is its fields, and what is decoded from the encoding
--- of a value is the value.
+-- The layout of a peer, field by field: a value is its fields, and what is decoded from the
+-- encoding of a value is the value.
 -- Assumes nothing.
 use mathlib.Core.Path.{_≡_, refl, sym, ap, _∙_}
 use mathlib.Core.Bool.{Bool, true}
@@ -15,8 +15,8 @@ use Rattle.mschap.specs.Layout as layout
 use Rattle.mschap.proofs.Encodings.{encoding-fits, encoding-length}
 use Rattle.mschap.proofs.RecordLaws.{flag-back}
 
-pub peer-same : {b b' : Bool} {l l' n n' : ℕ} {c c' t t' : List ℕ} → b ≡ b' → l ≡ l' → c ≡ c' → n ≡ n'
-    → t ≡ t'
+pub peer-same : {b b' : Bool} {l l' n n' : ℕ} {c c' t t' : List ℕ} → b ≡ b' → l ≡ l'
+    → c ≡ c' → n ≡ n' → t ≡ t'
     → _≡_ {A = Peer}
     (record {
       sent = record { present = b; id = l; challenge = c };
@@ -28,16 +28,15 @@ pub peer-same : {b b' : Bool} {l l' n n' : ℕ} {c c' t t' : List ℕ} → b ≡
     })
 peer-same e₁ e₂ e₃ e₄ e₅ = cc
 
-pub peer-pieces : (q : Peer) {present : ℕ} → present ≡ layout.flag (q .sent .present)
-    → (((present ∷ q .sent .id ∷ []) ++ q .sent .challenge) ++ (q .turn .id ∷ []))
+pub peer-pieces : (q : Peer)
+    → (((layout.flag (q .sent .present) ∷ q .sent .id ∷ []) ++ q .sent .challenge)
+    ++ (q .turn .id ∷ []))
     ++ q .turn .challenge
     ≡ layout.encodePeer q
 unfolding layout.encodePeer
-peer-pieces q {present} e =
-    ap (λ (l : List ℕ). present ∷ q .sent .id ∷ l)
+peer-pieces q =
+    ap (λ (l : List ℕ). layout.flag (q .sent .present) ∷ q .sent .id ∷ l)
     (append-assoc (q .sent .challenge) (q .turn .id ∷ []) (q .turn .challenge))
-    ∙ ap
-    (λ (n : ℕ). n ∷ q .sent .id ∷ (q .sent .challenge ++ (q .turn .id ∷ q .turn .challenge))) e
 
 -- ---- the sizes of a value's arrays, which the code's types fix
 
@@ -53,7 +52,7 @@ decoded-peer-sized bytes =
       turn = length-fixed 8 (part layout.nextChallengeAt 8 bytes);
     }
 
-length-peer : (q : Peer) → SizedPeer q → length (layout.encodePeer q) ≡ layout.peerSize
+pub length-peer : (q : Peer) → SizedPeer q → length (layout.encodePeer q) ≡ layout.peerSize
 unfolding layout.encodePeer
 length-peer q s = simp (length-append, s .sent, s .turn)
 

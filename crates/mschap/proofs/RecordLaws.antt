@@ -24,8 +24,8 @@ pub hash-same : {p p' : Bool} {o o' : List ℕ} → p ≡ p' → o ≡ o'
     → _≡_ {A = Hash} (record { present = p; octets = o }) (record { present = p'; octets = o' })
 hash-same e f = cc
 
-pub account-same : {n n' l l' : Hash} {d d' h h' o o' e e' : Bool} → n ≡ n' → l ≡ l' → d ≡ d' → h ≡ h'
-    → o ≡ o' → e ≡ e'
+pub account-same : {n n' l l' : Hash} {d d' h h' o o' e e' : Bool} → n ≡ n' → l ≡ l' → d ≡ d'
+    → h ≡ h' → o ≡ o' → e ≡ e'
     → _≡_ {A = Account}
     (record { nt = n; lm = l; disabled = d; barred = h; nodialin = o; expired = e })
     (record { nt = n'; lm = l'; disabled = d'; barred = h'; nodialin = o'; expired = e' })
@@ -37,20 +37,15 @@ lookup-same e₁ e₂ = cc
 
 -- ---- an encoding is its pieces
 
-pub account-pieces : (a : Account) {nt lm : List ℕ} {d h n e : ℕ} → nt ≡ layout.encodeHash (a .nt)
-    → lm ≡ layout.encodeHash (a .lm) → d ≡ layout.flag (a .disabled) → h ≡ layout.flag (a .barred)
-    → n ≡ layout.flag (a .nodialin) → e ≡ layout.flag (a .expired)
-    → (nt ++ lm) ++ (d ∷ h ∷ n ∷ e ∷ []) ≡ layout.encodeAccount a
+pub account-pieces : (a : Account)
+    → ((((layout.encodeHash (a .nt) ++ layout.encodeHash (a .lm))
+    ++ (layout.flag (a .disabled) ∷ []))
+    ++ (layout.flag (a .barred) ∷ []))
+    ++ (layout.flag (a .nodialin) ∷ []))
+    ++ (layout.flag (a .expired) ∷ [])
+    ≡ layout.encodeAccount a
 unfolding layout.encodeAccount
-account-pieces a {nt} {lm} {d} {h} {n} {e} e₁ e₂ e₃ e₄ e₅ e₆ =
-    append-assoc nt lm (d ∷ h ∷ n ∷ e ∷ []) ∙ pieces
-  where
-    pieces : nt ++ (lm ++ (d ∷ h ∷ n ∷ e ∷ []))
-        ≡ layout.encodeHash (a .nt)
-        ++ (layout.encodeHash (a .lm)
-        ++ (layout.flag (a .disabled) ∷ layout.flag (a .barred) ∷ layout.flag (a .nodialin)
-        ∷ layout.flag (a .expired) ∷ []))
-    pieces = cc
+account-pieces a = simp append-assoc
 
 -- ---- the sizes of a value's arrays, which the code's types fix
 
@@ -75,6 +70,11 @@ pub length-account : (a : Account) → SizedAccount a
     → length (layout.encodeAccount a) ≡ layout.accountSize
 unfolding layout.encodeAccount
 length-account a s = simp (length-append, s .nt, s .lm)
+
+pub length-record : (l : Lookup) → SizedAccount (l .account)
+    → length (layout.encodeRecord l) ≡ layout.recordSize
+unfolding layout.encodeRecord
+length-record l s = ap suc (length-account (l .account) s)
 
 -- ---- round trips
 

@@ -1,5 +1,5 @@
--- What the parts of the code return and leave. Only the code's inner functions cite these; no public
--- promise does.
+-- What the parts of the code return and leave. Only the code's inner functions cite these; no
+-- public promise does.
 -- Assumes nothing: these are definitions.
 use mathlib.Core.List.{List}
 use mathlib.Core.Path.{_≡_}
@@ -8,9 +8,18 @@ use Rattle.message.specs.Message as messages
 use Rattle.authenticator.specs.Step.{verdictRefusal}
 use Rattle.authenticator.specs.declared.Answer.{Answer}
 use Rattle.peer.specs.declared.ReplyRead.{ReplyRead}
+use Rattle.octets.specs.Parts.{fixed}
 use Rattle.mschap.specs.Call.{left}
 use Rattle.mschap.specs.Layout.{encodeRecord, encodeConversation, encodePeer}
 use Rattle.mschap.specs.Fields.{encodeReading}
+
+-- the bytes of room for any one encoding: the largest is a conversation
+abbrev pub roomSize : ℕ
+roomSize = 50
+
+-- room that holds an encoding, and bytes 0 behind it
+abbrev pub inRoom : List ℕ → List ℕ
+inRoom encoding = fixed roomSize encoding
 
 -- the answer of a step is written into buffers of the right sizes
 pub record AnswerPut (a : Answer) (conversation out : List ℕ) (r : ℕ)

@@ -14,15 +14,12 @@ use Rattle.message.specs.declared.NewChallenge.{NewChallenge}
 use Rattle.message.specs.declared.Reading.{Reading}
 use Rattle.mschap.specs.Layout.{flag}
 
--- the sizes, in bytes, and where C begins
+-- the sizes, in bytes
 abbrev pub fieldsSize : ℕ
 fieldsSize = 35
 
 abbrev pub verdictSize : ℕ
 verdictSize = 26
-
-abbrev pub newChallengeSize : ℕ
-newChallengeSize = 9
 
 abbrev pub callNumber : Call → ℕ
 callNumber Retry = 1

@@ -204,8 +204,8 @@ decodePeer bytes =
 
 -- ---- valid encodings
 
--- Bytes are an encoding where they are what the value decoded from them encodes to. So neither their
--- number nor any one of them is one that no value has.
+-- Bytes are an encoding where they are what the value decoded from them encodes to. So neither
+-- their number nor any one of them is one that no value has.
 abbrev pub isEncoding : {A : Type 0} → (A → List ℕ) → (List ℕ → A) → List ℕ → Bool
 isEncoding encode decode bytes = agrees (encode (decode bytes)) bytes
 

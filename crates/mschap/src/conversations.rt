@@ -18,7 +18,8 @@ ghost use lib.ListN.{length};
 ghost use Rattle.authenticator.specs.Step.{verdictRefusal};
 ghost use Rattle.mschap.specs.Layout.{conversationSize, recordSize};
 ghost use Rattle.mschap.specs.Conversations.{retriesFor, lmFor, isLmChoice, openingFor};
-ghost use Rattle.mschap.specs.Conversations.{openArguments, OpenCall, stepArguments, StepCall};
+ghost use Rattle.mschap.specs.Conversations.{openArguments, OpenCall};
+ghost use Rattle.mschap.specs.Conversations.{stepArguments, StepCall};
 ghost use Rattle.mschap.specs.Inner.{AnswerPut};
 
 const CHALLENGE_SIZE: usize = 8;
@@ -63,10 +64,10 @@ fn are_open_arguments(challenge: &[u8], lm: u8, conversation: &[u8]) -> bool
 }
 
 // Opens a conversation with an identifier, a challenge, the retries (255: the default) and whether
-// LM is allowed (0: no, 1: yes, 255: the default). Adds the challenge and its successors to the list
-// of issued challenges, which is its places, how many of them are used, and 256 counts of last bytes.
-// Writes the Challenge into reply, and the conversation. 13: over 7 retries. 2: reply has under 17
-// bytes. 24: a bad list. 16: a challenge that was issued before. 17: the list is full.
+// LM is allowed (0: no, 1: yes, 255: the default). Adds the challenge and its successors to the
+// list of issued challenges, which is its places, how many of them are used, and 256 counts of last
+// bytes. Writes the Challenge into reply, and the conversation. 13: over 7 retries. 2: reply has
+// under 17 bytes. 24: a bad list. 16: a challenge that was issued before. 17: the list is full.
 #[no_mangle]
 pub extern "C" fn mschap_open(
     id: u8,
@@ -81,7 +82,11 @@ pub extern "C" fn mschap_open(
 ) -> u32
     ensures { λ r. ⌜ OpenCall
         (openingFor id (now (challenge .entry)) retries lm
-        (record { buffer = now (list .entry); used = now (used .entry); counts = now (counts .entry) })
+        (record {
+          buffer = now (list .entry);
+          used = now (used .entry);
+          counts = now (counts .entry);
+        })
         (now (reply .entry)))
         lm (now (conversation .entry)) r
         (record { buffer = now (list .exit); used = now (used .exit); counts = now (counts .exit) })
@@ -134,9 +139,9 @@ fn put_answer(answer: Answer, conversation: &mut [u8], handed: &mut [u8]) -> u32
     put_record(number, out, handed)
 }
 
-// One step of a conversation: a packet, the record of the named account or none, and a reply buffer.
-// The next conversation takes the place of this one, and handed is the record that an accepted
-// change hands out, or none. 1 to 7: the packet is refused.
+// One step of a conversation: a packet, the record of the named account or none, and a reply
+// buffer. The next conversation takes the place of this one, and handed is the record that an
+// accepted change hands out, or none. 1 to 7: the packet is refused.
 #[no_mangle]
 pub extern "C" fn mschap_step(
     conversation: &mut [u8],

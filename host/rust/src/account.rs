@@ -20,7 +20,7 @@ pub struct Account {
 }
 
 impl Account {
-    /// The octets by which the archive knows the account.
+    /// The bytes by which the archive knows the account.
     pub fn octets(&self) -> [u8; sys::ACCOUNT_SIZE] {
         let mut out = [0; sys::ACCOUNT_SIZE];
         if let Some(hash) = &self.nt_hash {
@@ -38,16 +38,16 @@ impl Account {
         out
     }
 
-    /// The account of these octets; none where a mark is neither 0 nor 1.
+    /// The account of these bytes; none where a flag is neither 0 nor 1.
     pub fn from_octets(octets: &[u8; sys::ACCOUNT_SIZE]) -> Option<Account> {
-        let hash = |at: usize| mark(octets[at]).map(|there| there.then(|| part(octets, at + 1)));
+        let hash = |at: usize| flag(octets[at]).map(|there| there.then(|| part(octets, at + 1)));
         Some(Account {
             nt_hash: hash(0)?,
             lm_hash: hash(17)?,
-            disabled: mark(octets[34])?,
-            barred_hours: mark(octets[35])?,
-            no_dial_in: mark(octets[36])?,
-            expired: mark(octets[37])?,
+            disabled: flag(octets[34])?,
+            barred_hours: flag(octets[35])?,
+            no_dial_in: flag(octets[36])?,
+            expired: flag(octets[37])?,
         })
     }
 
@@ -62,8 +62,8 @@ impl Account {
     }
 }
 
-/// What a mark says; none where it is neither 0 nor 1.
-pub(crate) fn mark(octet: u8) -> Option<bool> {
+/// What a flag says; none where it is neither 0 nor 1.
+pub(crate) fn flag(octet: u8) -> Option<bool> {
     match octet {
         0 => Some(false),
         1 => Some(true),

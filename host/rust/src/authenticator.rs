@@ -1,6 +1,6 @@
 //! The authenticator: a conversation, from its Challenge to its end.
 
-use crate::account::mark;
+use crate::account::flag;
 use crate::{length, part, sys, Account, Challenge, Issued, Refusal};
 
 /// What a conversation waits for.
@@ -14,8 +14,8 @@ pub enum Awaited {
     Nothing,
 }
 
-/// All that the authenticator keeps between two packets. It may be stored and continued later. It is
-/// continued once, since from two copies it would take two answers to one challenge.
+/// All that the authenticator keeps between two packets. It may be stored and continued later. It
+/// is continued once, since from two copies it would take two answers to one challenge.
 #[derive(Clone, Copy, Debug, PartialEq, Eq)]
 pub struct Conversation([u8; sys::CONVERSATION_SIZE]);
 
@@ -31,11 +31,11 @@ pub struct Judged {
 }
 
 impl Conversation {
-    /// Opens a conversation, and writes its Challenge at the front of `reply` (17 octets or more).
+    /// Opens a conversation, and writes its Challenge at the front of `reply` (17 bytes or more).
     /// The challenge is to be one that nobody can foretell. With no number of retries there are 2;
-    /// with no choice for LM it is allowed. The challenge and a successor for each retry are added to
-    /// the list `issued`; where one of them was there, it is refused as [`Refusal::Spent`]. Gives the
-    /// conversation and the size of the packet.
+    /// with no choice for LM it is allowed. The challenge and a successor for each retry are added
+    /// to the list `issued`; where one of them was there, it is refused as [`Refusal::Spent`].
+    /// Gives the conversation and the size of the packet.
     pub fn open(
         identifier: u8,
         challenge: &Challenge,
@@ -48,7 +48,7 @@ impl Conversation {
         // 255 retries, if asked for, are too many: they must not be taken for the default.
         let retries = retries.map_or(sys::DEFAULT, |count| count.min(sys::DEFAULT - 1));
         let lm = lm.map_or(sys::DEFAULT, u8::from);
-        let (list, used, counts) = issued.lend();
+        let (list, used, counts) = issued.parts();
         let number = sys::open(
             identifier,
             challenge,
@@ -66,7 +66,7 @@ impl Conversation {
 
     /// One step: a packet was received, and `record` is what the lookup of its name found (it is
     /// ignored while a change is awaited). Writes the Success or Failure to be sent at the front of
-    /// `reply` (17 octets or more). A refused packet gets no reply and changes nothing.
+    /// `reply` (17 bytes or more). A refused packet gets no reply and changes nothing.
     pub fn step(
         &mut self,
         packet: &[u8],
@@ -125,15 +125,15 @@ impl Conversation {
         }
     }
 
-    /// The octets, to be stored. They hold secrets while a change is awaited.
+    /// The bytes, to be stored. They hold secrets while a change is awaited.
     pub fn octets(&self) -> &[u8; sys::CONVERSATION_SIZE] {
         &self.0
     }
 
-    /// The conversation of stored octets; none where no conversation has them.
+    /// The conversation of stored bytes; none where no conversation has them.
     pub fn from_octets(octets: [u8; sys::CONVERSATION_SIZE]) -> Option<Conversation> {
         let awaited = matches!(octets[0], 0 | 2 | 6);
-        mark(octets[1])?;
+        flag(octets[1])?;
         Account::from_octets(&part(&octets, 12))?;
         awaited.then_some(Conversation(octets))
     }
@@ -160,7 +160,7 @@ pub fn account_of(packet: &[u8]) -> &[u8] {
     )
 }
 
-/// The run of a packet from an offset on. It lies within the packet, so there is always one.
+/// The bytes of a packet from an offset on. They lie within the packet, so they are always there.
 fn run(packet: &[u8], offset: usize, length: usize) -> &[u8] {
     let end = offset.saturating_add(length);
     packet.get(offset..end).unwrap_or_default()

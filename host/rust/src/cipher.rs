@@ -2,14 +2,14 @@
 
 use crate::{sys, Refusal};
 
-/// The MD4 digest (RFC 1320) of at most 4,096 octets; more are refused as [`Refusal::Input`].
+/// The MD4 digest (RFC 1320) of at most 4,096 bytes; more are refused as [`Refusal::Input`].
 pub fn md4(input: &[u8]) -> Result<[u8; sys::DIGEST_SIZE], Refusal> {
     let mut digest = [0; sys::DIGEST_SIZE];
     Refusal::check(sys::md4(input, &mut digest))?;
     Ok(digest)
 }
 
-/// RC4 over octets in place, from the start of the stream of a key of 1 to 256 octets. Another key
+/// RC4 over octets in place, from the start of the stream of a key of 1 to 256 bytes. Another key
 /// is refused as [`Refusal::Input`].
 pub fn rc4(key: &[u8], octets: &mut [u8]) -> Result<(), Refusal> {
     Refusal::check(sys::rc4(key, octets))

@@ -4,7 +4,7 @@ use crate::sys;
 use std::fmt;
 
 /// The challenges that were issued. A Response that was recorded at one box must open no other, so
-/// all boxes that know the same accounts are lent the same list, one opening at a time.
+/// all boxes that know the same accounts share one list, one opening at a time.
 ///
 /// An opening with r retries spends r + 1 challenges, and a place for each: the list has room for
 /// `places / (r + 1)` openings. Once it is full, openings are refused until it is emptied. Each
@@ -30,8 +30,8 @@ impl Issued {
     }
 
     /// The list of so many places whose used ones are these stored entries, the
-    /// [`octets`](Issued::octets) of a list that is no longer lent. None where the entries are not
-    /// whole, where they are more than the places, or where over 4,096 places are asked for.
+    /// [`octets`](Issued::octets) of a list that is no longer in use. None where the entries are
+    /// not whole, where they are more than the places, or where over 4,096 places are asked for.
     pub fn restored(places: usize, entries: &[u8]) -> Option<Issued> {
         let used = entries.len() / sys::CHALLENGE_SIZE;
         let whole = used * sys::CHALLENGE_SIZE == entries.len();
@@ -64,7 +64,7 @@ impl Issued {
         self.places().saturating_sub(self.used)
     }
 
-    /// The used places, and no others: the challenges that were issued, 8 octets each, the earliest
+    /// The used places, and no others: the challenges that were issued, 8 bytes each, the earliest
     /// first. This is what is stored for [`restored`](Issued::restored).
     pub fn octets(&self) -> &[u8] {
         let end = self.used.saturating_mul(sys::CHALLENGE_SIZE);
@@ -77,8 +77,8 @@ impl Issued {
         self.counts.fill(0);
     }
 
-    /// What an opening is lent: the list, how many places are used, and the counts.
-    pub(crate) fn lend(&mut self) -> (&mut [u8], &mut usize, &mut [u16]) {
+    /// What an opening is passed: the list, how many places are used, and the counts.
+    pub(crate) fn parts(&mut self) -> (&mut [u8], &mut usize, &mut [u16]) {
         (&mut self.list, &mut self.used, &mut self.counts)
     }
 }

@@ -1,7 +1,7 @@
 //! MS-CHAP (RFC 2433) in safe Rust, over the proved library `libmschap.a`.
 //!
-//! Runs of a fixed size are arrays, so that the archive never meets a wrong size. Every refusal is
-//! a [`Refusal`]; nothing here panics.
+//! Buffers of a fixed size are arrays, so that the archive never meets a wrong size. Every refusal
+//! is a [`Refusal`]; nothing here panics.
 //!
 //! ```
 //! use mschap::{nt_hash, Account, Conversation, Issued, Peer, Reading, Refusal};
@@ -50,11 +50,11 @@ pub use issued::Issued;
 pub use peer::{Call, Peer, Reading};
 pub use refusal::Refusal;
 
-/// The octets of a challenge.
+/// The bytes of a challenge.
 pub type Challenge = [u8; sys::CHALLENGE_SIZE];
-/// The octets of a password hash.
+/// The bytes of a password hash.
 pub type Hash = [u8; sys::HASH_SIZE];
-/// The octets of a response, without its packet.
+/// The bytes of a response, without its packet.
 pub type Response = [u8; sys::RESPONSE_SIZE];
 
 /// The most places of a list of issued challenges.
@@ -74,7 +74,7 @@ pub(crate) fn length(packet: &[u8]) -> usize {
     }
 }
 
-/// `N` octets from a place on; octets 0 where there are too few.
+/// `N` bytes from a place on; bytes 0 where there are too few.
 pub(crate) fn part<const N: usize>(octets: &[u8], from: usize) -> [u8; N] {
     let mut out = [0; N];
     for (to, octet) in out.iter_mut().zip(octets.iter().skip(from)) {

@@ -1,6 +1,6 @@
 //! The peer: it reads Challenge, Success and Failure, and writes Response and change.
 
-use crate::account::mark;
+use crate::account::flag;
 use crate::{length, part, sys, Challenge, Refusal};
 
 /// All that the peer keeps from one packet to the next: what it sent last, and the identifier and
@@ -43,8 +43,8 @@ pub enum Reading {
 }
 
 impl Peer {
-    /// Reads a Challenge: the peer that is to answer it. Before it has written a packet, every reply
-    /// is refused.
+    /// Reads a Challenge: the peer that is to answer it. Before it has written a packet, every
+    /// reply is refused.
     pub fn read_challenge(packet: &[u8]) -> Result<Peer, Refusal> {
         let mut peer = [0; sys::PEER_SIZE];
         Refusal::check(sys::read_challenge(packet, &mut peer))?;
@@ -61,7 +61,7 @@ impl Peer {
         part(&self.0, 11)
     }
 
-    /// Writes the Response by an NT password, with a name of 1 to 256 octets, at the front of
+    /// Writes the Response by an NT password, with a name of 1 to 256 bytes, at the front of
     /// `out`. Gives its size. A refusal changes nothing.
     pub fn write_response(
         &mut self,
@@ -74,7 +74,7 @@ impl Peer {
     }
 
     /// Writes the change from an old to a new NT password at the front of `out`. The filler hides
-    /// the new password's length: pass octets that are unpredictable, from a cryptographic random
+    /// the new password's length: pass bytes that are unpredictable, from a cryptographic random
     /// number generator. Gives the size. A refusal changes nothing.
     pub fn write_change(
         &mut self,
@@ -94,19 +94,19 @@ impl Peer {
         let mut next = self.0;
         let mut fields = [0; sys::FIELDS_SIZE];
         Refusal::check(sys::read_reply(&mut next, packet, &mut fields))?;
-        let reading = Reading::of(&fields).ok_or(Refusal::Unexpected(sys::MISFIT))?;
+        let reading = Reading::of(&fields).ok_or(Refusal::Unexpected(sys::BAD_ARGUMENT))?;
         self.0 = next;
         Ok(reading)
     }
 
-    /// The octets to be stored.
+    /// The bytes to be stored.
     pub fn octets(&self) -> &[u8; sys::PEER_SIZE] {
         &self.0
     }
 
-    /// The peer of stored octets; none where no peer has them.
+    /// The peer of stored bytes; none where no peer has them.
     pub fn from_octets(octets: [u8; sys::PEER_SIZE]) -> Option<Peer> {
-        mark(octets[0])?;
+        flag(octets[0])?;
         Some(Peer(octets))
     }
 }
@@ -115,7 +115,7 @@ impl Reading {
     /// What the fields say. No other number is ever written there: it is none of these then.
     fn of(fields: &[u8; sys::FIELDS_SIZE]) -> Option<Reading> {
         let number = |at: usize| u64::from_be_bytes(part(fields, at));
-        if !mark(fields[0])? {
+        if !flag(fields[0])? {
             return Some(Reading::Success);
         }
         let call = match fields[1] {
@@ -125,7 +125,7 @@ impl Reading {
             4 => Call::End,
             _ => return None,
         };
-        let given = mark(fields[26])?;
+        let given = flag(fields[26])?;
         Some(Reading::Failure {
             call,
             reason: number(2),

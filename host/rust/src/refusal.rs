@@ -3,14 +3,14 @@
 use crate::sys;
 use std::fmt;
 
-/// Why a call is refused. On every refusal what was lent is as it was.
+/// Why a call is refused. On every refusal every buffer is unchanged.
 #[derive(Clone, Copy, Debug, PartialEq, Eq, Hash)]
 pub enum Refusal {
     /// 1: the conversation has ended.
     Ended,
-    /// 2: the reply buffer has under 17 octets.
+    /// 2: the reply buffer has under 17 bytes.
     ReplyRoom,
-    /// 3: a packet under 4 octets, or Length under 4 or over what was lent.
+    /// 3: a packet under 4 bytes, or Length under 4 or over its size.
     Frame,
     /// 4: another code than the awaited one.
     Code,
@@ -24,11 +24,11 @@ pub enum Refusal {
     Input,
     /// 9: too little room for the packet to be written.
     Room,
-    /// 10: a name that is empty or over 256 octets.
+    /// 10: a name that is empty or over 256 bytes.
     Name,
     /// 11: no Challenge, Success or Failure, or one that cannot be read.
     Reading,
-    /// 12: a filler that has not 512 octets.
+    /// 12: a filler that is not 512 bytes.
     Filler,
     /// 13: over 7 retries.
     Retries,

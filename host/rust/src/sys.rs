@@ -6,46 +6,56 @@
 
 /// Done.
 pub const OK: u32 = 0;
-/// A run of another size than its fixed one, or octets that no value writes.
-pub const MISFIT: u32 = 100;
+/// A buffer of another size than its fixed one, or an invalid encoding.
+pub const BAD_ARGUMENT: u32 = 100;
 /// A number of retries, or a choice for LM, that stands for the default.
 pub const DEFAULT: u8 = 255;
 
-/// Octets of an MD4 digest.
+/// Bytes of an MD4 digest.
 pub const DIGEST_SIZE: usize = 16;
-/// Octets of a password hash.
+/// Bytes of a password hash.
 pub const HASH_SIZE: usize = 16;
-/// Octets of a DES key.
+/// Bytes of a DES key.
 pub const KEY_SIZE: usize = 7;
-/// Octets of a DES block.
+/// Bytes of a DES block.
 pub const BLOCK_SIZE: usize = 8;
-/// Octets of a challenge.
+/// Bytes of a challenge.
 pub const CHALLENGE_SIZE: usize = 8;
-/// Octets of a response.
+/// Bytes of a response.
 pub const RESPONSE_SIZE: usize = 24;
-/// Octets of a filler.
+/// Bytes of a filler.
 pub const FILLER_SIZE: usize = 512;
-/// Octets of an account.
+/// Bytes of an account.
 pub const ACCOUNT_SIZE: usize = 38;
-/// Octets of a record.
+/// Bytes of a record.
 pub const RECORD_SIZE: usize = 39;
-/// Octets of a conversation.
+/// Bytes of a conversation.
 pub const CONVERSATION_SIZE: usize = 50;
-/// The most places of a list of issued challenges, of [`CHALLENGE_SIZE`] octets each.
+/// The most places of a list of issued challenges, of [`CHALLENGE_SIZE`] bytes each.
 pub const LIST_PLACES: usize = 4096;
-/// The counts beside a list: their number, not their octets.
+/// The counts beside a list: their number, not their bytes.
 pub const COUNTS_SIZE: usize = 256;
-/// Octets of a peer.
+/// Bytes of a peer.
 pub const PEER_SIZE: usize = 19;
-/// Octets of what a reply says.
+/// Bytes of what a reply says.
 pub const FIELDS_SIZE: usize = 35;
-/// Octets of the authenticator's longest packet.
+/// Bytes of the authenticator's longest packet.
 pub const REPLY_SIZE: usize = 17;
-/// Octets of the longest Response.
+/// Bytes of the longest Response.
 pub const RESPONSE_PACKET: usize = 310;
-/// Octets of every change.
+/// Bytes of every change.
 pub const CHANGE_PACKET: usize = 1118;
-/// Octets of stack that any call of the library may take, with room for the loader and a signal's
+/// Bytes of the longest input of MD4.
+pub const MD4_INPUT_MAX: usize = 4096;
+/// Bytes of the longest key of RC4.
+pub const RC4_KEY_MAX: usize = 256;
+/// Bytes of the longest NT password.
+pub const NT_PASSWORD_MAX: usize = 512;
+/// Bytes of the longest LM password.
+pub const LM_PASSWORD_MAX: usize = 14;
+/// Bytes of the longest name.
+pub const NAME_MAX: usize = 256;
+/// Bytes of stack that any call of the library may take, with room for the loader and a signal's
 /// handler.
 pub const STACK_SIZE: usize = 12288;
 
@@ -66,7 +76,7 @@ pub mod raw {
             octets: *mut u8,
             octets_size: usize,
         ) -> u32;
-        /// DES of a block under a key of 7 octets, into out.
+        /// DES of a block under a key of 7 bytes, into out.
         pub fn mschap_des_encrypt(
             key: *const u8,
             key_size: usize,
@@ -139,11 +149,11 @@ pub mod raw {
         ) -> u32;
         /// Where the account stands in a Response; 0 where the packet is refused as one.
         pub fn mschap_account_offset(packet: *const u8, packet_size: usize) -> usize;
-        /// How many octets the account has there.
+        /// The length of the account there, in bytes.
         pub fn mschap_account_length(packet: *const u8, packet_size: usize) -> usize;
         /// Where the domain stands in a Response; 0 where it is not in the packet.
         pub fn mschap_domain_offset(packet: *const u8, packet_size: usize) -> usize;
-        /// How many octets the domain has there.
+        /// The length of the domain there, in bytes.
         pub fn mschap_domain_length(packet: *const u8, packet_size: usize) -> usize;
         /// Reads a Challenge, and writes the peer that is to answer it.
         pub fn mschap_read_challenge(
@@ -207,7 +217,7 @@ pub fn rc4(key: &[u8], octets: &mut [u8]) -> u32 {
     unsafe { raw::mschap_rc4(key.as_ptr(), key.len(), octets.as_mut_ptr(), octets.len()) }
 }
 
-/// DES of a block under a key of 7 octets, into out.
+/// DES of a block under a key of 7 bytes, into out.
 pub fn des_encrypt(key: &[u8], block: &[u8], out: &mut [u8]) -> u32 {
     // SAFETY: slices, as said above.
     unsafe {
@@ -343,7 +353,7 @@ pub fn account_offset(packet: &[u8]) -> usize {
     unsafe { raw::mschap_account_offset(packet.as_ptr(), packet.len()) }
 }
 
-/// How many octets the account has there.
+/// The length of the account there, in bytes.
 pub fn account_length(packet: &[u8]) -> usize {
     // SAFETY: a slice, as said above.
     unsafe { raw::mschap_account_length(packet.as_ptr(), packet.len()) }
@@ -355,7 +365,7 @@ pub fn domain_offset(packet: &[u8]) -> usize {
     unsafe { raw::mschap_domain_offset(packet.as_ptr(), packet.len()) }
 }
 
-/// How many octets the domain has there.
+/// The length of the domain there, in bytes.
 pub fn domain_length(packet: &[u8]) -> usize {
     // SAFETY: a slice, as said above.
     unsafe { raw::mschap_domain_length(packet.as_ptr(), packet.len()) }

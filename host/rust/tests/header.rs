@@ -34,9 +34,14 @@ fn sizes() {
         ("REPLY_SIZE", sys::REPLY_SIZE),
         ("RESPONSE_PACKET", sys::RESPONSE_PACKET),
         ("CHANGE_PACKET", sys::CHANGE_PACKET),
+        ("MD4_INPUT_MAX", sys::MD4_INPUT_MAX),
+        ("RC4_KEY_MAX", sys::RC4_KEY_MAX),
+        ("NT_PASSWORD_MAX", sys::NT_PASSWORD_MAX),
+        ("LM_PASSWORD_MAX", sys::LM_PASSWORD_MAX),
+        ("NAME_MAX", sys::NAME_MAX),
         ("STACK_SIZE", sys::STACK_SIZE),
         ("OK", sys::OK as usize),
-        ("MISFIT", sys::MISFIT as usize),
+        ("BAD_ARGUMENT", sys::BAD_ARGUMENT as usize),
     ];
     for (name, size) in sizes {
         assert_eq!(defined(&format!("MSCHAP_{name}")), size, "{name}");

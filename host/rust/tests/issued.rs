@@ -2,7 +2,7 @@
 
 use mschap::{Conversation, Issued, Refusal, LIST_PLACES, REPLY_SIZE};
 
-/// The challenge of the examples with this first octet.
+/// The challenge of the examples with this first byte.
 fn challenge(first: u8) -> [u8; 8] {
     [first, 2, 3, 4, 5, 6, 7, 8]
 }
@@ -20,7 +20,7 @@ fn open(issued: &mut Issued, first: u8, retries: u8) -> Result<(), Refusal> {
     opening.map(|(conversation, _)| assert_eq!(conversation.challenge(), challenge(first)))
 }
 
-/// The list holds the challenges with these first octets.
+/// The list holds the challenges with these first bytes.
 fn holds(issued: &Issued, firsts: &[u8]) {
     let all: Vec<u8> = firsts.iter().flat_map(|first| challenge(*first)).collect();
     assert_eq!(issued.octets(), all);

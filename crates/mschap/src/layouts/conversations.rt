@@ -3,8 +3,12 @@ use crate::buffers::fill;
 use crate::layouts::records::ACCOUNT_SIZE;
 use crate::layouts::records::decode_account;
 use crate::layouts::records::encode_account;
-use crate::layouts::records::flag;
 use crate::layouts::records::is_flag;
+use crate::layouts::room::Room;
+use crate::layouts::room::empty_room;
+use crate::layouts::room::put_byte;
+use crate::layouts::room::put_eight;
+use crate::layouts::room::put_flag;
 use authenticator::Conversation;
 use authenticator::Phase;
 use authenticator::Terms;
@@ -12,6 +16,7 @@ ghost use mathlib.Core.Path.{_≡_};
 ghost use Rattle.mschap.specs.Call.{Fills, sized};
 ghost use Rattle.mschap.specs.Layout.{phaseOf, encodeConversation, decodeConversation};
 ghost use Rattle.mschap.specs.Layout.{isEncodedConversation, conversationSize};
+ghost use Rattle.mschap.specs.Code.{inRoom};
 
 pub const CONVERSATION_SIZE: usize = 50;
 
@@ -39,25 +44,19 @@ fn phase_of(code: u8) -> Phase
     Phase::Ended
 }
 
-fn encode_conversation(conversation: Conversation) -> [u8; CONVERSATION_SIZE]
-    ensures { λ r. ⌜ r ≡ encodeConversation conversation ⌝ }
+fn encode_conversation(conversation: Conversation) -> Room
+    ensures { λ r. ⌜ r .bytes ≡ inRoom (encodeConversation conversation) ⌝ }
 {
-    let mut bytes = [0u8; CONVERSATION_SIZE];
     let phase = conversation.phase;
     let terms = conversation.terms;
     let challenge = conversation.challenge;
     let kept = conversation.kept;
-    let head = [
-        authenticator::awaited_code(phase),
-        flag(terms.lm),
-        conversation.id,
-        conversation.retries,
-    ];
-    let rest = encode_account(kept);
-    octets::copy_at(&mut bytes, AWAITED_AT, &head);
-    octets::copy_at(&mut bytes, CHALLENGE_AT, &challenge);
-    octets::copy_at(&mut bytes, KEPT_AT, &rest);
-    bytes
+    let mut room = put_byte(empty_room(), AWAITED_AT, authenticator::awaited_code(phase));
+    room = put_flag(room, LM_ALLOWED_AT, terms.lm);
+    room = put_byte(room, IDENTIFIER_AT, conversation.id);
+    room = put_byte(room, RETRIES_AT, conversation.retries);
+    room = put_eight(room, CHALLENGE_AT, challenge);
+    encode_account(room, KEPT_AT, kept)
 }
 
 pub fn decode_conversation(bytes: &[u8]) -> Conversation
@@ -83,8 +82,8 @@ pub fn is_encoded_conversation(bytes: &[u8]) -> bool
     ensures { λ r. ⌜ r ≡ isEncodedConversation (now (bytes .entry)) ⌝ }
 {
     let conversation = decode_conversation(bytes);
-    let encoding = encode_conversation(conversation);
-    octets::agree(&encoding, bytes)
+    let encoding = encode_conversation(conversation).bytes;
+    octets::agree(octets::part_of(&encoding, 0, CONVERSATION_SIZE), bytes)
 }
 
 // Fills out with the encoding of a conversation, unless there is a refusal.
@@ -92,6 +91,10 @@ pub fn put_conversation(refusal: u8, conversation: Conversation, out: &mut [u8])
     ensures { λ r. ⌜ Fills (sized conversationSize (now (out .entry))) refusal
         (encodeConversation conversation) (now (out .entry)) r (now (out .exit)) ⌝ }
 {
-    let encoding = encode_conversation(conversation);
-    fill(refusal, &encoding, out)
+    let encoding = encode_conversation(conversation).bytes;
+    fill(
+        refusal,
+        octets::part_of(&encoding, 0, CONVERSATION_SIZE),
+        out,
+    )
 }

@@ -4,3 +4,4 @@ pub mod conversations;
 pub mod fields;
 pub mod peers;
 pub mod records;
+pub mod room;

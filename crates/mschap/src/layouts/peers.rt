@@ -1,13 +1,18 @@
 // The layout of a peer.
 use crate::buffers::fill;
-use crate::layouts::records::flag;
 use crate::layouts::records::is_flag;
+use crate::layouts::room::Room;
+use crate::layouts::room::empty_room;
+use crate::layouts::room::put_byte;
+use crate::layouts::room::put_eight;
+use crate::layouts::room::put_flag;
 use peer::Peer;
 use peer::Sent;
 use peer::Turn;
 ghost use mathlib.Core.Path.{_≡_};
 ghost use Rattle.mschap.specs.Call.{Fills, sized};
 ghost use Rattle.mschap.specs.Layout.{encodePeer, decodePeer, isEncodedPeer, peerSize};
+ghost use Rattle.mschap.specs.Code.{inRoom};
 
 pub const PEER_SIZE: usize = 19;
 
@@ -21,21 +26,18 @@ const NEXT_IDENTIFIER_AT: usize = 10;
 
 const NEXT_CHALLENGE_AT: usize = 11;
 
-fn encode_peer(peer: Peer) -> [u8; PEER_SIZE]
-    ensures { λ r. ⌜ r ≡ encodePeer peer ⌝ }
+fn encode_peer(peer: Peer) -> Room
+    ensures { λ r. ⌜ r .bytes ≡ inRoom (encodePeer peer) ⌝ }
 {
-    let mut bytes = [0u8; PEER_SIZE];
     let sent = peer.sent;
     let turn = peer.turn;
-    let last = [flag(sent.present), sent.id];
     let answered = sent.challenge;
-    let next = [turn.id];
     let challenge = turn.challenge;
-    octets::copy_at(&mut bytes, SENT_AT, &last);
-    octets::copy_at(&mut bytes, SENT_CHALLENGE_AT, &answered);
-    octets::copy_at(&mut bytes, NEXT_IDENTIFIER_AT, &next);
-    octets::copy_at(&mut bytes, NEXT_CHALLENGE_AT, &challenge);
-    bytes
+    let mut room = put_flag(empty_room(), SENT_AT, sent.present);
+    room = put_byte(room, SENT_IDENTIFIER_AT, sent.id);
+    room = put_eight(room, SENT_CHALLENGE_AT, answered);
+    room = put_byte(room, NEXT_IDENTIFIER_AT, turn.id);
+    put_eight(room, NEXT_CHALLENGE_AT, challenge)
 }
 
 pub fn decode_peer(bytes: &[u8]) -> Peer
@@ -63,8 +65,8 @@ pub fn is_encoded_peer(bytes: &[u8]) -> bool
     ensures { λ r. ⌜ r ≡ isEncodedPeer (now (bytes .entry)) ⌝ }
 {
     let peer = decode_peer(bytes);
-    let encoding = encode_peer(peer);
-    octets::agree(&encoding, bytes)
+    let encoding = encode_peer(peer).bytes;
+    octets::agree(octets::part_of(&encoding, 0, PEER_SIZE), bytes)
 }
 
 // Fills out with the encoding of a peer, unless there is a refusal.
@@ -72,6 +74,6 @@ pub fn put_peer(refusal: u8, peer: Peer, out: &mut [u8]) -> u32
     ensures { λ r. ⌜ Fills (sized peerSize (now (out .entry))) refusal (encodePeer peer)
         (now (out .entry)) r (now (out .exit)) ⌝ }
 {
-    let encoding = encode_peer(peer);
-    fill(refusal, &encoding, out)
+    let encoding = encode_peer(peer).bytes;
+    fill(refusal, octets::part_of(&encoding, 0, PEER_SIZE), out)
 }

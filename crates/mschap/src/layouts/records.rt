@@ -1,13 +1,21 @@
 // The layout of an account and of a record, which is what a lookup found.
 use crate::buffers::fill;
+use crate::layouts::room::Room;
+use crate::layouts::room::empty_room;
+use crate::layouts::room::put_flag;
+use crate::layouts::room::put_sixteen;
 use authenticator::Account;
 use authenticator::Hash;
 use authenticator::Lookup;
 ghost use mathlib.Core.Path.{_≡_};
+ghost use Prim.Native.Nat.{_≤_};
+ghost use Rattle.octets.specs.Parts.{overAt};
 ghost use Rattle.mschap.specs.Call.{Fills, sized};
 ghost use Rattle.mschap.specs.Layout.{flag, isFlag, encodeHash, decodeHash};
-ghost use Rattle.mschap.specs.Layout.{encodeAccount, decodeAccount, encodeRecord, decodeRecord};
-ghost use Rattle.mschap.specs.Layout.{isEncodedRecord, recordSize};
+ghost use Rattle.mschap.specs.Layout.{encodeAccount, decodeAccount};
+ghost use Rattle.mschap.specs.Layout.{encodeRecord, decodeRecord};
+ghost use Rattle.mschap.specs.Layout.{isEncodedRecord, recordSize, keptAt};
+ghost use Rattle.mschap.specs.Code.{roomSize, inRoom};
 
 pub const OPTIONAL_HASH_SIZE: usize = 17;
 
@@ -46,15 +54,13 @@ pub fn is_flag(n: u8) -> bool
     n == 1
 }
 
-fn encode_hash(hash: Hash) -> [u8; OPTIONAL_HASH_SIZE]
-    ensures { λ r. ⌜ r ≡ encodeHash hash ⌝ }
+fn encode_hash(mut room: Room, at: usize, hash: Hash) -> Room
+    requires { ⌜ at ≤ roomSize ⌝ }
+    ensures { λ r. ⌜ r .bytes ≡ overAt at (encodeHash hash) (room .bytes) ⌝ }
 {
-    let mut bytes = [0u8; OPTIONAL_HASH_SIZE];
-    let present = [flag(hash.present)];
     let octets = hash.octets;
-    octets::copy_at(&mut bytes, 0, &present);
-    octets::copy_at(&mut bytes, 1, &octets);
-    bytes
+    room = put_flag(room, at, hash.present);
+    put_sixteen(room, at + 1, octets)
 }
 
 fn decode_hash(bytes: &[u8]) -> Hash
@@ -65,24 +71,18 @@ fn decode_hash(bytes: &[u8]) -> Hash
     Hash { present, octets }
 }
 
-pub fn encode_account(account: Account) -> [u8; ACCOUNT_SIZE]
-    ensures { λ r. ⌜ r ≡ encodeAccount account ⌝ }
+pub fn encode_account(mut room: Room, at: usize, account: Account) -> Room
+    requires { ⌜ at ≤ keptAt ⌝ }
+    ensures { λ r. ⌜ r .bytes ≡ overAt at (encodeAccount account) (room .bytes) ⌝ }
 {
-    let mut bytes = [0u8; ACCOUNT_SIZE];
     let nt = account.nt;
     let lm = account.lm;
-    let first = encode_hash(nt);
-    let second = encode_hash(lm);
-    let flags = [
-        flag(account.disabled),
-        flag(account.barred),
-        flag(account.nodialin),
-        flag(account.expired),
-    ];
-    octets::copy_at(&mut bytes, NT_AT, &first);
-    octets::copy_at(&mut bytes, LM_AT, &second);
-    octets::copy_at(&mut bytes, DISABLED_AT, &flags);
-    bytes
+    room = encode_hash(room, at, nt);
+    room = encode_hash(room, at + LM_AT, lm);
+    room = put_flag(room, at + DISABLED_AT, account.disabled);
+    room = put_flag(room, at + BARRED_AT, account.barred);
+    room = put_flag(room, at + NODIALIN_AT, account.nodialin);
+    put_flag(room, at + EXPIRED_AT, account.expired)
 }
 
 pub fn decode_account(bytes: &[u8]) -> Account
@@ -104,16 +104,12 @@ pub fn decode_account(bytes: &[u8]) -> Account
     }
 }
 
-fn encode_record(lookup: Lookup) -> [u8; RECORD_SIZE]
-    ensures { λ r. ⌜ r ≡ encodeRecord lookup ⌝ }
+fn encode_record(lookup: Lookup) -> Room
+    ensures { λ r. ⌜ r .bytes ≡ inRoom (encodeRecord lookup) ⌝ }
 {
-    let mut bytes = [0u8; RECORD_SIZE];
     let account = lookup.account;
-    let found = [flag(lookup.found)];
-    let rest = encode_account(account);
-    octets::copy_at(&mut bytes, FOUND_AT, &found);
-    octets::copy_at(&mut bytes, ACCOUNT_AT, &rest);
-    bytes
+    let room = put_flag(empty_room(), FOUND_AT, lookup.found);
+    encode_account(room, ACCOUNT_AT, account)
 }
 
 pub fn decode_record(bytes: &[u8]) -> Lookup
@@ -128,8 +124,8 @@ pub fn is_encoded_record(bytes: &[u8]) -> bool
     ensures { λ r. ⌜ r ≡ isEncodedRecord (now (bytes .entry)) ⌝ }
 {
     let lookup = decode_record(bytes);
-    let encoding = encode_record(lookup);
-    octets::agree(&encoding, bytes)
+    let encoding = encode_record(lookup).bytes;
+    octets::agree(octets::part_of(&encoding, 0, RECORD_SIZE), bytes)
 }
 
 // Fills out with the encoding of a record, unless there is a refusal.
@@ -137,6 +133,6 @@ pub fn put_record(refusal: u8, lookup: Lookup, out: &mut [u8]) -> u32
     ensures { λ r. ⌜ Fills (sized recordSize (now (out .entry))) refusal (encodeRecord lookup)
         (now (out .entry)) r (now (out .exit)) ⌝ }
 {
-    let encoding = encode_record(lookup);
-    fill(refusal, &encoding, out)
+    let encoding = encode_record(lookup).bytes;
+    fill(refusal, octets::part_of(&encoding, 0, RECORD_SIZE), out)
 }

@@ -57,7 +57,7 @@ pub fn their_conversation(ours: &Conversation) -> their::Conversation {
     }
 }
 
-/// A conversation of theirs as one of ours; octets of no effect are drawn.
+/// A conversation of theirs as one of ours; bytes of no effect are drawn.
 pub fn our_conversation(theirs: &their::Conversation, random: &mut Random) -> Conversation {
     let mut octets: [u8; sys::CONVERSATION_SIZE] = random.array();
     for mark in [12, 29, 46, 47, 48, 49] {
@@ -78,7 +78,7 @@ pub fn our_conversation(theirs: &their::Conversation, random: &mut Random) -> Co
     Conversation::from_octets(octets).expect("a conversation")
 }
 
-/// An account of theirs in our octets; a hash that is not there has drawn octets.
+/// An account of theirs in our bytes; a hash that is not there has drawn bytes.
 pub fn account_octets(account: &their::Account, random: &mut Random) -> [u8; sys::ACCOUNT_SIZE] {
     let mut octets: [u8; sys::ACCOUNT_SIZE] = our_account(account).octets();
     if account.nt.is_none() {
@@ -90,15 +90,15 @@ pub fn account_octets(account: &their::Account, random: &mut Random) -> [u8; sys
     octets
 }
 
-/// A list of issued challenges as either is lent it.
+/// A list of issued challenges as it is passed to either.
 #[derive(Clone, Debug, PartialEq, Eq)]
-pub struct Lent {
+pub struct Passed {
     pub list: Vec<u8>,
     pub used: usize,
     pub counts: Vec<u16>,
 }
 
-/// What an opening is lent beside its list and its buffers. 255 stands for the default.
+/// What an opening is passed beside its list and its buffers. 255 stands for the default.
 #[derive(Clone, Copy, Debug)]
 pub struct Terms {
     pub id: u8,
@@ -107,10 +107,10 @@ pub struct Terms {
     pub lm: u8,
 }
 
-impl Lent {
-    /// So many places of octets 0, none of them used.
-    pub fn empty(places: usize) -> Lent {
-        Lent {
+impl Passed {
+    /// So many places of bytes 0, none of them used.
+    pub fn empty(places: usize) -> Passed {
+        Passed {
             list: vec![0; places * sys::CHALLENGE_SIZE],
             used: 0,
             counts: vec![0; sys::COUNTS_SIZE],
@@ -146,13 +146,13 @@ impl Lent {
         lm: Option<bool>,
         reply: &mut [u8],
     ) -> their::Opening {
-        let mut lent = issued::Issued {
+        let mut passed = issued::Issued {
             list: &mut self.list,
             used: self.used,
             counts: &mut self.counts,
         };
-        let opening = their::open(id, challenge, retries, lm, &mut lent, reply);
-        self.used = lent.used;
+        let opening = their::open(id, challenge, retries, lm, &mut passed, reply);
+        self.used = passed.used;
         opening
     }
 
@@ -180,7 +180,7 @@ pub struct Outcome {
 }
 
 impl Boxes {
-    /// One step in both, each with its own buffer of the same octets. Answer, next conversation,
+    /// One step in both, each with its own buffer of the same bytes. Answer, next conversation,
     /// handed-out record and the whole buffers must agree.
     pub fn step(
         &mut self,
@@ -190,7 +190,7 @@ impl Boxes {
         their_reply: &mut [u8],
     ) -> Outcome {
         let before = self.ours;
-        let lent = our_reply.to_vec();
+        let passed = our_reply.to_vec();
         let ours = self
             .ours
             .step(packet, record.map(our_account).as_ref(), our_reply);
@@ -212,7 +212,7 @@ impl Boxes {
             }
             Err(_) => {
                 assert_eq!(self.ours, before, "a refusal changes nothing");
-                assert_eq!(our_reply, lent, "a refusal writes nothing");
+                assert_eq!(our_reply, passed, "a refusal writes nothing");
             }
         }
         Outcome {
@@ -233,14 +233,14 @@ pub struct Peers {
     turn: peer::Turn,
 }
 
-/// An identifier and a challenge of theirs, in our octets.
+/// An identifier and a challenge of theirs, in our bytes.
 fn turn_octets(turn: &peer::Turn) -> [u8; 9] {
     let mut octets = [turn.id; 9];
     octets[1..].copy_from_slice(&turn.challenge);
     octets
 }
 
-/// The last packet, or none, and the next one, in our octets.
+/// The last packet, or none, and the next one, in our bytes.
 fn peer_octets(sent: Option<&peer::Turn>, turn: &peer::Turn) -> [u8; sys::PEER_SIZE] {
     let mut octets = [0; sys::PEER_SIZE];
     octets[0] = sent.is_some().into();
@@ -301,8 +301,8 @@ impl Peers {
         assert_eq!(turn, (self.turn.id, self.turn.challenge), "the turns");
     }
 
-    /// A packet was written into two buffers that held the same octets, `lent`; a refusal left buffer
-    /// and peer as they were. `before` is our peer before it.
+    /// A packet was written into two buffers that held the same bytes, `passed`; a refusal left
+    /// buffer and peer as they were. `before` is our peer before it.
     fn wrote(
         &mut self,
         before: Peer,
@@ -310,7 +310,7 @@ impl Peers {
         written: peer::Written,
         out: [&[u8]; 3],
     ) -> Result<usize, u8> {
-        let [ours, theirs, lent] = out;
+        let [ours, theirs, passed] = out;
         assert_eq!(ours, theirs, "the packet and what lies behind it");
         let expected = match written.refusal {
             0 => Ok(written.written),
@@ -321,7 +321,7 @@ impl Peers {
             Ok(_) => self.sent = Some(self.turn),
             Err(_) => assert_eq!(
                 (self.ours, ours),
-                (before, lent),
+                (before, passed),
                 "a refusal changes nothing"
             ),
         }
@@ -336,10 +336,10 @@ impl Peers {
         name: &[u8],
         out: &mut [u8],
     ) -> Result<usize, u8> {
-        let (before, lent, mut theirs) = (self.ours, out.to_vec(), out.to_vec());
+        let (before, passed, mut theirs) = (self.ours, out.to_vec(), out.to_vec());
         let answer = plain(self.ours.write_response(password, name, out));
         let written = peer::write_response(&self.turn, password, name, &mut theirs);
-        self.wrote(before, answer, written, [out, &theirs, &lent])
+        self.wrote(before, answer, written, [out, &theirs, &passed])
     }
 
     /// The change of both, into a buffer that holds the packet afterwards.
@@ -350,14 +350,14 @@ impl Peers {
         filler: &[u8; sys::FILLER_SIZE],
         out: &mut [u8],
     ) -> Result<usize, u8> {
-        let (before, lent, mut theirs) = (self.ours, out.to_vec(), out.to_vec());
+        let (before, passed, mut theirs) = (self.ours, out.to_vec(), out.to_vec());
         let answer = plain(self.ours.write_change(old, new, filler, out));
         let written = peer::write_change(&self.turn, old, new, filler, &mut theirs);
-        self.wrote(before, answer, written, [out, &theirs, &lent])
+        self.wrote(before, answer, written, [out, &theirs, &passed])
     }
 
     /// Both read a reply, each its own copy, and ours reads it twice, which must give the same. A
-    /// refused packet leaves the peer, and the fields that it was lent, as they were.
+    /// refused packet leaves the peer, and the fields that were passed, as they were.
     pub fn read_reply(&mut self, ours: &[u8], theirs: &[u8]) -> Result<Verdict, u8> {
         let before = self.ours;
         let reading = match self.sent {

@@ -1,8 +1,8 @@
-//! Openings over lists of issued challenges, by runs: lists of every fill, lists that are none, and
-//! one list that forty boxes fill. Answer, conversation, reply, list, used and counts must agree,
-//! and the answer must be the one that the case was made for.
+//! Openings over lists of issued challenges, by buffers: lists of every fill, lists that are none,
+//! and one list that forty boxes fill. Answer, conversation, reply, list, used and counts must
+//! agree, and the answer must be the one that the case was made for.
 
-use crate::both::{their_conversation, Lent, Terms};
+use crate::both::{their_conversation, Passed, Terms};
 use crate::random::Random;
 use crate::run::{run, Seen};
 use mschap::{sys, Challenge, Conversation};
@@ -11,13 +11,13 @@ use std::collections::HashSet;
 
 const WIDTH: usize = sys::CHALLENGE_SIZE;
 
-/// One opening in both, each over its own list with the same octets.
+/// One opening in both, each over its own list with the same bytes.
 fn open(
     random: &mut Random,
     terms: &Terms,
     size: usize,
-    ours: &mut Lent,
-    theirs: &mut Lent,
+    ours: &mut Passed,
+    theirs: &mut Passed,
 ) -> u32 {
     let before = ours.clone();
     let drawn: [u8; sys::CONVERSATION_SIZE] = random.array();
@@ -50,7 +50,7 @@ fn open(
 }
 
 /// The two lists are the same. Of long ones only the first place that differs is told.
-fn agree(one: &Lent, other: &Lent) {
+fn agree(one: &Passed, other: &Passed) {
     assert_eq!(one.used, other.used, "the places used");
     assert_eq!(one.counts, other.counts, "the counts");
     let mut pairs = one.list.chunks(WIDTH).zip(other.list.chunks(WIDTH));
@@ -58,7 +58,7 @@ fn agree(one: &Lent, other: &Lent) {
     assert_eq!(one.list.len(), other.list.len());
 }
 
-/// A challenge of a small set: few last octets, and first octets some steps of 23 from each other.
+/// A challenge of a small set: few last bytes, and first bytes some steps of 23 from each other.
 fn near(random: &mut Random) -> Challenge {
     let first = (random.below(12) * 23 + random.below(2)) as u8;
     let last = random.pick(&[0, 8, 8, 255]);
@@ -95,7 +95,7 @@ fn spent_by(terms: &Terms) -> Vec<Challenge> {
 
 /// A list of so many places, with true counts, none of whose entries the opening spends. What lies
 /// in the unused places is drawn too.
-fn list(random: &mut Random, places: usize, spent: &[Challenge], seen: &mut Seen) -> Lent {
+fn list(random: &mut Random, places: usize, spent: &[Challenge], seen: &mut Seen) -> Passed {
     let used = match random.below(7) {
         0 => 0,
         1 => places / 2,
@@ -126,56 +126,56 @@ fn list(random: &mut Random, places: usize, spent: &[Challenge], seen: &mut Seen
             list.extend(entry);
         }
     }
-    let mut lent = Lent {
+    let mut passed = Passed {
         list,
         used,
         counts: vec![],
     };
-    count(&mut lent);
-    lent
+    count(&mut passed);
+    passed
 }
 
 /// Makes the counts true.
-fn count(lent: &mut Lent) {
-    lent.counts = vec![0; sys::COUNTS_SIZE];
-    for place in lent.list.chunks(WIDTH).take(lent.used) {
-        lent.counts[usize::from(place[WIDTH - 1])] += 1;
+fn count(passed: &mut Passed) {
+    passed.counts = vec![0; sys::COUNTS_SIZE];
+    for place in passed.list.chunks(WIDTH).take(passed.used) {
+        passed.counts[usize::from(place[WIDTH - 1])] += 1;
     }
 }
 
-fn put(lent: &mut Lent, place: usize, entry: &Challenge) {
-    lent.list[place * WIDTH..][..WIDTH].copy_from_slice(entry);
+fn put(passed: &mut Passed, place: usize, entry: &Challenge) {
+    passed.list[place * WIDTH..][..WIDTH].copy_from_slice(entry);
 }
 
 /// Puts a challenge that the opening spends into the list, at a drawn place or at none.
-fn plant(random: &mut Random, lent: &mut Lent, spent: &[Challenge]) -> &'static str {
-    let places = lent.list.len() / WIDTH;
-    let used = lent.used;
+fn plant(random: &mut Random, passed: &mut Passed, spent: &[Challenge]) -> &'static str {
+    let places = passed.list.len() / WIDTH;
+    let used = passed.used;
     let what = match random.below(9) {
         0 if used > 0 => {
-            put(lent, 0, &spent[0]);
+            put(passed, 0, &spent[0]);
             "spent: first"
         }
         1 if used > 0 => {
-            put(lent, used - 1, &spent[0]);
+            put(passed, used - 1, &spent[0]);
             "spent: last"
         }
         2 if used > 2 => {
-            put(lent, random.between(1, used - 2), &spent[0]);
+            put(passed, random.between(1, used - 2), &spent[0]);
             "spent: in the middle"
         }
         3 if used > 0 && spent.len() > 1 => {
             let successor = random.between(1, spent.len() - 1);
-            put(lent, random.below(used), &spent[successor]);
+            put(passed, random.below(used), &spent[successor]);
             "spent: a successor"
         }
         4 if used > 0 && spent.len() > 1 => {
-            put(lent, random.below(used), &spent[spent.len() - 1]);
+            put(passed, random.below(used), &spent[spent.len() - 1]);
             "spent: the last successor"
         }
         5 if used < places => {
-            put(lent, random.between(used, places - 1), &spent[0]);
-            put(lent, used, &random.pick(spent));
+            put(passed, random.between(used, places - 1), &spent[0]);
+            put(passed, used, &random.pick(spent));
             "not spent: in an unused place"
         }
         // the challenge before this one, and the one behind the last successor
@@ -185,88 +185,89 @@ fn plant(random: &mut Random, lent: &mut Lent, spent: &[Challenge]) -> &'static 
                 _ => (spent[spent.len() - 1], 23),
             };
             other[0] = other[0].wrapping_add(step as u8);
-            put(lent, random.below(used), &other);
+            put(passed, random.below(used), &other);
             "not spent: beside them"
         }
-        // the same in seven octets
+        // the same in seven bytes
         7 if used > 0 => {
             let mut other = random.pick(spent);
             other[random.between(1, 7)] ^= 1 << random.below(8);
-            put(lent, random.below(used), &other);
+            put(passed, random.below(used), &other);
             "not spent: seven octets the same"
         }
         _ => "not spent",
     };
-    count(lent);
+    count(passed);
     what
 }
 
 /// Makes the list one that is to be refused with 24, or leaves it as it is.
-fn spoil(random: &mut Random, lent: &mut Lent) -> &'static str {
-    let places = lent.list.len() / WIDTH;
-    let counted = |lent: &Lent, random: &mut Random| {
-        let place = random.below(lent.used);
-        usize::from(lent.list[place * WIDTH + WIDTH - 1])
+fn spoil(random: &mut Random, passed: &mut Passed) -> &'static str {
+    let places = passed.list.len() / WIDTH;
+    let counted = |passed: &Passed, random: &mut Random| {
+        let place = random.below(passed.used);
+        usize::from(passed.list[place * WIDTH + WIDTH - 1])
     };
     match random.below(40) {
         0 => {
             let more = random.between(1, 7);
-            lent.list.extend(random.octets(more));
+            passed.list.extend(random.octets(more));
             "octets over"
         }
-        1 if places > lent.used => {
-            let size = lent.list.len() - random.between(1, 7);
-            lent.list.truncate(size);
+        1 if places > passed.used => {
+            let size = passed.list.len() - random.between(1, 7);
+            passed.list.truncate(size);
             "octets missing"
         }
         2 => {
-            lent.used = places + 1;
+            passed.used = places + 1;
             "used: one over"
         }
         3 => {
-            let before = lent.used;
-            lent.used = random.pick(&[places + 2, 2 * places + 1, 4096, 4097, 65_536, usize::MAX]);
+            let before = passed.used;
+            passed.used =
+                random.pick(&[places + 2, 2 * places + 1, 4096, 4097, 65_536, usize::MAX]);
             // all of 4,096 places may have been used before
-            if lent.used == before {
+            if passed.used == before {
                 "a list"
             } else {
                 "used: any"
             }
         }
         4 => {
-            lent.counts.pop();
+            passed.counts.pop();
             "255 counts"
         }
         5 => {
-            lent.counts.push(0);
+            passed.counts.push(0);
             "257 counts"
         }
         6 => {
             let size = random.pick(&[0, 1, 128, 512]);
-            lent.counts.resize(size, 0);
+            passed.counts.resize(size, 0);
             "another number of counts"
         }
-        7 if lent.used > 0 => {
-            let octet = counted(lent, random);
-            lent.counts[octet] += random.pick(&[1, 1, 256, 32_768]);
+        7 if passed.used > 0 => {
+            let octet = counted(passed, random);
+            passed.counts[octet] += random.pick(&[1, 1, 256, 32_768]);
             "a count too high"
         }
-        8 if lent.used > 0 => {
-            let octet = counted(lent, random);
-            lent.counts[octet] -= 1;
+        8 if passed.used > 0 => {
+            let octet = counted(passed, random);
+            passed.counts[octet] -= 1;
             "a count too low"
         }
-        9 if lent.counts.contains(&0) => {
-            let none = (0..256).filter(|octet| lent.counts[*octet] == 0);
+        9 if passed.counts.contains(&0) => {
+            let none = (0..256).filter(|octet| passed.counts[*octet] == 0);
             let none: Vec<usize> = none.collect();
-            lent.counts[random.pick(&none)] = random.pick(&[1, 1, 2, 256, 65_535]);
+            passed.counts[random.pick(&none)] = random.pick(&[1, 1, 2, 256, 65_535]);
             "a count of no entry"
         }
         // the sum stays
-        10 if lent.used > 0 => {
-            let octet = counted(lent, random);
-            lent.counts[octet] -= 1;
-            lent.counts[octet ^ (1 << random.below(8))] += 1;
+        10 if passed.used > 0 => {
+            let octet = counted(passed, random);
+            passed.counts[octet] -= 1;
+            passed.counts[octet ^ (1 << random.below(8))] += 1;
             "two counts"
         }
         _ => "a list",
@@ -276,18 +277,18 @@ fn spoil(random: &mut Random, lent: &mut Lent) -> &'static str {
 fn opening(random: &mut Random, seen: &mut Seen, places: usize) {
     let terms = terms(random);
     let spent = spent_by(&terms);
-    let mut lent = list(random, places, &spent, seen);
-    let planted = plant(random, &mut lent, &spent);
-    let few = places - lent.used < spent.len();
-    let spoiled = spoil(random, &mut lent);
+    let mut passed = list(random, places, &spent, seen);
+    let planted = plant(random, &mut passed, &spent);
+    let few = places - passed.used < spent.len();
+    let spoiled = spoil(random, &mut passed);
     let size = match random.below(20) {
         0 => 16,
         1 => random.below(17),
         2..=4 => random.between(17, 40),
         _ => 17,
     };
-    let mut theirs = lent.clone();
-    let number = open(random, &terms, size, &mut lent, &mut theirs);
+    let mut theirs = passed.clone();
+    let number = open(random, &terms, size, &mut passed, &mut theirs);
 
     let answer = if (8..sys::DEFAULT).contains(&terms.retries) {
         13
@@ -410,7 +411,7 @@ fn long_lists_agree() {
 /// Forty boxes open over one list until it is full, and go on. Some challenges are drawn again, so
 /// that openings are refused on the way. At the end all entries differ.
 fn boxes(random: &mut Random, seen: &mut Seen, places: usize) {
-    let mut ours = Lent::empty(places);
+    let mut ours = Passed::empty(places);
     ours.list = random.octets(places * WIDTH);
     let mut theirs = ours.clone();
     let retries: [u8; 40] = random.array::<40>().map(|octet| octet % 8);

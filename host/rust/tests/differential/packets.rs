@@ -47,7 +47,7 @@ pub fn account(random: &mut Random) -> Account {
     }
 }
 
-/// A reply buffer of drawn octets: nearly always large enough.
+/// A reply buffer of drawn bytes: nearly always large enough.
 pub fn buffer(random: &mut Random) -> Vec<u8> {
     let size = match random.below(25) {
         0 => random.below(17),
@@ -178,7 +178,7 @@ fn once(random: &mut Random, packet: &mut Vec<u8>) {
     }
 }
 
-/// Octets that are no packet by design, though some have a frame.
+/// Bytes that are no packet by design, though some have a frame.
 pub fn noise(random: &mut Random) -> Vec<u8> {
     let size = match random.below(10) {
         0 => random.between(0, 1200),

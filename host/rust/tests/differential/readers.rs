@@ -44,7 +44,7 @@ fn message(random: &mut Random, seen: &mut Seen) {
     reply_to(peers, &packet, seen);
 }
 
-/// A reply to a peer that sent nothing. The octets that stand for its last packet are drawn, and the
+/// A reply to a peer that sent nothing. The bytes that stand for its last packet are drawn, and the
 /// reply has their identifier: they have no effect, and stay.
 fn early(random: &mut Random, seen: &mut Seen) {
     let mut octets: [u8; sys::PEER_SIZE] = random.array();

@@ -1,6 +1,6 @@
 //! Whole series from opening to end: our peer against their box, their peer against our box.
 
-use crate::both::{plain, their_conversation, Boxes, Lent, Peers};
+use crate::both::{plain, their_conversation, Boxes, Passed, Peers};
 use crate::packets;
 use crate::random::Random;
 use crate::run::{run, Seen};
@@ -90,7 +90,7 @@ fn read_among(
     call
 }
 
-/// Opens in both, with the same octets in both buffers, and a list with room for the one opening.
+/// Opens in both, with the same bytes in both buffers, and a list with room for the one opening.
 fn open(random: &mut Random) -> (Boxes, Peers) {
     let id = random.octet();
     let challenge = random.array();
@@ -101,13 +101,13 @@ fn open(random: &mut Random) -> (Boxes, Peers) {
     let mut their_reply = our_reply.clone();
     let places = usize::from(retries.unwrap_or(their::DEFAULT_RETRIES)) + 1;
     let mut issued = Issued::new(places);
-    let mut lent = Lent::empty(places);
+    let mut passed = Passed::empty(places);
     let ours = Conversation::open(id, &challenge, retries, lm, &mut issued, &mut our_reply);
-    let theirs = lent.their_open(id, &challenge, retries, lm, &mut their_reply);
+    let theirs = passed.their_open(id, &challenge, retries, lm, &mut their_reply);
     let (conversation, written) = plain(ours).expect("an opening");
     assert_eq!((0, written), (theirs.refusal, theirs.written));
     assert_eq!(issued.left(), 0);
-    lent.agrees(&issued);
+    passed.agrees(&issued);
     assert_eq!(
         our_reply, their_reply,
         "the Challenge and what lies behind it"
@@ -310,10 +310,10 @@ fn openings_agree() {
     let seen = run("openings", 100_000, |random, seen| {
         let places = random.below(16);
         let mut issued = Issued::new(places);
-        let mut lent = Lent::empty(places);
+        let mut passed = Passed::empty(places);
         let mut challenge = random.array();
         for _ in 0..random.between(1, 4) {
-            opening(random, &challenge, &mut issued, &mut lent, seen);
+            opening(random, &challenge, &mut issued, &mut passed, seen);
             match random.below(4) {
                 0 => {}
                 1 => challenge = reference::grown(&challenge),
@@ -321,7 +321,7 @@ fn openings_agree() {
             }
             if random.chance(5) {
                 issued.empty();
-                lent = Lent::empty(places);
+                passed = Passed::empty(places);
             }
             if random.chance(20) {
                 issued = Issued::restored(places, issued.octets()).expect("a list");
@@ -339,7 +339,7 @@ fn opening(
     random: &mut Random,
     challenge: &[u8; 8],
     issued: &mut Issued,
-    lent: &mut Lent,
+    passed: &mut Passed,
     seen: &mut Seen,
 ) {
     let id = random.octet();
@@ -353,9 +353,9 @@ fn opening(
     let mut ours = packets::buffer(random);
     let mut theirs = ours.clone();
     let answer = Conversation::open(id, challenge, retries, lm, issued, &mut ours);
-    let opening = lent.their_open(id, challenge, retries, lm, &mut theirs);
+    let opening = passed.their_open(id, challenge, retries, lm, &mut theirs);
     assert_eq!(ours, theirs);
-    lent.agrees(issued);
+    passed.agrees(issued);
     match plain(answer) {
         Ok((conversation, written)) => {
             assert_eq!((0, written), (opening.refusal, opening.written));

@@ -74,8 +74,8 @@ fn step(random: &mut Random, seen: &mut Seen) {
         theirs: conversation,
     };
     let before = boxes.ours;
-    let lent = packets::buffer(random);
-    let (mut our_reply, mut their_reply) = (lent.clone(), lent.clone());
+    let passed = packets::buffer(random);
+    let (mut our_reply, mut their_reply) = (passed.clone(), passed.clone());
     let outcome = boxes.step(&packet, record, &mut our_reply, &mut their_reply);
     seen.note(match (outcome.refusal, outcome.reason) {
         (0, 0) if outcome.changed.is_some() => "judged: changed".to_string(),
@@ -83,7 +83,7 @@ fn step(random: &mut Random, seen: &mut Seen) {
         (refusal, _) => format!("refused {refusal}"),
     });
 
-    // The same by runs, with drawn octets wherever they have no effect.
+    // The same by buffers, with drawn bytes wherever they have no effect.
     if random.chance(20) {
         let mut octets = *before.octets();
         let mut raw = [0; sys::RECORD_SIZE];
@@ -91,10 +91,10 @@ fn step(random: &mut Random, seen: &mut Seen) {
         raw[0] = record.is_some().into();
         let garbage: [u8; sys::RECORD_SIZE] = random.array();
         let mut handed = garbage;
-        let mut reply = lent;
+        let mut reply = passed;
         let number = sys::step(&mut octets, &packet, &raw, &mut reply, &mut handed);
         assert_eq!(number, u32::from(outcome.refusal));
-        // Octets of no effect may be kept as they were lent, so values are compared here.
+        // Bytes of no effect may be kept as they were passed, so values are compared here.
         let next = mschap::Conversation::from_octets(octets).expect("a conversation");
         assert_eq!(their_conversation(&next), boxes.theirs);
         assert_eq!(reply, our_reply);

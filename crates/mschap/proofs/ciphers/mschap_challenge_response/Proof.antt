@@ -36,8 +36,9 @@ returns-2 c =
     let second =
     made .before .eight-at .ensures ∙ fixed-whole 8 (a .challenge .now) (eqb-true _ _ (sizes .1)) in
     let size : length (made .challenge-response .result) ≡ 24 = search needs in
+    let value = made .challenge-response .ensures ∙ ap₂ responseOf first second in
     fills-as (ap (λ (t : Bool). t && sized 24 (a .response .now)) (sym good)) refl refl
-    (filled-with size (made .challenge-response .ensures ∙ ap₂ responseOf first second) refl (put .fill .ensures))
+    (filled-with size value refl (put .fill .ensures))
 
 pub mschap-challenge-response-spec : {M : Type 1} → statement M
 mschap-challenge-response-spec =

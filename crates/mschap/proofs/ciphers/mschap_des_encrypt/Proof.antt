@@ -36,8 +36,9 @@ returns-2 c =
     let second =
     made .before .eight-at .ensures ∙ fixed-whole 8 (a .block .now) (eqb-true _ _ (sizes .1)) in
     let size : length (made .encrypt .result) ≡ 8 = search needs in
+    let value = made .encrypt .ensures ∙ ap₂ desEncrypt first second in
     fills-as (ap (λ (t : Bool). t && sized 8 (a .out .now)) (sym good)) refl refl
-    (filled-with size (made .encrypt .ensures ∙ ap₂ desEncrypt first second) refl (put .fill .ensures))
+    (filled-with size value refl (put .fill .ensures))
 
 pub mschap-des-encrypt-spec : {M : Type 1} → statement M
 mschap-des-encrypt-spec =

@@ -12,15 +12,15 @@ returns : tie.Need-returns
 unfolding openArguments
 returns c =
     let choice = c .before in
-    simp (eq-eqb _ _ (choice .before .if1 .taken), sym (choice .is-lm-choice .ensures) ∙ c .if2 .taken)
+    let sized = eq-eqb _ _ (choice .before .if1 .taken) in
+    simp (sized, sym (choice .is-lm-choice .ensures) ∙ c .if2 .taken)
 
 returns-2 : tie.Need-returns-2
 unfolding openArguments
 returns-2 c =
     let choice = c .before in
-    c .if2 .left
-    ∙ sym
-    (simp (eq-eqb _ _ (choice .before .if1 .taken), sym (choice .is-lm-choice .ensures) ∙ c .if2 .left))
+    let sized = eq-eqb _ _ (choice .before .if1 .taken) in
+    c .if2 .left ∙ sym (simp (sized, sym (choice .is-lm-choice .ensures) ∙ c .if2 .left))
 
 returns-3 : tie.Need-returns-3
 unfolding openArguments

@@ -12,7 +12,8 @@ use Rattle.mschap.proofs.conversations.mschap_open.Statement.{statement
 use Rattle.mschap.proofs.conversations.mschap_open.Tie as tie
 
 -- The arguments are tested by one function, the opening is made of what they stand for, and its
--- conversation is put into the caller's buffer: Calls says what that makes the call return and leave.
+-- conversation is put into the caller's buffer: Calls says what that makes the call return and
+-- leave.
 
 -- the arguments are not valid
 returns : tie.Need-returns

@@ -12,14 +12,15 @@ use Rattle.mschap.proofs.Calls.{step-sizes, step-called}
 use Rattle.mschap.proofs.conversations.mschap_step.Statement.{statement}
 use Rattle.mschap.proofs.conversations.mschap_step.Tie as tie
 
--- The arguments are tested by one function, the step is taken on what they decode to, and its answer
--- is put into the caller's buffers: Calls says what that makes the call return and leave.
+-- The arguments are tested by one function, the step is taken on what they decode to, and its
+-- answer is put into the caller's buffers: Calls says what that makes the call return and leave.
 
 abbrev start : tie.Else1 → tie.Start
 start c = c .before .before .before .before .before .before .before .before .before
 
 valid : (c : tie.Else1)
-    → stepArguments (start c .args .conversation .now) (start c .args .account .now) (start c .args .handed .now) ≡ true
+    → let a = start c .args in
+    stepArguments (a .conversation .now) (a .account .now) (a .handed .now) ≡ true
 valid c = sym (c .before .are-step-arguments .ensures) ∙ not-false _ (c .if1 .left)
 
 put-answer-requires : tie.Need-put-answer-requires

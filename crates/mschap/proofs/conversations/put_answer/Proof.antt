@@ -25,7 +25,8 @@ returns c =
           fills-number (start .pre .1) (second .put-record .ensures) ∙ numbered .number-of .ensures;
       next =
           first .put-conversation .ensures .bytes
-          ∙ ap (λ (i : ℕ). left i (encodeConversation (a .answer .next)) (a .conversation .now)) same;
+          ∙ ap (λ (i : ℕ). left i (encodeConversation (a .answer .next)) (a .conversation .now))
+          same;
       handed = second .put-record .ensures .bytes;
     }
 

@@ -9,13 +9,14 @@ use Rattle.mschap.proofs.PeerCalls.{reply-sizes, reply-called}
 use Rattle.mschap.proofs.peers.mschap_read_reply.Statement.{statement}
 use Rattle.mschap.proofs.peers.mschap_read_reply.Tie as tie
 
--- The arguments are tested by one function, the reply is read by the decoded peer, and what was read
--- is put into the caller's buffers: PeerCalls says what that makes the call return and leave.
+-- The arguments are tested by one function, the reply is read by the decoded peer, and what was
+-- read is put into the caller's buffers: PeerCalls says what that makes the call return and leave.
 
 abbrev start : tie.Else1 → tie.Start
 start c = c .before .before .before .before .before .before .before
 
-valid : (c : tie.Else1) → replyArguments (start c .args .peer .now) (start c .args .fields .now) ≡ true
+valid : (c : tie.Else1)
+    → replyArguments (start c .args .peer .now) (start c .args .fields .now) ≡ true
 valid c = sym (c .before .are-reply-arguments .ensures) ∙ not-false _ (c .if1 .left)
 
 put-reply-requires : tie.Need-put-reply-requires

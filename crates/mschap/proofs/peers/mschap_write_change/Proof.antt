@@ -32,8 +32,9 @@ returns-2 c =
     let a = passed .before .before .before .before .before .before .before .before .args in
     let out = a .out .now in
     let valid = sym (passed .before .is-encoded-peer .ensures) ∙ not-false _ (passed .if1 .left) in
-    wrote-called (λ (t : Turn). writeChange t (a .old .now) (a .new .now) (a .filler .now) out) (a .peer .now) out
-    valid (change-kept (a .old .now) (a .new .now) (a .filler .now) out) (decoded .decode-peer .ensures)
+    wrote-called (λ (t : Turn). writeChange t (a .old .now) (a .new .now) (a .filler .now) out)
+    (a .peer .now) out valid (change-kept (a .old .now) (a .new .now) (a .filler .now) out)
+    (decoded .decode-peer .ensures)
     (wrote .write-change .ensures) (put .put-peer .ensures)
 
 pub mschap-write-change-spec : {M : Type 1} → statement M

@@ -32,8 +32,9 @@ returns-2 c =
     let a = passed .before .before .before .before .before .before .before .args in
     let out = a .out .now in
     let valid = sym (passed .before .is-encoded-peer .ensures) ∙ not-false _ (passed .if1 .left) in
-    wrote-called (λ (t : Turn). writeResponse t (a .password .now) (a .name .now) out) (a .peer .now) out
-    valid (response-kept (a .password .now) (a .name .now) out) (decoded .decode-peer .ensures)
+    wrote-called (λ (t : Turn). writeResponse t (a .password .now) (a .name .now) out)
+    (a .peer .now) out valid (response-kept (a .password .now) (a .name .now) out)
+    (decoded .decode-peer .ensures)
     (wrote .write-response .ensures) (put .put-peer .ensures)
 
 pub mschap-write-response-spec : {M : Type 1} → statement M

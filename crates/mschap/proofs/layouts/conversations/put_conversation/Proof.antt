@@ -1,21 +1,36 @@
 -- `mschap::layouts::conversations::put_conversation` meets its contract.
 -- Assumes nothing.
-use mathlib.Core.Path.{_≡_, refl}
+use mathlib.Core.Path.{refl, ap, _∙_}
+use native.Mathlib.Omega.{arith}
 use borrow.Author.Needs.{needs}
 use lib.ListN.{length}
+use Rattle.mschap.specs.Layout.{encodeConversation}
+use Rattle.mschap.proofs.Putting.{front}
 use Rattle.mschap.proofs.Filling.{filled-with}
+use Rattle.mschap.proofs.ConversationLaws.{SizedConversation, length-conversation}
 use Rattle.mschap.proofs.layouts.conversations.put_conversation.Statement.{statement}
 use Rattle.mschap.proofs.layouts.conversations.put_conversation.Tie as tie
+
+sized : (c : tie.Start) → SizedConversation (c .args .conversation)
+sized c =
+    record { challenge = search needs; kept = record { nt = search needs; lm = search needs } }
 
 returns : tie.Need-returns
 returns c =
     let put = c .before .before in
-    let encoded = put .before .before .before in
-    let size : length (encoded .encode-conversation .result) ≡ 50 = search needs in
-    filled-with size (encoded .encode-conversation .ensures) refl (put .fill .ensures)
+    let taken = put .before .before in
+    let encoded = taken .before .before .before in
+    let start = encoded .before .before in
+    let v = start .args .conversation in
+    let long = length-conversation v (sized start) in
+    let value =
+    front 50 (encodeConversation v) long (omega arith) (encoded .encode-conversation .ensures)
+    (taken .part-of .ensures) in
+    filled-with (ap length value ∙ long) value refl (put .fill .ensures)
 
 pub put-conversation-spec : {M : Type 1} → statement M
 put-conversation-spec =
     tie.close
     (tie.spec
-    (λ c κs. search needs) (λ c. search needs) (λ c κs. search needs) (λ c. search needs) returns)
+    (λ c κs. search needs) (λ c. search needs) (λ c κs. search needs) (λ c κs. search needs)
+    (λ c. search needs) returns)

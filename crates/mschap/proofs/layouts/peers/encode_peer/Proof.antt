@@ -1,42 +1,40 @@
 -- `mschap::layouts::peers::encode_peer` meets its contract.
 -- Assumes nothing.
-use mathlib.Core.Path.{_≡_, refl, _∙_}
+use mathlib.Core.Path.{_≡_, refl, ap₂, _∙_}
 use mathlib.Core.List.{[], _∷_}
 use Prim.Native.Nat.{ℕ}
 use borrow.Author.Needs.{needs}
-use lib.ListN.{length, length-replicate}
-use Rattle.octets.proofs.Laid.{first, next, laid-whole}
-use Rattle.mschap.proofs.PeerLaws.{peer-pieces}
+use Rattle.mschap.specs.Layout.{flag}
+use Rattle.octets.specs.Parts.{over}
+use Rattle.mschap.proofs.Putting.{first, next, last}
+use Rattle.mschap.proofs.PeerLaws.{SizedPeer, peer-pieces}
 use Rattle.mschap.proofs.layouts.peers.encode_peer.Statement.{statement}
 use Rattle.mschap.proofs.layouts.peers.encode_peer.Tie as tie
 
-long-sent : (c : tie.Start) → length (c .args .peer .sent .challenge) ≡ 8
-long-sent c = search needs
+sized : (c : tie.Start) → SizedPeer (c .args .peer)
+sized c = record { sent = search needs; turn = search needs }
 
-long-next : (c : tie.Start) → length (c .args .peer .turn .challenge) ≡ 8
-long-next c = search needs
-
--- four pieces are copied, one behind the other, over all of the array
+-- each field in turn, the last first
 returns : tie.Need-returns
 returns c =
-    let copied₄ = c .before in
-    let copied₃ = copied₄ .before .before .before .before in
-    let copied₂ = copied₃ .before .before .before .before in
-    let copied₁ = copied₂ .before .before .before .before in
-    let present = copied₁ .before .before .before .before .before in
-    let start = present .before .before .before in
+    let next-id = c .before in
+    let answered = next-id .before in
+    let last-id = answered .before in
+    let present = last-id .before in
+    let empty = present .before in
+    let start = empty .before .before .before .before .before in
     let q = start .args .peer in
-    let s₁ = first 2 refl (copied₁ .copy-at .ensures) in
-    let s₂ = next s₁ (q .sent .challenge) 8 (long-sent start) (copied₂ .copy-at2 .ensures) in
-    let s₃ = next s₂ (q .turn .id ∷ []) 1 refl (copied₃ .copy-at3 .ensures) in
-    let s₄ = next s₃ (q .turn .challenge) 8 (long-next start) (copied₄ .copy-at4 .ensures) in
-    laid-whole s₄ (length-replicate {A = ℕ} 19 0) ∙ peer-pieces q (present .flag .ensures)
+    let room = empty .empty-room .result .bytes in
+    let s₁ = first 0 room (flag (q .sent .present) ∷ []) 1 refl (present .put-flag .ensures) in
+    let s₂ = next s₁ (q .sent .id ∷ []) 1 refl (last-id .put-byte .ensures) in
+    let s₃ = next s₂ (q .sent .challenge) 8 (sized start .sent) (answered .put-eight .ensures) in
+    let s₄ = next s₃ (q .turn .id ∷ []) 1 refl (next-id .put-byte2 .ensures) in
+    last s₄ (q .turn .challenge) (c .put-eight2 .ensures)
+    ∙ ap₂ over (peer-pieces q) (empty .empty-room .ensures)
 
 pub encode-peer-spec : {M : Type 1} → statement M
 encode-peer-spec =
     tie.close
     (tie.spec
-    (λ c κs. search needs) (λ c. search needs) (λ c. search needs) (λ c κs. search needs)
-    (λ c. search needs) (λ c. search needs) (λ c κs. search needs) (λ c. search needs)
-    (λ c. search needs) (λ c κs. search needs) (λ c. search needs) (λ c. search needs)
-    (λ c κs. search needs) returns)
+    (λ c κs. search needs) (λ c κs. search needs) (λ c κs. search needs) (λ c κs. search needs)
+    (λ c κs. search needs) (λ c κs. search needs) returns)

@@ -1,33 +1,23 @@
 -- `mschap::layouts::records::encode_hash` meets its contract.
 -- Assumes nothing.
-use mathlib.Core.Path.{_≡_, refl, ap, _∙_}
-use mathlib.Core.List.{_∷_}
-use Prim.Native.Nat.{ℕ}
+use mathlib.Core.Path.{refl}
+use mathlib.Core.List.{[], _∷_}
 use borrow.Author.Needs.{needs}
-use lib.ListN.{length, length-replicate}
-use Rattle.octets.proofs.Laid.{first, next, laid-whole}
+use Rattle.mschap.specs.Layout.{flag}
+use Rattle.mschap.proofs.Putting.{first, last}
 use Rattle.mschap.proofs.layouts.records.encode_hash.Statement.{statement}
 use Rattle.mschap.proofs.layouts.records.encode_hash.Tie as tie
 
-long : (c : tie.Start) → length (c .args .hash .octets) ≡ 16
-long c = search needs
-
--- two pieces are copied, one behind the other, over all of the array
 returns : tie.Need-returns
 returns c =
-    let copied₂ = c .before in
-    let copied₁ = copied₂ .before .before .before .before in
-    let flagged = copied₁ .before .before .before .before in
-    let start = flagged .before in
-    let octets = start .args .hash .octets in
-    let s₁ = first 1 refl (copied₁ .copy-at .ensures) in
-    let s₂ = next s₁ octets 16 (long start) (copied₂ .copy-at2 .ensures) in
-    laid-whole s₂ (length-replicate {A = ℕ} 17 0)
-    ∙ ap (λ (x : ℕ). x ∷ octets) (flagged .flag .ensures)
+    let present = c .before in
+    let a = present .before .before .args in
+    let piece = flag (a .hash .present) ∷ [] in
+    let s₁ = first (a .at) (a .room .bytes) piece 1 refl (present .put-flag .ensures) in
+    last s₁ (a .hash .octets) (c .put-sixteen .ensures)
 
 pub encode-hash-spec : {M : Type 1} → statement M
 encode-hash-spec =
     tie.close
     (tie.spec
-    (λ c κs. search needs) (λ c. search needs) (λ c. search needs) (λ c κs. search needs)
-    (λ c. search needs) (λ c. search needs) (λ c κs. search needs) returns)
+    (λ c κs. search needs) (λ c. search needs) (λ c κs. search needs) returns)

@@ -3,25 +3,36 @@
 use mathlib.Core.Path.{ap, _∙_}
 use mathlib.Core.List.{List}
 use Prim.Native.Nat.{ℕ}
+use native.Mathlib.Omega.{arith}
 use borrow.Author.Needs.{needs}
 use Rattle.octets.specs.Parts.{agrees}
-use Rattle.mschap.specs.Layout.{encodeRecord, isEncodedRecord}
+use Rattle.authenticator.specs.declared.Lookup.{Lookup}
+use Rattle.mschap.specs.Layout.{encodeRecord, decodeRecord, isEncodedRecord}
+use Rattle.mschap.specs.Code.{inRoom}
+use Rattle.mschap.proofs.Putting.{front}
+use Rattle.mschap.proofs.RecordLaws.{length-record, decoded-record-sized}
 use Rattle.mschap.proofs.layouts.records.is_encoded_record.Statement.{statement}
 use Rattle.mschap.proofs.layouts.records.is_encoded_record.Tie as tie
 
 returns : tie.Need-returns
 unfolding isEncodedRecord
 returns c =
-    let encoded = c .before .before in
+    let taken = c .before in
+    let encoded = taken .before .before .before in
     let decoded = encoded .before in
     let bytes = decoded .before .before .args .bytes .now in
-    c .agree .ensures
-    ∙ ap (λ (l : List ℕ). agrees l bytes)
-    (encoded .encode-record .ensures ∙ ap encodeRecord (decoded .decode-record .ensures))
+    let v = decodeRecord bytes in
+    let room =
+    encoded .encode-record .ensures
+    ∙ ap (λ (u : Lookup). inRoom (encodeRecord u)) (decoded .decode-record .ensures) in
+    let value =
+    front 39 (encodeRecord v) (length-record v (decoded-record-sized bytes)) (omega arith) room
+    (taken .part-of .ensures) in
+    c .agree .ensures ∙ ap (λ (l : List ℕ). agrees l bytes) value
 
 pub is-encoded-record-spec : {M : Type 1} → statement M
 is-encoded-record-spec =
     tie.close
     (tie.spec
     (λ c κs. search needs) (λ c κs. search needs) (λ c. search needs) (λ c κs. search needs)
-    returns)
+    (λ c κs. search needs) returns)

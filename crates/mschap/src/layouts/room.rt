@@ -1,0 +1,54 @@
+// Bytes that are being encoded: room for the largest layout, which the encoders take and return.
+// Each piece is laid over what was there, at a place.
+use crate::layouts::records::flag;
+ghost use mathlib.Core.Path.{_≡_};
+ghost use mathlib.Core.List.{[], _∷_};
+ghost use lib.ListN.{replicate};
+ghost use Rattle.octets.specs.Parts.{overAt};
+ghost use Rattle.mschap.specs.Layout.{flag};
+ghost use Rattle.mschap.specs.Code.{roomSize};
+
+const ROOM_SIZE: usize = 50;
+
+pub struct Room {
+    pub bytes: [u8; ROOM_SIZE],
+}
+
+pub fn empty_room() -> Room
+    ensures { λ r. ⌜ r .bytes ≡ replicate roomSize 0 ⌝ }
+{
+    Room {
+        bytes: [0; ROOM_SIZE],
+    }
+}
+
+pub fn put_byte(room: Room, at: usize, byte: u8) -> Room
+    ensures { λ r. ⌜ r .bytes ≡ overAt at (byte ∷ []) (room .bytes) ⌝ }
+{
+    let mut bytes = room.bytes;
+    let piece = [byte];
+    octets::copy_at(&mut bytes, at, &piece);
+    Room { bytes }
+}
+
+pub fn put_flag(room: Room, at: usize, b: bool) -> Room
+    ensures { λ r. ⌜ r .bytes ≡ overAt at (flag b ∷ []) (room .bytes) ⌝ }
+{
+    put_byte(room, at, flag(b))
+}
+
+pub fn put_eight(room: Room, at: usize, octets: [u8; 8]) -> Room
+    ensures { λ r. ⌜ r .bytes ≡ overAt at octets (room .bytes) ⌝ }
+{
+    let mut bytes = room.bytes;
+    octets::copy_at(&mut bytes, at, &octets);
+    Room { bytes }
+}
+
+pub fn put_sixteen(room: Room, at: usize, octets: [u8; 16]) -> Room
+    ensures { λ r. ⌜ r .bytes ≡ overAt at octets (room .bytes) ⌝ }
+{
+    let mut bytes = room.bytes;
+    octets::copy_at(&mut bytes, at, &octets);
+    Room { bytes }
+}
