@@ -9,7 +9,7 @@ use lib.Seq.{take-at}
 use Rattle.octets.specs.Parts.{part, overAt}
 use Rattle.octets.proofs.Parts.{over-fits}
 use Rattle.octets.proofs.Laid.{join}
-use Rattle.mschap.specs.Code.{roomSize, inRoom}
+use Rattle.mschap.specs.Inner.{roomSize, inRoom}
 
 -- xs, of n bytes, lies over l from the place at on
 pub record Put (at : ℕ) (l xs : List ℕ) (n : ℕ) (b : List ℕ) : Type 0 where

@@ -3,4 +3,4 @@ pub mod Layout
 pub mod Fields
 pub mod Conversations
 pub mod Peers
-pub mod Code
+pub mod Inner

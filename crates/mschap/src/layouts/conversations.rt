@@ -16,7 +16,7 @@ ghost use mathlib.Core.Path.{_≡_};
 ghost use Rattle.mschap.specs.Call.{Fills, sized};
 ghost use Rattle.mschap.specs.Layout.{phaseOf, encodeConversation, decodeConversation};
 ghost use Rattle.mschap.specs.Layout.{isEncodedConversation, conversationSize};
-ghost use Rattle.mschap.specs.Code.{inRoom};
+ghost use Rattle.mschap.specs.Inner.{inRoom};
 
 pub const CONVERSATION_SIZE: usize = 50;
 

@@ -13,7 +13,7 @@ ghost use mathlib.Core.Path.{_≡_};
 ghost use Rattle.mschap.specs.Call.{Fills, sized};
 ghost use Rattle.mschap.specs.Fields.{callNumber, encodeFailed, encodeVerdict};
 ghost use Rattle.mschap.specs.Fields.{encodeReading, fieldsSize};
-ghost use Rattle.mschap.specs.Code.{inRoom};
+ghost use Rattle.mschap.specs.Inner.{inRoom};
 
 pub const FIELDS_SIZE: usize = 35;
 

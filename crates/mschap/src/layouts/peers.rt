@@ -12,7 +12,7 @@ use peer::Turn;
 ghost use mathlib.Core.Path.{_≡_};
 ghost use Rattle.mschap.specs.Call.{Fills, sized};
 ghost use Rattle.mschap.specs.Layout.{encodePeer, decodePeer, isEncodedPeer, peerSize};
-ghost use Rattle.mschap.specs.Code.{inRoom};
+ghost use Rattle.mschap.specs.Inner.{inRoom};
 
 pub const PEER_SIZE: usize = 19;
 

@@ -15,7 +15,7 @@ ghost use Rattle.mschap.specs.Layout.{flag, isFlag, encodeHash, decodeHa
 ghost use Rattle.mschap.specs.Layout.{encodeAccount, decodeAccount};
 ghost use Rattle.mschap.specs.Layout.{encodeRecord, decodeRecord};
 ghost use Rattle.mschap.specs.Layout.{isEncodedRecord, recordSize, keptAt};
-ghost use Rattle.mschap.specs.Code.{roomSize, inRoom};
+ghost use Rattle.mschap.specs.Inner.{roomSize, inRoom};
 
 pub const OPTIONAL_HASH_SIZE: usize = 17;
 

@@ -6,7 +6,7 @@ ghost use mathlib.Core.List.{[], _∷_};
 ghost use lib.ListN.{replicate};
 ghost use Rattle.octets.specs.Parts.{overAt};
 ghost use Rattle.mschap.specs.Layout.{flag};
-ghost use Rattle.mschap.specs.Code.{roomSize};
+ghost use Rattle.mschap.specs.Inner.{roomSize};
 
 const ROOM_SIZE: usize = 50;
 

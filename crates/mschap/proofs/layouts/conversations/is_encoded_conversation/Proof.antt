@@ -8,7 +8,7 @@ use borrow.Author.Needs.{needs}
 use Rattle.octets.specs.Parts.{agrees}
 use Rattle.authenticator.specs.declared.Conversation.{Conversation}
 use Rattle.mschap.specs.Layout.{encodeConversation, decodeConversation, isEncodedConversation}
-use Rattle.mschap.specs.Code.{inRoom}
+use Rattle.mschap.specs.Inner.{inRoom}
 use Rattle.mschap.proofs.Putting.{front}
 use Rattle.mschap.proofs.ConversationLaws.{length-conversation, decoded-conversation-sized}
 use Rattle.mschap.proofs.layouts.conversations.is_encoded_conversation.Statement.{statement}

@@ -7,7 +7,7 @@ use borrow.Author.Needs.{needs}
 use lib.ListN.{replicate}
 use Rattle.mschap.specs.Layout.{flag}
 use Rattle.mschap.specs.Fields.{encodeVerdict}
-use Rattle.mschap.specs.Code.{roomSize}
+use Rattle.mschap.specs.Inner.{roomSize}
 use Rattle.mschap.proofs.Putting.{first, next, last}
 use Rattle.mschap.proofs.FieldsLaws.{length-verdict, reading-pieces}
 use Rattle.octets.specs.Parts.{over}

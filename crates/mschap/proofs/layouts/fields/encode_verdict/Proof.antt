@@ -6,7 +6,7 @@ use lib.ListN.{replicate}
 use Rattle.octets.specs.Parts.{over}
 use Rattle.message.specs.declared.Verdict.{Verdict}
 use Rattle.mschap.specs.Fields.{encodeVerdict}
-use Rattle.mschap.specs.Code.{roomSize, inRoom}
+use Rattle.mschap.specs.Inner.{roomSize, inRoom}
 use Rattle.mschap.proofs.layouts.fields.encode_verdict.Statement.{statement}
 use Rattle.mschap.proofs.layouts.fields.encode_verdict.Tie as tie
 

@@ -8,7 +8,7 @@ use borrow.Author.Needs.{needs}
 use Rattle.octets.specs.Parts.{agrees}
 use Rattle.peer.specs.declared.Peer.{Peer}
 use Rattle.mschap.specs.Layout.{encodePeer, decodePeer, isEncodedPeer}
-use Rattle.mschap.specs.Code.{inRoom}
+use Rattle.mschap.specs.Inner.{inRoom}
 use Rattle.mschap.proofs.Putting.{front}
 use Rattle.mschap.proofs.PeerLaws.{length-peer, decoded-peer-sized}
 use Rattle.mschap.proofs.layouts.peers.is_encoded_peer.Statement.{statement}

@@ -8,7 +8,7 @@ use borrow.Author.Needs.{needs}
 use Rattle.octets.specs.Parts.{agrees}
 use Rattle.authenticator.specs.declared.Lookup.{Lookup}
 use Rattle.mschap.specs.Layout.{encodeRecord, decodeRecord, isEncodedRecord}
-use Rattle.mschap.specs.Code.{inRoom}
+use Rattle.mschap.specs.Inner.{inRoom}
 use Rattle.mschap.proofs.Putting.{front}
 use Rattle.mschap.proofs.RecordLaws.{length-record, decoded-record-sized}
 use Rattle.mschap.proofs.layouts.records.is_encoded_record.Statement.{statement}
