@@ -11,6 +11,7 @@ pub use digits::sealed;
 pub use digits::seven;
 pub use digits::sixteen;
 pub use digits::twenty_one;
+pub use words::command;
 pub use words::find;
 pub use words::number;
 pub use words::octet;

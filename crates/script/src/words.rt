@@ -60,6 +60,11 @@ pub fn which(names: &[u8], name: &[u8]) -> usize {
     i
 }
 
+// Which of the names the command of a line is, which is its first word.
+pub fn command(line: &[u8], names: &[u8]) -> usize {
+    which(names, word(line, 0))
+}
+
 // The number that decimal digits make; 0 where one is none of them or there are more than nine.
 pub fn number(s: &[u8]) -> usize {
     let mut n: usize = 0;

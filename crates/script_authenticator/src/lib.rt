@@ -9,12 +9,10 @@ pub use lists::List;
 pub use talks::Talk;
 pub use talks::new_talk;
 
-// Which of these commands a line has.
+// Which of these commands a line has. (In `run` the literal would stand beside values of Talk, and
+// the check of a statement grows with what stands beside it.)
 fn command(line: &[u8]) -> usize {
-    script::which(
-        b"name account relend list places open step",
-        script::word(line, 0),
-    )
+    script::command(line, b"name account relend list places open step")
 }
 
 // Runs a line whose command is one of these: writes its result, and answers what goes on to the

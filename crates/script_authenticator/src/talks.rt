@@ -168,6 +168,7 @@ fn after_opening(opening: Opening, mut talk: Talk) -> Talk {
     talk
 }
 
+// Opens into the reply, and writes the result.
 fn open_into(line: &[u8], reply: &mut [u8], talk: Talk) -> Talk {
     let before = talk.list;
     let opening = open_with(line, before, reply);
@@ -221,6 +222,7 @@ fn after_step(answer: Answer, mut talk: Talk) -> Talk {
     talk
 }
 
+// Takes a packet, replies into the reply, and writes the result.
 fn step_into(packet: &[u8], reply: &mut [u8], talk: Talk) -> Talk {
     let conversation = talk.conversation;
     let lent = talk.lent;

@@ -62,8 +62,7 @@ fn drop_parity(line: &[u8]) {
 
 // Runs a line whose command is one of these.
 pub(crate) fn run(line: &[u8]) {
-    let name = script::word(line, 0);
-    match script::which(b"md4 rc4 des undes desthree expand dropparity", name) {
+    match script::command(line, b"md4 rc4 des undes desthree expand dropparity") {
         0 => digest(line),
         1 => crypt(line),
         2 => encrypt(line),

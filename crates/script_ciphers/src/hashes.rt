@@ -69,8 +69,7 @@ fn old_new(line: &[u8]) {
 
 // Runs a line whose command is one of these.
 pub(crate) fn run(line: &[u8]) {
-    let name = script::word(line, 0);
-    match script::which(b"nthash lmhash response seal unseal oldnew", name) {
+    match script::command(line, b"nthash lmhash response seal unseal oldnew") {
         0 => nt_hash(line),
         1 => lm_hash(line),
         2 => response(line),

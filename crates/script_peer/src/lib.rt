@@ -4,10 +4,9 @@ mod peers;
 
 // Writes the result of a line whose command is one of these; writes nothing for any other.
 pub fn run(line: &[u8]) {
-    let name = script::word(line, 0);
-    match script::which(
+    match script::command(
+        line,
         b"failure challenge reply turn writeresponse writechange",
-        name,
     ) {
         0 => failures::failure(line),
         1 => peers::challenge(line),
