@@ -49,7 +49,7 @@ struct judged {
     uint8_t record[MSCHAP_RECORD_SIZE];
     uint8_t code; /* of the reply that is expected */
     uint8_t reply[MSCHAP_REPLY_SIZE];
-    uint8_t handed[MSCHAP_RECORD_SIZE];
+    uint8_t updated[MSCHAP_RECORD_SIZE];
 };
 
 static struct judged response, wrong_response, unknown, change;
@@ -132,7 +132,7 @@ static void judge(struct judged *j, struct work *w, long calls)
         conversation[2] = j->packet[1] = (uint8_t)(j->reply[1] + 1);
         w->wrong |= mschap_step(conversation, sizeof conversation, j->packet, j->size, j->record,
                                 sizeof j->record,
-                                j->reply, sizeof j->reply, j->handed, sizeof j->handed);
+                                j->reply, sizeof j->reply, j->updated, sizeof j->updated);
         w->wrong |= j->reply[0] != j->code;
     }
 }
@@ -431,7 +431,7 @@ static uint32_t prepare(const struct work *w)
     change.record[38] = 1;
     wrong |= mschap_step(change.conversation, sizeof change.conversation, response.packet,
                          response.size, change.record, sizeof change.record,
-                         change.reply, sizeof change.reply, change.handed, sizeof change.handed);
+                         change.reply, sizeof change.reply, change.updated, sizeof change.updated);
     wrong |= change.conversation[0] != 6;
     wrong |= mschap_read_reply(peer, sizeof peer, change.reply, sizeof change.reply, fields,
                                sizeof fields);

@@ -53,7 +53,7 @@ int main(void)
     static const uint8_t filler[MSCHAP_FILLER_SIZE] = {0};
     static const uint8_t name[] = {'D', 'O', 'M', '\\', 'U', 's', 'e', 'r'};
     uint8_t record[MSCHAP_RECORD_SIZE] = {0};
-    uint8_t handed[MSCHAP_RECORD_SIZE] = {0};
+    uint8_t updated[MSCHAP_RECORD_SIZE] = {0};
     /* the list of issued challenges: empty, since no place is used and all counts are 0 */
     uint8_t list[8 * MSCHAP_CHALLENGE_SIZE];
     uint16_t counts[MSCHAP_COUNTS_SIZE] = {0};
@@ -96,7 +96,7 @@ int main(void)
     printf("%-28s%.*s\n", "account", (int)size, (const char *)packet + at);
     if (failed("step",
                mschap_step(conversation, sizeof conversation, packet, length(packet),
-                           record, sizeof record, reply, sizeof reply, handed, sizeof handed)))
+                           record, sizeof record, reply, sizeof reply, updated, sizeof updated)))
         return 1;
     printf("%-28s%.*s\n", "Failure", (int)(length(reply) - 4), (const char *)reply + 4);
     tell(conversation);
@@ -114,7 +114,7 @@ int main(void)
     show("Response", packet, length(packet));
     if (failed("step",
                mschap_step(conversation, sizeof conversation, packet, length(packet),
-                           record, sizeof record, reply, sizeof reply, handed, sizeof handed)))
+                           record, sizeof record, reply, sizeof reply, updated, sizeof updated)))
         return 1;
     printf("%-28s%.*s\n", "Failure", (int)(length(reply) - 4), (const char *)reply + 4);
     tell(conversation);
@@ -123,7 +123,7 @@ int main(void)
     printf("%-28s%u\n", "the same Response again",
            (unsigned)mschap_step(conversation, sizeof conversation, packet, length(packet),
                                  record, sizeof record, reply, sizeof reply,
-                                 handed, sizeof handed));
+                                 updated, sizeof updated));
 
     /* the change; an old reply, read again, changes nothing */
     if (failed("read_reply",
@@ -141,10 +141,10 @@ int main(void)
     printf("%-28s%u octets\n", "change", (unsigned)length(packet));
     if (failed("step",
                mschap_step(conversation, sizeof conversation, packet, length(packet),
-                           record, sizeof record, reply, sizeof reply, handed, sizeof handed)))
+                           record, sizeof record, reply, sizeof reply, updated, sizeof updated)))
         return 1;
     show(reply[0] == 3 ? "Success" : "Failure", reply, length(reply));
-    show("the new NT hash", handed + 2, MSCHAP_HASH_SIZE);
+    show("the new NT hash", updated + 2, MSCHAP_HASH_SIZE);
     tell(conversation);
 
     /* the second box, which shares the same list */

@@ -285,7 +285,7 @@ static void try_openings(void)
     TRY(mschap_open, MSCHAP_BAD_ARGUMENT);
 }
 
-/* ---- steps: the arguments are conversation, packet, record, reply and the record handed out */
+/* ---- steps: the arguments are conversation, packet, record, reply and the record updated out */
 
 CALL(mschap_step, BUFFER(0), BUFFER(1), BUFFER(2), BUFFER(3), BUFFER(4))
 CALL(mschap_account_offset, BUFFER(0))

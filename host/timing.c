@@ -29,7 +29,7 @@ static uint8_t conversation[MSCHAP_CONVERSATION_SIZE];
 static uint8_t record[MSCHAP_RECORD_SIZE];
 static uint8_t packet[PACKET];
 static uint8_t reply[MSCHAP_REPLY_SIZE];
-static uint8_t handed[MSCHAP_RECORD_SIZE];
+static uint8_t updated[MSCHAP_RECORD_SIZE];
 
 /* A user with both hashes, and the right responses of each. */
 static const uint8_t challenge[MSCHAP_CHALLENGE_SIZE] =
@@ -66,14 +66,14 @@ static void rightful(void)
     packet[FLAG] = 1;
     memcpy(packet + 54, name, sizeof name);
     memset(reply, 0, sizeof reply);
-    memset(handed, 0, sizeof handed);
+    memset(updated, 0, sizeof updated);
 }
 
 static void judged(const char *way, const char *group, const uint8_t *expected, size_t size)
 {
     uint32_t number = mschap_step(conversation, sizeof conversation, packet, sizeof packet,
                                   record, sizeof record, reply, sizeof reply,
-                                  handed, sizeof handed);
+                                  updated, sizeof updated);
     if (number != MSCHAP_OK || memcmp(reply, expected, size) != 0) {
         fprintf(stderr, "timing: %s: another reply than %s\n", way, group);
         failed = 1;

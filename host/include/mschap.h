@@ -243,18 +243,18 @@ uint32_t mschap_open(uint8_t identifier,
    name found (mschap_account_offset and the three functions below it tell where the parts of the
    name are). While a change is awaited record is ignored, yet it must be valid: 39 bytes 0 will do.
    Writes the next conversation over this one; at the front of reply (17 or more) the Success or
-   Failure to send, whose size is its own Length field, reply[2] * 256 + reply[3]; and into handed
+   Failure to send, whose size is its own Length field, reply[2] * 256 + reply[3]; and into updated
    (39) the record after an accepted change of the password, for the caller to store, or else one
    that is not found.
    Returns 0 if the packet is judged, with Success or Failure: reply[0] is 3 or 4. Returns 1 to 7 if
    the packet is refused, in that order: send no reply; the conversation goes on as if the packet
-   had not come. Returns 100 for another size of conversation, record or handed, or if conversation
+   had not come. Returns 100 for another size of conversation, record or updated, or if conversation
    or record is an invalid encoding. */
 uint32_t mschap_step(uint8_t *conversation, size_t conversation_size,
                      const uint8_t *packet, size_t packet_size,
                      const uint8_t *record, size_t record_size,
                      uint8_t *reply, size_t reply_size,
-                     uint8_t *handed, size_t handed_size);
+                     uint8_t *updated, size_t handed_size);
 
 /* Where the account is in a Response: what follows the first backslash of its name or, if there is
    none, the whole name. It ends at the packet's Length.

@@ -72,7 +72,8 @@ fn every_theorem_is_there() {
     assert!(count > 40, "only {count} theorems were read");
 }
 
-/// An inner definition is cited by its own crate alone, so that nothing public rests on it.
+/// Definitions and promises cite the inner definitions of their own crate alone, so that nothing
+/// that another crate says rests on them. (Proofs may cite any.)
 #[test]
 fn inner_definitions_stay_inside() {
     let mut seen = 0;
@@ -82,6 +83,9 @@ fn inner_definitions_stay_inside() {
             let path = entry.unwrap().path();
             if path.is_dir() {
                 folders.push(path);
+                continue;
+            }
+            if path.components().any(|c| c.as_os_str() == "proofs") {
                 continue;
             }
             let Ok(text) = fs::read_to_string(&path) else { continue };

@@ -10,7 +10,7 @@ use native.Mathlib.Omega.{arith}
 use borrow.Author.Tests.{eqb-true, eqb-false, ne-eqb, le-ltb, ltb-false}
 use lib.Dec.{eqb, ltb}
 use lib.ListN.{length, take, replicate}
-use Rattle.issued.specs.Issued.{Issued, places, listed, contains, Distinct, containsAny, countsOf, badBuffer, untrue, spendRefusal, spent}
+use Rattle.issued.specs.Issued.{Issued, places, listed, contains, Distinct, containsAny, countsOf, badBuffer, badCounts, spendRefusal, spent}
 use Rattle.issued.proofs.Listing.{Wide}
 use Rattle.issued.proofs.Spending.{accepted, accepts, empty-accepts, same-issued, spent-added, spent-listed, spent-contains, spent-keeps, spent-true, spent-sound}
 use Rattle.packets.specs.Frame.{writtenOver}
@@ -117,9 +117,9 @@ module _ (o : Opening) where
     opened-true e = either (λ (i : Issued). i .counts ≡ countsOf (listed 8 i)) (spent-true 8 (spends o) (o .issued) wide e) e
 
     -- and the list that an opening leaves draws no 24 at the next
-    pub opened-sound : opened o .refusal ≡ 0 → (badBuffer 8 (openedIssued o .buffer) (openedIssued o .used) ≡ false) × (untrue 8 (openedIssued o) ≡ false)
+    pub opened-sound : opened o .refusal ≡ 0 → (badBuffer 8 (openedIssued o .buffer) (openedIssued o .used) ≡ false) × (badCounts 8 (openedIssued o) ≡ false)
     opened-sound ok =
-        subst (λ (i : Issued). (badBuffer 8 (i .buffer) (i .used) ≡ false) × (untrue 8 i ≡ false)) (sym (opened-spent ok)) (spent-sound 8 (spends o) (o .issued) wide (passed ok .2))
+        subst (λ (i : Issued). (badBuffer 8 (i .buffer) (i .used) ≡ false) × (badCounts 8 i ≡ false)) (sym (opened-spent ok)) (spent-sound 8 (spends o) (o .issued) wide (passed ok .2))
 
     -- what it spends is distinct
     pub opened-distinct : opened o .refusal ≡ 0 → Distinct (spends o)

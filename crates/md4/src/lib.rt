@@ -103,19 +103,31 @@ fn operation_h(r: Registers, s: u32, x: u32) -> Registers
 fn row_f(r: Registers, x0: u32, x1: u32, x2: u32, x3: u32) -> Registers
     ensures { λ q. ⌜ q ≡ row auxF 0 3 7 11 19 x0 x1 x2 x3 r ⌝ }
 {
-    operation_f(operation_f(operation_f(operation_f(r, 3, x0), 7, x1), 11, x2), 19, x3)
+    operation_f(
+        operation_f(operation_f(operation_f(r, 3, x0), 7, x1), 11, x2),
+        19,
+        x3,
+    )
 }
 
 fn row_g(r: Registers, x0: u32, x1: u32, x2: u32, x3: u32) -> Registers
     ensures { λ q. ⌜ q ≡ row auxG 0x5a827999 3 5 9 13 x0 x1 x2 x3 r ⌝ }
 {
-    operation_g(operation_g(operation_g(operation_g(r, 3, x0), 5, x1), 9, x2), 13, x3)
+    operation_g(
+        operation_g(operation_g(operation_g(r, 3, x0), 5, x1), 9, x2),
+        13,
+        x3,
+    )
 }
 
 fn row_h(r: Registers, x0: u32, x1: u32, x2: u32, x3: u32) -> Registers
     ensures { λ q. ⌜ q ≡ row auxH 0x6ed9eba1 3 9 11 15 x0 x1 x2 x3 r ⌝ }
 {
-    operation_h(operation_h(operation_h(operation_h(r, 3, x0), 9, x1), 11, x2), 15, x3)
+    operation_h(
+        operation_h(operation_h(operation_h(r, 3, x0), 9, x1), 11, x2),
+        15,
+        x3,
+    )
 }
 
 fn first_round(s: Registers, x: [u32; 16]) -> Registers

@@ -9,16 +9,16 @@ use lib.Dec.{eqb}
 use lib.ListN.{length}
 use Rattle.issued.specs.Issued.{Issued}
 use Rattle.authenticator.specs.Opening.{Opening, opened, openedIssued, openedBuffer, openRefusal}
+use Rattle.authenticator.specs.Admit.{stepRefusal}
+use Rattle.authenticator.specs.Step.{Outcome, step, refusalIn}
+use Rattle.accounts.specs.declared.Lookup.{Lookup}
 use Rattle.authenticator.specs.Opening as openings
-use Rattle.authenticator.specs.Refusal.{refusalOf}
-use Rattle.authenticator.specs.Step.{Outcome, step, verdictRefusal}
 use Rattle.authenticator.specs.declared.Retries.{Retries}
 use Rattle.authenticator.specs.declared.LmChoice.{LmChoice}
 use Rattle.authenticator.specs.declared.Opened.{Opened}
 use Rattle.authenticator.specs.declared.Answer.{Answer}
 use Rattle.authenticator.specs.declared.Conversation.{Conversation}
-use Rattle.authenticator.specs.declared.Lookup.{Lookup}
-use Rattle.mschap.specs.Call.{Fills, sized, numbered, left}
+use Rattle.mschap.specs.Call.{Fills, sized, numbered, afterCall}
 use Rattle.mschap.specs.Layout.{challengeSize, conversationSize, recordSize}
 use Rattle.mschap.specs.Layout.{encodeConversation, decodeConversation}
 use Rattle.mschap.specs.Layout.{encodeRecord, decodeRecord}
@@ -51,21 +51,21 @@ open-sizes challenge lm conversation e =
 
 -- a refused opening leaves the list and the buffer alone
 module _ (o : Opening) where
-  list-kept : openedIssued o ≡ left (opened o .refusal) (openedIssued o) (o .issued)
+  list-kept : openedIssued o ≡ afterCall (opened o .refusal) (openedIssued o) (o .issued)
   unfolding opened openedIssued
   list-kept = by (eqb (openRefusal o) 0) refl
     where
       by : (b : Bool) → eqb (openRefusal o) 0 ≡ b
-          → openedIssued o ≡ left (opened o .refusal) (openedIssued o) (o .issued)
+          → openedIssued o ≡ afterCall (opened o .refusal) (openedIssued o) (o .issued)
       by true e = simp e
       by false e = simp e
 
-  reply-kept : openedBuffer o ≡ left (opened o .refusal) (openedBuffer o) (o .buffer)
+  reply-kept : openedBuffer o ≡ afterCall (opened o .refusal) (openedBuffer o) (o .buffer)
   unfolding opened openedBuffer
   reply-kept = by (eqb (openRefusal o) 0) refl
     where
       by : (b : Bool) → eqb (openRefusal o) 0 ≡ b
-          → openedBuffer o ≡ left (opened o .refusal) (openedBuffer o) (o .buffer)
+          → openedBuffer o ≡ afterCall (opened o .refusal) (openedBuffer o) (o .buffer)
       by true e = simp e
       by false e = simp e
 
@@ -73,12 +73,12 @@ module _ (o : Opening) (lm : ℕ) (conversation : List ℕ)
     (valid : openArguments (o .challenge) lm conversation ≡ true) where
   -- the opening answered, and its conversation was put into the caller's buffer
   pub open-called : {passed : Opening} {answer : Opened} {r : ℕ} {list : Issued}
-      {after buffer : List ℕ} → passed ≡ o → openings.Opens passed answer list buffer
+      {after buffer : List ℕ} → passed ≡ o → openings.OpenedAs passed answer list buffer
       → Fills (sized conversationSize conversation) (answer .refusal)
       (encodeConversation (answer .conversation)) conversation r after
       → OpenCall o lm conversation r list after buffer
   open-called {passed} {answer} {r} {list} {after} {buffer} same given put =
-      let f = subst (λ (x : Opening). openings.Opens x answer list buffer) same given in
+      let f = subst (λ (x : Opening). openings.OpenedAs x answer list buffer) same given in
       let size = open-sizes (o .challenge) lm conversation valid .1 in
       let number : r ≡ opened o .refusal =
       fills-number size put ∙ ap (λ (v : Opened). v .refusal) (f .answer) in
@@ -86,14 +86,14 @@ module _ (o : Opening) (lm : ℕ) (conversation : List ℕ)
         number = number ∙ sym (ap (λ (t : Bool). numbered t (opened o .refusal)) valid);
         list =
             f .list ∙ list-kept o
-            ∙ ap (λ (i : ℕ). left i (openedIssued o) (o .issued)) (sym number);
+            ∙ ap (λ (i : ℕ). afterCall i (openedIssued o) (o .issued)) (sym number);
         first =
             put .bytes
-            ∙ ap (λ (v : Opened). left r (encodeConversation (v .conversation)) conversation)
+            ∙ ap (λ (v : Opened). afterCall r (encodeConversation (v .conversation)) conversation)
             (f .answer);
         reply =
             f .reply ∙ reply-kept o
-            ∙ ap (λ (i : ℕ). left i (openedBuffer o) (o .buffer)) (sym number);
+            ∙ ap (λ (i : ℕ). afterCall i (openedBuffer o) (o .buffer)) (sym number);
       }
 
 -- ---- the step
@@ -110,13 +110,13 @@ step-sizes conversation account out e =
 
 -- a refused packet leaves the buffer alone
 step-kept : (c : Conversation) (p : List ℕ) (l : Lookup) (b : List ℕ)
-    → step c p l b .buffer ≡ left (verdictRefusal (step c p l b .answer .kind)) (step c p l b .buffer) b
+    → step c p l b .buffer ≡ afterCall (refusalIn (step c p l b .answer .kind)) (step c p l b .buffer) b
 unfolding step
-step-kept c p l b = by (eqb (refusalOf c p b) 0) refl
+step-kept c p l b = by (eqb (stepRefusal c p b) 0) refl
   where
-    by : (t : Bool) → eqb (refusalOf c p b) 0 ≡ t
+    by : (t : Bool) → eqb (stepRefusal c p b) 0 ≡ t
         → step c p l b .buffer
-        ≡ left (verdictRefusal (step c p l b .answer .kind)) (step c p l b .buffer) b
+        ≡ afterCall (refusalIn (step c p l b .answer .kind)) (step c p l b .buffer) b
     by true e = simp e
     by false e = simp e
 
@@ -131,15 +131,15 @@ module _ (conversation packet account buffer out : List ℕ)
       → AnswerPut answer conversation out r conversationAfter outAfter
       → StepCall conversation packet account buffer out r conversationAfter bufferAfter outAfter
   step-called {answer} {r} e f put =
-      let number : r ≡ verdictRefusal (done .answer .kind) =
-      put .number ∙ ap (λ (v : Answer). verdictRefusal (v .kind)) e in
+      let number : r ≡ refusalIn (done .answer .kind) =
+      put .number ∙ ap (λ (v : Answer). refusalIn (v .kind)) e in
       let kept =
       step-kept (decodeConversation conversation) packet (decodeRecord account) buffer in
       record {
-        number = number ∙ sym (ap (λ (t : Bool). numbered t (verdictRefusal (done .answer .kind))) valid);
+        number = number ∙ sym (ap (λ (t : Bool). numbered t (refusalIn (done .answer .kind))) valid);
         next =
             put .next
-            ∙ ap (λ (v : Answer). left r (encodeConversation (v .next)) conversation) e;
-        reply = f ∙ kept ∙ ap (λ (i : ℕ). left i (done .buffer) buffer) (sym number);
-        handed = put .handed ∙ ap (λ (v : Answer). left r (encodeRecord (v .handed)) out) e;
+            ∙ ap (λ (v : Answer). afterCall r (encodeConversation (v .next)) conversation) e;
+        reply = f ∙ kept ∙ ap (λ (i : ℕ). afterCall i (done .buffer) buffer) (sym number);
+        updated = put .updated ∙ ap (λ (v : Answer). afterCall r (encodeRecord (v .updated)) out) e;
       }

@@ -11,7 +11,7 @@ use lib.Seq.{take-all, take-at, drop-at}
 use Rattle.octets.specs.Parts.{part, fixed}
 use Rattle.octets.proofs.Parts.{fixed-same, length-fixed}
 use Rattle.authenticator.specs.Conversation.{awaitedCode}
-use Rattle.authenticator.specs.declared.Account.{Account}
+use Rattle.accounts.specs.declared.Account.{Account}
 use Rattle.authenticator.specs.declared.Conversation.{Conversation}
 use Rattle.authenticator.specs.declared.Phase.{Phase}
 use Rattle.authenticator.specs.declared.Phase.the-variants.{Response, Change, Ended}

@@ -6,7 +6,7 @@ use mathlib.Core.List.{List}
 use Prim.Native.Nat.{ℕ}
 use borrow.Author.Tests.{eq-eqb}
 use lib.ListN.{length}
-use Rattle.mschap.specs.Call.{Fills, sized, numbered, left}
+use Rattle.mschap.specs.Call.{Fills, sized, numbered, afterCall}
 
 -- both of two tests hold
 pub both : (s t : Bool) → (s && t) ≡ true → (s ≡ true) × (t ≡ true)
@@ -20,7 +20,7 @@ module _ {out : List ℕ} {r : ℕ} {after : List ℕ} where
   fills-as e f g h =
       record {
         number = h .number ∙ ap₂ numbered e f;
-        bytes = h .bytes ∙ ap (λ (v : List ℕ). left r v out) g;
+        bytes = h .bytes ∙ ap (λ (v : List ℕ). afterCall r v out) g;
       }
 
   -- what `fill` returns and leaves, by the size and the value of its bytes

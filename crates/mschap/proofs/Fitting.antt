@@ -13,21 +13,22 @@ use Rattle.credentials.specs.declared.Content.{Content}
 use Rattle.credentials.specs.declared.Content.the-variants.{Over, Odd, Password}
 use Rattle.credentials.specs.declared.Unsealed as blocks
 use Rattle.credentials.proofs.Laws.{length-nt}
+use Rattle.message.specs.Reasons.{passwordExpired}
 use Rattle.packets.specs.Response.{readResponse}
 use Rattle.packets.specs.Change.{readChange}
 use Rattle.packets.specs.declared.Change as changes
 use Rattle.authenticator.proofs.Spends.{length-incremented}
-use Rattle.authenticator.specs.Account.{blank}
+use Rattle.accounts.specs.Account.{blankAccount}
 use Rattle.authenticator.specs.Conversation.{ended, retried, closed}
-use Rattle.authenticator.specs.Opening.{Opening, openRefusal, openedIssued, firstConversation}
-use Rattle.authenticator.specs.Opening.{openingPacket, opened}
-use Rattle.authenticator.specs.Refusal.{refusalOf}
-use Rattle.authenticator.specs.Response.{Drawn, mayRetry, reasonOf, afterReason, responseDrawn}
-use Rattle.authenticator.specs.Change.{hashInside, hashIn, proves, proven, newHash}
-use Rattle.authenticator.specs.Change.{drawnBy, changeDrawn}
-use Rattle.authenticator.specs.Step.{Outcome, drawnIn, drawn, judgedAs, refusedAs, step}
-use Rattle.authenticator.specs.declared.Account.{Account}
-use Rattle.authenticator.specs.declared.Lookup.{Lookup}
+use Rattle.authenticator.specs.Opening.{Opening, openRefusal, openedIssued, firstConversation, openingPacket, opened}
+use Rattle.authenticator.specs.Admit.{stepRefusal}
+use Rattle.authenticator.specs.declared.Judgement.{Judgement}
+use Rattle.authenticator.specs.Judge.{mayRetry, afterReason, judgeResponse, changeJudgement, newHashIn, judgeChange, judgeIn, judge}
+use Rattle.verify.specs.Response.{responseReason}
+use Rattle.verify.specs.Change.{contentHash, unsealedHash, proves, proven, newHash}
+use Rattle.authenticator.specs.Step.{Outcome, judgedAs, refusedAs, step}
+use Rattle.accounts.specs.declared.Account.{Account}
+use Rattle.accounts.specs.declared.Lookup.{Lookup}
 use Rattle.authenticator.specs.declared.Conversation.{Conversation}
 use Rattle.authenticator.specs.declared.Opened as openings
 use Rattle.authenticator.specs.declared.Phase.{Phase}
@@ -42,7 +43,7 @@ use Rattle.mschap.proofs.ConversationLaws.{decoded-conversation-sized}
 
 -- ---- the successors keep the sizes
 
-blank-sized : SizedAccount blank
+blank-sized : SizedAccount blankAccount
 blank-sized = record { nt = refl; lm = refl }
 
 choice-sized : (b : Bool) {x y : Conversation} → SizedConversation x → SizedConversation y
@@ -50,9 +51,9 @@ choice-sized : (b : Bool) {x y : Conversation} → SizedConversation x → Sized
 choice-sized true s t = s
 choice-sized false s t = t
 
-pub record SizedDrawn (d : Drawn) : Type 0 where
+pub record SizedJudgement (d : Judgement) : Type 0 where
   pub next : SizedConversation (d .next)
-  pub handed : SizedAccount (d .handed .account)
+  pub updated : SizedAccount (d .updated .account)
 
 module _ (c : Conversation) (s : SizedConversation c) where
   ended-sized : SizedConversation (ended c)
@@ -64,7 +65,7 @@ module _ (c : Conversation) (s : SizedConversation c) where
   after-sized : (a : Account) (e : ℕ) → SizedAccount a → SizedConversation (afterReason c a e)
   after-sized a e t =
       choice-sized (mayRetry c e) retried-sized
-      (choice-sized (eqb e 648) (record { challenge = s .challenge; kept = t }) ended-sized)
+      (choice-sized (eqb e passwordExpired) (record { challenge = s .challenge; kept = t }) ended-sized)
 
   -- ---- the hash of an accepted change has sixteen octets
 
@@ -72,7 +73,7 @@ module _ (c : Conversation) (s : SizedConversation c) where
   Whole none = Unit {0}
   Whole (some h) = length h ≡ 16
 
-  inside-whole : (k : Content) (o : blocks.Unsealed) → Whole (hashInside k o)
+  inside-whole : (k : Content) (o : blocks.Unsealed) → Whole (contentHash k o)
   inside-whole Over o = tt
   inside-whole Odd o = tt
   inside-whole (Password n) o = length-nt (passwordIn o n)
@@ -81,45 +82,45 @@ module _ (c : Conversation) (s : SizedConversation c) where
   choice-whole true x h = h
   choice-whole false x h = tt
 
-  proven-whole : (f : changes.Change) (x : Option (List ℕ)) → Whole x → Whole (proven c f x)
+  proven-whole : (f : changes.Change) (x : Option (List ℕ)) → Whole x → Whole (proven (c .kept) (c .challenge) f x)
   proven-whole f none h = tt
-  proven-whole f (some v) h = choice-whole (proves c f v) (some v) h
+  proven-whole f (some v) h = choice-whole (proves (c .kept) (c .challenge) f v) (some v) h
 
-  new-whole : (f : changes.Change) → Whole (newHash c f)
+  new-whole : (f : changes.Change) → Whole (newHashIn c f)
   unfolding newHash
   new-whole f =
       let o = unsealedAs (c .kept .nt .octets) (f .block) in
-      choice-whole (c .kept .nt .present && eqb (f .flags % 2) 1) (proven c f (hashIn o))
-      (proven-whole f (hashIn o) (inside-whole (o .content) o))
+      choice-whole (c .kept .nt .present && eqb (f .flags % 2) 1) (proven (c .kept) (c .challenge) f (unsealedHash o))
+      (proven-whole f (unsealedHash o) (inside-whole (o .content) o))
 
-  drawn-by-sized : (x : Option (List ℕ)) → Whole x → SizedDrawn (drawnBy c x)
-  drawn-by-sized none h = record { next = ended-sized; handed = blank-sized }
-  drawn-by-sized (some v) h = record { next = ended-sized; handed = record { nt = h; lm = refl } }
+  change-sized : (x : Option (List ℕ)) → Whole x → SizedJudgement (changeJudgement c x)
+  change-sized none h = record { next = ended-sized; updated = blank-sized }
+  change-sized (some v) h = record { next = ended-sized; updated = record { nt = h; lm = refl } }
 
   -- ---- the step
 
-  drawn-in-sized : (phase : Phase) (p : List ℕ) (l : Lookup) → SizedAccount (l .account)
-      → SizedDrawn (drawnIn phase c p l)
-  unfolding responseDrawn changeDrawn
-  drawn-in-sized Response p l t =
+  judge-in-sized : (phase : Phase) (p : List ℕ) (l : Lookup) → SizedAccount (l .account)
+      → SizedJudgement (judgeIn phase c p l)
+  unfolding judgeResponse judgeChange
+  judge-in-sized Response p l t =
       record {
-        next = after-sized (l .account) (reasonOf c l (readResponse p)) t;
-        handed = blank-sized;
+        next = after-sized (l .account) (responseReason (c .terms) (c .challenge) l (readResponse p)) t;
+        updated = blank-sized;
       }
-  drawn-in-sized Change p l t = drawn-by-sized (newHash c (readChange p)) (new-whole (readChange p))
-  drawn-in-sized Ended p l t = record { next = s; handed = blank-sized }
+  judge-in-sized Change p l t = change-sized (newHashIn c (readChange p)) (new-whole (readChange p))
+  judge-in-sized Ended p l t = record { next = s; updated = blank-sized }
 
   pub step-sized : (p : List ℕ) (l : Lookup) (b : List ℕ) → SizedAccount (l .account)
       → SizedConversation (step c p l b .answer .next)
-      × SizedAccount (step c p l b .answer .handed .account)
-  unfolding step drawn
-  step-sized p l b t = by (eqb (refusalOf c p b) 0)
+      × SizedAccount (step c p l b .answer .updated .account)
+  unfolding step judge
+  step-sized p l b t = by (eqb (stepRefusal c p b) 0)
     where
       by : (k : Bool)
           → let o =
-          cond {A = Outcome} k (judgedAs (drawn c p l) b) (refusedAs (refusalOf c p b) c b) in
-          SizedConversation (o .answer .next) × SizedAccount (o .answer .handed .account)
-      by true = let d = drawn-in-sized (c .phase) p l t in (d .next, d .handed)
+          cond {A = Outcome} k (judgedAs c (judge c p l) b) (refusedAs (stepRefusal c p b) c b) in
+          SizedConversation (o .answer .next) × SizedAccount (o .answer .updated .account)
+      by true = let d = judge-in-sized (c .phase) p l t in (d .next, d .updated)
       by false = (s, blank-sized)
 
 module _ (conversation packet account buffer : List ℕ) where
@@ -127,7 +128,7 @@ module _ (conversation packet account buffer : List ℕ) where
   done = stepOf conversation packet account buffer
 
   pub step-fits : (isEncodedConversation (encodeConversation (done .answer .next)) ≡ true)
-      × (isEncodedRecord (encodeRecord (done .answer .handed)) ≡ true)
+      × (isEncodedRecord (encodeRecord (done .answer .updated)) ≡ true)
   step-fits =
       let c = decodeConversation conversation in
       let l = decodeRecord account in
@@ -135,7 +136,7 @@ module _ (conversation packet account buffer : List ℕ) where
       step-sized c (decoded-conversation-sized conversation) packet l buffer
       (decoded-record-sized account) in (
         conversation-fits (done .answer .next) (sized .0),
-        record-fits (done .answer .handed) (sized .1),
+        record-fits (done .answer .updated) (sized .1),
       )
 
 -- ---- the opening

@@ -16,7 +16,7 @@ use Rattle.peer.specs.declared.Peer.{Peer}
 use Rattle.peer.specs.declared.Turn.{Turn}
 use Rattle.peer.specs.declared.PacketWritten.{PacketWritten}
 use Rattle.peer.specs.declared.ReplyRead.{ReplyRead}
-use Rattle.mschap.specs.Call.{Fills, sized, numbered, left}
+use Rattle.mschap.specs.Call.{Fills, sized, numbered, afterCall}
 use Rattle.mschap.specs.Layout.{peerSize, encodePeer, decodePeer, isEncodedPeer}
 use Rattle.mschap.specs.Fields.{fieldsSize, encodeReading}
 use Rattle.mschap.specs.Peers.{replyArguments, ReplyCall, WriteCall}
@@ -49,15 +49,15 @@ module _ (peer packet fields : List ℕ) (valid : replyArguments peer fields ≡
         number =
             put .number ∙ ap (λ (v : ReplyRead). verdictRefusal (v .reading .verdict)) a
             ∙ sym (ap (λ (t : Bool). numbered t (verdictRefusal (reading .verdict))) valid);
-        next = put .next ∙ ap (λ (v : ReplyRead). left r (encodePeer (v .peer)) peer) a;
-        says = put .says ∙ ap (λ (v : ReplyRead). left r (encodeReading (v .reading)) fields) a;
+        next = put .next ∙ ap (λ (v : ReplyRead). afterCall r (encodePeer (v .peer)) peer) a;
+        says = put .says ∙ ap (λ (v : ReplyRead). afterCall r (encodeReading (v .reading)) fields) a;
       }
 
 -- ---- the writers
 
 -- a refused packet leaves the buffer alone
 abbrev Kept : List ℕ → Wrote → Type 0
-Kept out w = w .out ≡ left (w .answer .refusal) (w .out) out
+Kept out w = w .out ≡ afterCall (w .answer .refusal) (w .out) out
 
 wrote-kept : (n : ℕ) (packet out : List ℕ) → Kept out (wroteBy n packet out)
 wrote-kept n packet out = by (eqb n 0) refl
@@ -99,8 +99,8 @@ module _ (writes : Turn → Wrote) (peer out : List ℕ) (valid : isEncodedPeer 
         number = number ∙ sym (ap (λ (t : Bool). numbered t (wrote .answer .refusal)) valid);
         next =
             put .bytes
-            ∙ ap (λ (v : PacketWritten). left r (encodePeer (v .peer)) peer) (g .answer);
+            ∙ ap (λ (v : PacketWritten). afterCall r (encodePeer (v .peer)) peer) (g .answer);
         packet =
             g .out ∙ kept (decodePeer peer .turn)
-            ∙ ap (λ (i : ℕ). left i (wrote .out) out) (sym number);
+            ∙ ap (λ (i : ℕ). afterCall i (wrote .out) out) (sym number);
       }

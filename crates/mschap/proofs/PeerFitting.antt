@@ -11,9 +11,9 @@ use lib.Dec.{eqb, ltb}
 use lib.ListN.{length}
 use Rattle.octets.specs.Parts.{part, fixed}
 use Rattle.octets.proofs.Parts.{length-fixed}
-use Rattle.message.specs.Message.{words, first, fieldE, fieldC, pairs, newChallengeFrom, readFields}
+use Rattle.message.specs.Message.{words, firstField, fieldE, fieldC, pairs, newChallengeFrom, readFields}
 use Rattle.message.specs.Message.{readMessage}
-use Rattle.message.specs.Walk.{IfSome, Eight}
+use Rattle.message.specs.Inner.{IfSome, Eight}
 use Rattle.message.specs.declared.Call.{Call}
 use Rattle.message.specs.declared.Call.the-variants.{Retry, ChangeTwo, ChangeOne, End}
 use Rattle.message.specs.declared.NewChallenge.{NewChallenge}
@@ -58,7 +58,7 @@ choice-given false s t = t
 
 fields-given : (ws : List (List ℕ)) (e : Option (List ℕ)) → EightGiven (readFields ws e)
 fields-given ws none = record { eight = refl }
-fields-given ws (some e) = record { eight = given-eight (first fieldC ws) (first-eight ws) }
+fields-given ws (some e) = record { eight = given-eight (firstField fieldC ws) (first-eight ws) }
 
 reply-given : (last : ℕ) (p : List ℕ) → EightGiven (readReply last p)
 unfolding readReply readMessage
@@ -69,7 +69,7 @@ reply-given last p =
     (choice-given (eqb (octet 0 p) 3) (record { eight = refl })
     (choice-given (eqb (octet 0 p) 4)
     (choice-given (ltb 256 (length (dataOf p))) (record { eight = refl })
-    (fields-given ws (first fieldE ws)))
+    (fields-given ws (firstField fieldE ws)))
     (record { eight = refl }))))
 
 -- before the first packet none is given

@@ -12,9 +12,9 @@ use Rattle.octets.specs.Parts.{part}
 use Rattle.octets.proofs.Parts.{length-fixed, fixed-whole}
 use Rattle.packets.specs.Frame.{octet}
 use Rattle.packets.proofs.Framing.{field}
-use Rattle.authenticator.specs.declared.Hash.{Hash}
-use Rattle.authenticator.specs.declared.Account.{Account}
-use Rattle.authenticator.specs.declared.Lookup.{Lookup}
+use Rattle.accounts.specs.declared.Hash.{Hash}
+use Rattle.accounts.specs.declared.Account.{Account}
+use Rattle.accounts.specs.declared.Lookup.{Lookup}
 use Rattle.mschap.specs.Layout as layout
 use Rattle.mschap.proofs.Encodings.{encoding-fits}
 
@@ -27,8 +27,8 @@ hash-same e f = cc
 pub account-same : {n n' l l' : Hash} {d d' h h' o o' e e' : Bool} → n ≡ n' → l ≡ l' → d ≡ d'
     → h ≡ h' → o ≡ o' → e ≡ e'
     → _≡_ {A = Account}
-    (record { nt = n; lm = l; disabled = d; barred = h; nodialin = o; expired = e })
-    (record { nt = n'; lm = l'; disabled = d'; barred = h'; nodialin = o'; expired = e' })
+    (record { nt = n; lm = l; disabled = d; «hours_denied» = h; «dialin_denied» = o; expired = e })
+    (record { nt = n'; lm = l'; disabled = d'; «hours_denied» = h'; «dialin_denied» = o'; expired = e' })
 account-same e₁ e₂ e₃ e₄ e₅ e₆ = cc
 
 pub lookup-same : {f f' : Bool} {a a' : Account} → f ≡ f' → a ≡ a'
@@ -40,8 +40,8 @@ lookup-same e₁ e₂ = cc
 pub account-pieces : (a : Account)
     → ((((layout.encodeHash (a .nt) ++ layout.encodeHash (a .lm))
     ++ (layout.flag (a .disabled) ∷ []))
-    ++ (layout.flag (a .barred) ∷ []))
-    ++ (layout.flag (a .nodialin) ∷ []))
+    ++ (layout.flag (a .«hours_denied») ∷ []))
+    ++ (layout.flag (a .«dialin_denied») ∷ []))
     ++ (layout.flag (a .expired) ∷ [])
     ≡ layout.encodeAccount a
 unfolding layout.encodeAccount
@@ -92,8 +92,8 @@ unfolding layout.encodeAccount layout.decodeAccount
 account-back a s =
     account-same (ap layout.decodeHash (first .0) ∙ hash-back (a .nt) (s .nt))
     (ap layout.decodeHash (second .0) ∙ hash-back (a .lm) (s .lm))
-    (flagged 0 ∙ flag-back (a .disabled)) (flagged 1 ∙ flag-back (a .barred))
-    (flagged 2 ∙ flag-back (a .nodialin)) (flagged 3 ∙ flag-back (a .expired))
+    (flagged 0 ∙ flag-back (a .disabled)) (flagged 1 ∙ flag-back (a .«hours_denied»))
+    (flagged 2 ∙ flag-back (a .«dialin_denied»)) (flagged 3 ∙ flag-back (a .expired))
   where
     nt : List ℕ
     nt = layout.encodeHash (a .nt)
@@ -103,7 +103,7 @@ account-back a s =
 
     flags : List ℕ
     flags =
-        layout.flag (a .disabled) ∷ layout.flag (a .barred) ∷ layout.flag (a .nodialin)
+        layout.flag (a .disabled) ∷ layout.flag (a .«hours_denied») ∷ layout.flag (a .«dialin_denied»)
         ∷ layout.flag (a .expired) ∷ []
 
     bytes : List ℕ

@@ -24,11 +24,11 @@ abbrev pub numbered : Bool → ℕ → ℕ
 numbered valid refusal = cond valid refusal badArgument
 
 -- what a call that returned r leaves: the result where r is 0, else what was there before
-abbrev pub left : {A : Type 0} → ℕ → A → A → A
-left r result before = cond (eqb r 0) result before
+abbrev pub afterCall : {A : Type 0} → ℕ → A → A → A
+afterCall r result before = cond (eqb r 0) result before
 
 -- what a call with one result returns (r) and leaves in the buffer for it
 pub record Fills (valid : Bool) (refusal : ℕ) (result buffer : List ℕ) (r : ℕ)
     (bufferAfter : List ℕ) : Type 0 where
   pub number : r ≡ numbered valid refusal
-  pub bytes : bufferAfter ≡ left r result buffer
+  pub bytes : bufferAfter ≡ afterCall r result buffer

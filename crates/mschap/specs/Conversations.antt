@@ -7,12 +7,12 @@ use Prim.Native.Nat.{ℕ}
 use lib.Dec.{eqb}
 use Rattle.issued.specs.Issued.{Issued}
 use Rattle.authenticator.specs.Opening.{Opening, opened, openedIssued, openedBuffer}
-use Rattle.authenticator.specs.Step.{Outcome, step, verdictRefusal}
+use Rattle.authenticator.specs.Step.{Outcome, step, refusalIn}
 use Rattle.authenticator.specs.declared.Retries.{Retries}
 use Rattle.authenticator.specs.declared.Retries.the-variants.{Default, Count}
 use Rattle.authenticator.specs.declared.LmChoice.{LmChoice}
 use Rattle.authenticator.specs.declared.LmChoice.the-variants.{Silent, Allowed, Disallowed}
-use Rattle.mschap.specs.Call.{sized, numbered, left}
+use Rattle.mschap.specs.Call.{sized, numbered, afterCall}
 use Rattle.mschap.specs.Layout.{challengeSize, conversationSize, recordSize}
 use Rattle.mschap.specs.Layout.{encodeRecord, decodeRecord, isEncodedRecord}
 use Rattle.mschap.specs.Layout.{encodeConversation, decodeConversation, isEncodedConversation}
@@ -51,10 +51,10 @@ openArguments challenge lm conversation =
 pub record OpenCall (o : Opening) (lm : ℕ) (conversation : List ℕ) (r : ℕ) (listAfter : Issued)
     (conversationAfter replyAfter : List ℕ) : Type 0 where
   pub number : r ≡ numbered (openArguments (o .challenge) lm conversation) (opened o .refusal)
-  pub list : listAfter ≡ left r (openedIssued o) (o .issued)
+  pub list : listAfter ≡ afterCall r (openedIssued o) (o .issued)
   pub first : conversationAfter
-      ≡ left r (encodeConversation (opened o .conversation)) conversation
-  pub reply : replyAfter ≡ left r (openedBuffer o) (o .buffer)
+      ≡ afterCall r (encodeConversation (opened o .conversation)) conversation
+  pub reply : replyAfter ≡ afterCall r (openedBuffer o) (o .buffer)
 
 -- ---- the step
 
@@ -74,10 +74,10 @@ pub record StepCall (conversation packet account buffer out : List ℕ) (r : ℕ
     (conversationAfter bufferAfter outAfter : List ℕ) : Type 0 where
   pub number : r
       ≡ numbered (stepArguments conversation account out)
-      (verdictRefusal (stepOf conversation packet account buffer .answer .kind))
+      (refusalIn (stepOf conversation packet account buffer .answer .kind))
   pub next : conversationAfter
-      ≡ left r (encodeConversation (stepOf conversation packet account buffer .answer .next))
+      ≡ afterCall r (encodeConversation (stepOf conversation packet account buffer .answer .next))
       conversation
-  pub reply : bufferAfter ≡ left r (stepOf conversation packet account buffer .buffer) buffer
-  pub handed : outAfter
-      ≡ left r (encodeRecord (stepOf conversation packet account buffer .answer .handed)) out
+  pub reply : bufferAfter ≡ afterCall r (stepOf conversation packet account buffer .buffer) buffer
+  pub updated : outAfter
+      ≡ afterCall r (encodeRecord (stepOf conversation packet account buffer .answer .updated)) out

@@ -8,9 +8,9 @@ use lib.Dec.{eqb}
 use Rattle.octets.specs.Parts.{part, fixed, agrees}
 use Rattle.packets.specs.Frame.{octet}
 use Rattle.authenticator.specs.Conversation.{awaitedCode}
-use Rattle.authenticator.specs.declared.Hash.{Hash}
-use Rattle.authenticator.specs.declared.Account.{Account}
-use Rattle.authenticator.specs.declared.Lookup.{Lookup}
+use Rattle.accounts.specs.declared.Hash.{Hash}
+use Rattle.accounts.specs.declared.Account.{Account}
+use Rattle.accounts.specs.declared.Lookup.{Lookup}
 use Rattle.authenticator.specs.declared.Conversation.{Conversation}
 use Rattle.authenticator.specs.declared.Phase.{Phase}
 use Rattle.authenticator.specs.declared.Phase.the-variants.{Response, Change, Ended}
@@ -80,11 +80,11 @@ lmAt = 17
 abbrev pub disabledAt : ℕ
 disabledAt = 34
 
-abbrev pub barredAt : ℕ
-barredAt = 35
+abbrev pub hoursDeniedAt : ℕ
+hoursDeniedAt = 35
 
-abbrev pub nodialinAt : ℕ
-nodialinAt = 36
+abbrev pub dialinDeniedAt : ℕ
+dialinDeniedAt = 36
 
 abbrev pub expiredAt : ℕ
 expiredAt = 37
@@ -93,7 +93,7 @@ unfoldable pub encodeAccount : Account → List ℕ
 encodeAccount a =
     encodeHash (a .nt)
     ++ (encodeHash (a .lm)
-    ++ (flag (a .disabled) ∷ flag (a .barred) ∷ flag (a .nodialin) ∷ flag (a .expired) ∷ []))
+    ++ (flag (a .disabled) ∷ flag (a .«hours_denied») ∷ flag (a .«dialin_denied») ∷ flag (a .expired) ∷ []))
 
 unfoldable pub decodeAccount : List ℕ → Account
 decodeAccount bytes =
@@ -101,8 +101,8 @@ decodeAccount bytes =
       nt = decodeHash (part ntAt optionalHashSize bytes);
       lm = decodeHash (part lmAt optionalHashSize bytes);
       disabled = isFlag (octet disabledAt bytes);
-      barred = isFlag (octet barredAt bytes);
-      nodialin = isFlag (octet nodialinAt bytes);
+      «hours_denied» = isFlag (octet hoursDeniedAt bytes);
+      «dialin_denied» = isFlag (octet dialinDeniedAt bytes);
       expired = isFlag (octet expiredAt bytes);
     }
 

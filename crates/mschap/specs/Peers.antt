@@ -8,7 +8,7 @@ use Rattle.message.specs.Message.{verdictRefusal}
 use Rattle.packets.specs.Reply.{readChallenge}
 use Rattle.peer.specs.Peer.{afterChallenge, afterWriting, peerReads, afterReply}
 use Rattle.peer.specs.Write.{Wrote, writeResponse, writeChange}
-use Rattle.mschap.specs.Call.{Fills, sized, numbered, left}
+use Rattle.mschap.specs.Call.{Fills, sized, numbered, afterCall}
 use Rattle.mschap.specs.Layout.{peerSize, encodePeer, decodePeer, isEncodedPeer}
 use Rattle.mschap.specs.Fields.{fieldsSize, encodeReading}
 
@@ -27,8 +27,8 @@ pub record ReplyCall (peer packet fields : List ℕ) (r : ℕ) (peerAfter fields
     : Type 0 where
   pub number : r
       ≡ numbered (replyArguments peer fields) (verdictRefusal (peerReads (decodePeer peer) packet .verdict))
-  pub next : peerAfter ≡ left r (encodePeer (afterReply (decodePeer peer) packet)) peer
-  pub says : fieldsAfter ≡ left r (encodeReading (peerReads (decodePeer peer) packet)) fields
+  pub next : peerAfter ≡ afterCall r (encodePeer (afterReply (decodePeer peer) packet)) peer
+  pub says : fieldsAfter ≡ afterCall r (encodeReading (peerReads (decodePeer peer) packet)) fields
 
 -- the packets of the peer that is encoded
 abbrev pub responseFrom : List ℕ → List ℕ → List ℕ → List ℕ → Wrote
@@ -41,5 +41,5 @@ changeFrom peer old new filler out = writeChange (decodePeer peer .turn) old new
 pub record WriteCall (w : Wrote) (peer out : List ℕ) (r : ℕ) (peerAfter outAfter : List ℕ)
     : Type 0 where
   pub number : r ≡ numbered (isEncodedPeer peer) (w .answer .refusal)
-  pub next : peerAfter ≡ left r (encodePeer (afterWriting (decodePeer peer) (w .answer))) peer
-  pub packet : outAfter ≡ left r (w .out) out
+  pub next : peerAfter ≡ afterCall r (encodePeer (afterWriting (decodePeer peer) (w .answer))) peer
+  pub packet : outAfter ≡ afterCall r (w .out) out

@@ -15,7 +15,7 @@ use authenticator::LmChoice;
 use authenticator::Retries;
 ghost use mathlib.Core.Path.{_≡_};
 ghost use lib.ListN.{length};
-ghost use Rattle.authenticator.specs.Step.{verdictRefusal};
+ghost use Rattle.authenticator.specs.Step.{refusalIn};
 ghost use Rattle.mschap.specs.Layout.{conversationSize, recordSize};
 ghost use Rattle.mschap.specs.Conversations.{retriesFor, lmFor, isLmChoice, openingFor};
 ghost use Rattle.mschap.specs.Conversations.{openArguments, OpenCall};
@@ -108,7 +108,7 @@ pub extern "C" fn mschap_open(
 // ---- the step
 
 fn number_of(kind: Kind) -> u8
-    ensures { λ r. ⌜ r ≡ verdictRefusal kind ⌝ }
+    ensures { λ r. ⌜ r ≡ refusalIn kind ⌝ }
 {
     match kind {
         Kind::Refused(n) => n,
@@ -116,27 +116,27 @@ fn number_of(kind: Kind) -> u8
     }
 }
 
-fn are_step_arguments(conversation: &[u8], account: &[u8], handed: &[u8]) -> bool
+fn are_step_arguments(conversation: &[u8], account: &[u8], updated: &[u8]) -> bool
     ensures { λ r. ⌜ r
-        ≡ stepArguments (now (conversation .entry)) (now (account .entry)) (now (handed .entry)) ⌝ }
+        ≡ stepArguments (now (conversation .entry)) (now (account .entry)) (now (updated .entry)) ⌝ }
 {
     is_encoded_conversation(conversation)
-        && (is_encoded_record(account) && handed.len() == RECORD_SIZE)
+        && (is_encoded_record(account) && updated.len() == RECORD_SIZE)
 }
 
 // Writes the next conversation and the record that is handed out, unless the packet is refused.
-fn put_answer(answer: Answer, conversation: &mut [u8], handed: &mut [u8]) -> u32
+fn put_answer(answer: Answer, conversation: &mut [u8], updated: &mut [u8]) -> u32
     requires { ⌜ length (now conversation) ≡ conversationSize ⌝ }
-    requires { ⌜ length (now handed) ≡ recordSize ⌝ }
-    ensures { λ r. ⌜ AnswerPut answer (now (conversation .entry)) (now (handed .entry)) r
-        (now (conversation .exit)) (now (handed .exit)) ⌝ }
+    requires { ⌜ length (now updated) ≡ recordSize ⌝ }
+    ensures { λ r. ⌜ AnswerPut answer (now (conversation .entry)) (now (updated .entry)) r
+        (now (conversation .exit)) (now (updated .exit)) ⌝ }
 {
     let kind = answer.kind;
     let next = answer.next;
-    let out = answer.handed;
+    let out = answer.updated;
     let number = number_of(kind);
     put_conversation(number, next, conversation);
-    put_record(number, out, handed)
+    put_record(number, out, updated)
 }
 
 // One step of a conversation: a packet, the record of the named account or none, and a reply
@@ -148,17 +148,17 @@ pub extern "C" fn mschap_step(
     packet: &[u8],
     account: &[u8],
     reply: &mut [u8],
-    handed: &mut [u8],
+    updated: &mut [u8],
 ) -> u32
     ensures { λ r. ⌜ StepCall (now (conversation .entry)) (now (packet .entry))
-        (now (account .entry)) (now (reply .entry)) (now (handed .entry)) r
-        (now (conversation .exit)) (now (reply .exit)) (now (handed .exit)) ⌝ }
+        (now (account .entry)) (now (reply .entry)) (now (updated .entry)) r
+        (now (conversation .exit)) (now (reply .exit)) (now (updated .exit)) ⌝ }
 {
-    if !are_step_arguments(conversation, account, handed) {
+    if !are_step_arguments(conversation, account, updated) {
         return BAD_ARGUMENT;
     }
     let before = decode_conversation(conversation);
     let lookup = decode_record(account);
     let answer = before.step(packet, lookup, reply);
-    put_answer(answer, conversation, handed)
+    put_answer(answer, conversation, updated)
 }

@@ -51,7 +51,11 @@ fn is_bad_flags(packet: &[u8]) -> bool
 pub fn change_refusal(packet: &[u8]) -> u8
     ensures { λ r. ⌜ r ≡ changeRefusal (now (packet .entry)) ⌝ }
 {
-    refuse_if(is_bad_size(packet), 6, refuse_if(is_bad_flags(packet), 7, 0))
+    refuse_if(
+        is_bad_size(packet),
+        6,
+        refuse_if(is_bad_flags(packet), 7, 0),
+    )
 }
 
 // A sealed block, from the place at on; 0 where the packet does not reach.

@@ -1,7 +1,7 @@
 // The two parts of a Response's name, for the lookup.
 use crate::Part;
-use crate::frames::is_bad_frame;
 use crate::frames::behind;
+use crate::frames::is_bad_frame;
 use crate::frames::octet;
 use crate::responses::is_bad_flag;
 use crate::responses::is_bad_size;

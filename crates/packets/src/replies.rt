@@ -1,9 +1,9 @@
 // What the authenticator sends: Challenge, Success and Failure; and what the peer reads in them.
 use crate::ChallengeFields;
-use crate::frames::is_bad_frame;
-use crate::frames::is_bad_id;
 use crate::frames::behind;
 use crate::frames::head;
+use crate::frames::is_bad_frame;
+use crate::frames::is_bad_id;
 use crate::frames::length;
 use crate::frames::octet;
 use crate::sizes::CHALLENGE_LENGTH;
@@ -128,7 +128,11 @@ fn read_body(packet: &[u8]) -> Reading
 pub fn read_reply(last: u8, packet: &[u8]) -> Reading
     ensures { λ r. ⌜ (r ≡ readReply last (now (packet .entry))) × (verdictRefusal (r .verdict) ≡ replyRefusal last (now (packet .entry))) × (verdictValues (r .verdict) ≡ replyValues last (now (packet .entry))) ⌝ }
 {
-    let refusal = refuse_if(is_bad_frame(packet), 3, refuse_if(is_bad_id(last, packet), 5, 0));
+    let refusal = refuse_if(
+        is_bad_frame(packet),
+        3,
+        refuse_if(is_bad_id(last, packet), 5, 0),
+    );
     if refusal != 0 {
         return message::refused_with(refusal);
     }

@@ -1,8 +1,8 @@
 // Account records and conversations, as they are read and written.
 use accounts::Account;
-use authenticator::Conversation;
 use accounts::Hash;
 use accounts::Lookup;
+use authenticator::Conversation;
 use authenticator::Phase;
 
 // ---- reading

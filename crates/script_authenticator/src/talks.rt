@@ -2,11 +2,11 @@
 // result, and answers what goes on.
 use super::lists;
 use super::records;
+use accounts::Lookup;
 use authenticator::Answer;
 use authenticator::Conversation;
 use authenticator::Kind;
 use authenticator::LmChoice;
-use accounts::Lookup;
 use authenticator::Opened;
 use authenticator::Retries;
 use lists::List;

@@ -1,9 +1,9 @@
 // Both ends of a conversation, and what passes between them: each step prints its packets.
 use super::lines;
+use accounts::Lookup;
 use authenticator::Answer;
 use authenticator::Conversation;
 use authenticator::LmChoice;
-use accounts::Lookup;
 use authenticator::Opened;
 use authenticator::Retries;
 use peer::PacketWritten;

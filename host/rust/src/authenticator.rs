@@ -74,11 +74,11 @@ impl Conversation {
         reply: &mut [u8],
     ) -> Result<Judged, Refusal> {
         let record = Account::record(record);
-        let mut handed = [0; sys::RECORD_SIZE];
-        let number = sys::step(&mut self.0, packet, &record, reply, &mut handed);
+        let mut updated = [0; sys::RECORD_SIZE];
+        let number = sys::step(&mut self.0, packet, &record, reply, &mut updated);
         Refusal::check(number)?;
-        let changed = match handed[0] {
-            1 => Account::from_octets(&part(&handed, 1)),
+        let changed = match updated[0] {
+            1 => Account::from_octets(&part(&updated, 1)),
             _ => None,
         };
         Ok(Judged {

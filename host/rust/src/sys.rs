@@ -144,7 +144,7 @@ pub mod raw {
             record_size: usize,
             reply: *mut u8,
             reply_size: usize,
-            handed: *mut u8,
+            updated: *mut u8,
             handed_size: usize,
         ) -> u32;
         /// Where the account stands in a Response; 0 where the packet is refused as one.
@@ -328,7 +328,7 @@ pub fn step(
     packet: &[u8],
     record: &[u8],
     reply: &mut [u8],
-    handed: &mut [u8],
+    updated: &mut [u8],
 ) -> u32 {
     // SAFETY: slices, as said above.
     unsafe {
@@ -341,8 +341,8 @@ pub fn step(
             record.len(),
             reply.as_mut_ptr(),
             reply.len(),
-            handed.as_mut_ptr(),
-            handed.len(),
+            updated.as_mut_ptr(),
+            updated.len(),
         )
     }
 }

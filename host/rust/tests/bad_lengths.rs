@@ -198,16 +198,16 @@ fn opened() -> ([u8; 50], Vec<u8>) {
 }
 
 /// One step with 100 for its answer, after which each buffer is unchanged.
-fn bad_step(conversation: &[u8], record: &[u8], handed: usize) {
+fn bad_step(conversation: &[u8], record: &[u8], updated: usize) {
     let (_, packet) = opened();
     let mut after = conversation.to_vec();
     let mut reply = [FILL; 17];
-    let mut out = vec![FILL; handed];
+    let mut out = vec![FILL; updated];
     let number = sys::step(&mut after, &packet, record, &mut reply, &mut out);
     assert_eq!(number, sys::BAD_ARGUMENT);
     assert_eq!(after, conversation);
     assert_eq!(reply, [FILL; 17]);
-    assert_eq!(out, vec![FILL; handed]);
+    assert_eq!(out, vec![FILL; updated]);
 }
 
 #[test]
@@ -243,15 +243,15 @@ fn steps() {
     // the right buffers draw an answer: the account is not found
     let (mut conversation, packet) = opened();
     let mut reply = [FILL; 17];
-    let mut handed = [FILL; 39];
+    let mut updated = [FILL; 39];
     let number = sys::step(
         &mut conversation,
         &packet,
         &[0; 39],
         &mut reply,
-        &mut handed,
+        &mut updated,
     );
-    assert_eq!((number, handed[0]), (sys::OK, 0));
+    assert_eq!((number, updated[0]), (sys::OK, 0));
     assert_eq!(&reply, b"\x04\x07\x00\x11E=691 R=1 V=2");
 }
 

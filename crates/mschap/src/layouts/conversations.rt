@@ -11,7 +11,7 @@ use crate::layouts::room::put_eight;
 use crate::layouts::room::put_flag;
 use authenticator::Conversation;
 use authenticator::Phase;
-use authenticator::Terms;
+use verify::Terms;
 ghost use mathlib.Core.Path.{_≡_};
 ghost use Rattle.mschap.specs.Call.{Fills, sized};
 ghost use Rattle.mschap.specs.Layout.{phaseOf, encodeConversation, decodeConversation};

@@ -4,9 +4,9 @@ use crate::layouts::room::Room;
 use crate::layouts::room::empty_room;
 use crate::layouts::room::put_flag;
 use crate::layouts::room::put_sixteen;
-use authenticator::Account;
-use authenticator::Hash;
-use authenticator::Lookup;
+use accounts::Account;
+use accounts::Hash;
+use accounts::Lookup;
 ghost use mathlib.Core.Path.{_≡_};
 ghost use Prim.Native.Nat.{_≤_};
 ghost use Rattle.octets.specs.Parts.{overAt};
@@ -30,9 +30,9 @@ const LM_AT: usize = 17;
 
 const DISABLED_AT: usize = 34;
 
-const BARRED_AT: usize = 35;
+const HOURS_DENIED_AT: usize = 35;
 
-const NODIALIN_AT: usize = 36;
+const DIALIN_DENIED_AT: usize = 36;
 
 const EXPIRED_AT: usize = 37;
 
@@ -68,7 +68,7 @@ fn decode_hash(bytes: &[u8]) -> Hash
 {
     let present = is_flag(packets::octet(bytes, 0));
     let octets = octets::sixteen_at(bytes, 1);
-    Hash { present, octets }
+    accounts::hash_if(present, octets)
 }
 
 pub fn encode_account(mut room: Room, at: usize, account: Account) -> Room
@@ -80,8 +80,8 @@ pub fn encode_account(mut room: Room, at: usize, account: Account) -> Room
     room = encode_hash(room, at, nt);
     room = encode_hash(room, at + LM_AT, lm);
     room = put_flag(room, at + DISABLED_AT, account.disabled);
-    room = put_flag(room, at + BARRED_AT, account.barred);
-    room = put_flag(room, at + NODIALIN_AT, account.nodialin);
+    room = put_flag(room, at + HOURS_DENIED_AT, account.hours_denied);
+    room = put_flag(room, at + DIALIN_DENIED_AT, account.dialin_denied);
     put_flag(room, at + EXPIRED_AT, account.expired)
 }
 
@@ -91,17 +91,10 @@ pub fn decode_account(bytes: &[u8]) -> Account
     let nt = decode_hash(octets::part_of(bytes, NT_AT, OPTIONAL_HASH_SIZE));
     let lm = decode_hash(octets::part_of(bytes, LM_AT, OPTIONAL_HASH_SIZE));
     let disabled = is_flag(packets::octet(bytes, DISABLED_AT));
-    let barred = is_flag(packets::octet(bytes, BARRED_AT));
-    let nodialin = is_flag(packets::octet(bytes, NODIALIN_AT));
+    let hours = is_flag(packets::octet(bytes, HOURS_DENIED_AT));
+    let dialin = is_flag(packets::octet(bytes, DIALIN_DENIED_AT));
     let expired = is_flag(packets::octet(bytes, EXPIRED_AT));
-    Account {
-        nt,
-        lm,
-        disabled,
-        barred,
-        nodialin,
-        expired,
-    }
+    accounts::account_with(nt, lm, disabled, hours, dialin, expired)
 }
 
 fn encode_record(lookup: Lookup) -> Room
@@ -117,7 +110,7 @@ pub fn decode_record(bytes: &[u8]) -> Lookup
 {
     let found = is_flag(packets::octet(bytes, FOUND_AT));
     let account = decode_account(octets::part_of(bytes, ACCOUNT_AT, ACCOUNT_SIZE));
-    Lookup { found, account }
+    accounts::lookup_of(found, account)
 }
 
 pub fn is_encoded_record(bytes: &[u8]) -> bool

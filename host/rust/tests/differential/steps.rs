@@ -90,23 +90,23 @@ fn step(random: &mut Random, seen: &mut Seen) {
         raw[1..].copy_from_slice(&account_octets(&account, random));
         raw[0] = record.is_some().into();
         let garbage: [u8; sys::RECORD_SIZE] = random.array();
-        let mut handed = garbage;
+        let mut updated = garbage;
         let mut reply = passed;
-        let number = sys::step(&mut octets, &packet, &raw, &mut reply, &mut handed);
+        let number = sys::step(&mut octets, &packet, &raw, &mut reply, &mut updated);
         assert_eq!(number, u32::from(outcome.refusal));
         // Bytes of no effect may be kept as they were passed, so values are compared here.
         let next = mschap::Conversation::from_octets(octets).expect("a conversation");
         assert_eq!(their_conversation(&next), boxes.theirs);
         assert_eq!(reply, our_reply);
         if number == sys::OK {
-            let found = handed[0] == 1;
-            let octets = handed[1..].try_into().expect("an account");
+            let found = updated[0] == 1;
+            let octets = updated[1..].try_into().expect("an account");
             let account = mschap::Account::from_octets(octets).expect("an account");
-            assert!(handed[0] <= 1);
+            assert!(updated[0] <= 1);
             assert_eq!(found.then_some(their_account(&account)), outcome.changed);
         } else {
             assert_eq!(&octets, before.octets(), "a refusal changes nothing");
-            assert_eq!(handed, garbage, "a refusal hands out nothing");
+            assert_eq!(updated, garbage, "a refusal hands out nothing");
         }
     }
 }

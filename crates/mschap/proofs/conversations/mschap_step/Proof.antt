@@ -4,9 +4,9 @@ use mathlib.Core.Path.{_≡_, refl, sym, ap, ap₂, _∙_}
 use mathlib.Core.Bool.{Bool, true}
 use borrow.Author.Needs.{needs}
 use borrow.Author.Tests.{not-true, not-false}
-use Rattle.authenticator.specs.Step.{step, verdictRefusal}
+use Rattle.authenticator.specs.Step.{step, refusalIn}
+use Rattle.accounts.specs.declared.Lookup.{Lookup}
 use Rattle.authenticator.specs.declared.Conversation.{Conversation}
-use Rattle.authenticator.specs.declared.Lookup.{Lookup}
 use Rattle.mschap.specs.Conversations.{stepArguments, stepOf}
 use Rattle.mschap.proofs.Calls.{step-sizes, step-called}
 use Rattle.mschap.proofs.conversations.mschap_step.Statement.{statement}
@@ -20,14 +20,14 @@ start c = c .before .before .before .before .before .before .before .before .bef
 
 valid : (c : tie.Else1)
     → let a = start c .args in
-    stepArguments (a .conversation .now) (a .account .now) (a .handed .now) ≡ true
+    stepArguments (a .conversation .now) (a .account .now) (a .updated .now) ≡ true
 valid c = sym (c .before .are-step-arguments .ensures) ∙ not-false _ (c .if1 .left)
 
 put-answer-requires : tie.Need-put-answer-requires
 put-answer-requires c κs =
     let passed = c .before .before .before .before .before .before .before .before .before in
     let a = start passed .args in
-    step-sizes (a .conversation .now) (a .account .now) (a .handed .now) (valid passed)
+    step-sizes (a .conversation .now) (a .account .now) (a .updated .now) (valid passed)
 
 -- the arguments are not valid
 returns : tie.Need-returns
@@ -36,7 +36,7 @@ returns c =
       number = simp (sym (c .before .are-step-arguments .ensures) ∙ not-true _ (c .if1 .taken));
       next = refl;
       reply = refl;
-      handed = refl;
+      updated = refl;
     }
 
 -- they are valid
@@ -59,7 +59,7 @@ returns-2 c =
     ∙ ap₂ (λ (v : Conversation) (u : Lookup). step v (a .packet .now) u (a .reply .now) .buffer)
     before lookup in
     step-called (a .conversation .now) (a .packet .now) (a .account .now) (a .reply .now)
-    (a .handed .now) (valid passed) answer reply (put .put-answer .ensures)
+    (a .updated .now) (valid passed) answer reply (put .put-answer .ensures)
 
 pub mschap-step-spec : {M : Type 1} → statement M
 mschap-step-spec =

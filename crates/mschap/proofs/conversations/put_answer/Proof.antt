@@ -3,7 +3,7 @@
 use mathlib.Core.Path.{_≡_, sym, ap, _∙_}
 use Prim.Native.Nat.{ℕ}
 use borrow.Author.Needs.{needs}
-use Rattle.mschap.specs.Call.{left}
+use Rattle.mschap.specs.Call.{afterCall}
 use Rattle.mschap.specs.Layout.{encodeConversation}
 use Rattle.mschap.proofs.Filling.{fills-number}
 use Rattle.mschap.proofs.conversations.put_answer.Statement.{statement}
@@ -25,9 +25,9 @@ returns c =
           fills-number (start .pre .1) (second .put-record .ensures) ∙ numbered .number-of .ensures;
       next =
           first .put-conversation .ensures .bytes
-          ∙ ap (λ (i : ℕ). left i (encodeConversation (a .answer .next)) (a .conversation .now))
+          ∙ ap (λ (i : ℕ). afterCall i (encodeConversation (a .answer .next)) (a .conversation .now))
           same;
-      handed = second .put-record .ensures .bytes;
+      updated = second .put-record .ensures .bytes;
     }
 
 pub put-answer-spec : {M : Type 1} → statement M

@@ -3,7 +3,7 @@
 use mathlib.Core.Path.{_≡_, sym, ap, _∙_}
 use Prim.Native.Nat.{ℕ}
 use borrow.Author.Needs.{needs}
-use Rattle.mschap.specs.Call.{left}
+use Rattle.mschap.specs.Call.{afterCall}
 use Rattle.mschap.specs.Layout.{encodePeer}
 use Rattle.mschap.proofs.Filling.{fills-number}
 use Rattle.mschap.proofs.peers.put_reply.Statement.{statement}
@@ -26,7 +26,7 @@ returns c =
           ∙ numbered .verdict-number .ensures;
       next =
           first .put-peer .ensures .bytes
-          ∙ ap (λ (i : ℕ). left i (encodePeer (a .read .peer)) (a .peer .now)) same;
+          ∙ ap (λ (i : ℕ). afterCall i (encodePeer (a .read .peer)) (a .peer .now)) same;
       says = second .put-fields .ensures .bytes;
     }
 

@@ -11,17 +11,19 @@ use Rattle.mschap.proofs.layouts.records.decode_account.Tie as tie
 returns : tie.Need-returns
 unfolding decodeAccount
 returns c =
-    let nodialin = c .before .before in
-    let barred = nodialin .before .before in
-    let disabled = barred .before .before in
+    let expired = c .before in
+    let dialin = expired .before .before in
+    let hours = dialin .before .before in
+    let disabled = hours .before .before in
     let lm = disabled .before .before in
     let nt = lm .before .before in
-    account-same (nt .decode-hash .ensures ∙ ap decodeHash (nt .before .part-of .ensures))
+    c .account-with .ensures
+    ∙ account-same (nt .decode-hash .ensures ∙ ap decodeHash (nt .before .part-of .ensures))
     (lm .decode-hash2 .ensures ∙ ap decodeHash (lm .before .part-of2 .ensures))
     (disabled .is-flag .ensures ∙ ap isFlag (disabled .before .octet .ensures))
-    (barred .is-flag2 .ensures ∙ ap isFlag (barred .before .octet2 .ensures))
-    (nodialin .is-flag3 .ensures ∙ ap isFlag (nodialin .before .octet3 .ensures))
-    (c .is-flag4 .ensures ∙ ap isFlag (c .before .octet4 .ensures))
+    (hours .is-flag2 .ensures ∙ ap isFlag (hours .before .octet2 .ensures))
+    (dialin .is-flag3 .ensures ∙ ap isFlag (dialin .before .octet3 .ensures))
+    (expired .is-flag4 .ensures ∙ ap isFlag (expired .before .octet4 .ensures))
 
 pub decode-account-spec : {M : Type 1} → statement M
 decode-account-spec =
@@ -30,4 +32,4 @@ decode-account-spec =
     (λ c κs. search needs) (λ c κs. search needs) (λ c κs. search needs) (λ c κs. search needs)
     (λ c κs. search needs) (λ c κs. search needs) (λ c κs. search needs) (λ c κs. search needs)
     (λ c κs. search needs) (λ c κs. search needs) (λ c κs. search needs) (λ c κs. search needs)
-    returns)
+    (λ c κs. search needs) returns)

@@ -9,12 +9,15 @@ use Rattle.mschap.proofs.layouts.records.decode_hash.Tie as tie
 
 returns : tie.Need-returns
 returns c =
-    let present = c .before in
-    hash-same (present .is-flag .ensures ∙ ap isFlag (present .before .octet .ensures))
-    (c .sixteen-at .ensures)
+    let octets = c .before in
+    let present = octets .before in
+    c .hash-if .ensures
+    ∙ hash-same (present .is-flag .ensures ∙ ap isFlag (present .before .octet .ensures))
+    (octets .sixteen-at .ensures)
 
 pub decode-hash-spec : {M : Type 1} → statement M
 decode-hash-spec =
     tie.close
     (tie.spec
-    (λ c κs. search needs) (λ c κs. search needs) (λ c κs. search needs) returns)
+    (λ c κs. search needs) (λ c κs. search needs) (λ c κs. search needs) (λ c κs. search needs)
+    returns)

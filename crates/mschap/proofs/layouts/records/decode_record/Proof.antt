@@ -10,13 +10,15 @@ use Rattle.mschap.proofs.layouts.records.decode_record.Tie as tie
 returns : tie.Need-returns
 unfolding decodeRecord
 returns c =
-    let found = c .before .before in
-    lookup-same (found .is-flag .ensures ∙ ap isFlag (found .before .octet .ensures))
-    (c .decode-account .ensures ∙ ap decodeAccount (c .before .part-of .ensures))
+    let account = c .before in
+    let found = account .before .before in
+    c .lookup-of .ensures
+    ∙ lookup-same (found .is-flag .ensures ∙ ap isFlag (found .before .octet .ensures))
+    (account .decode-account .ensures ∙ ap decodeAccount (account .before .part-of .ensures))
 
 pub decode-record-spec : {M : Type 1} → statement M
 decode-record-spec =
     tie.close
     (tie.spec
     (λ c κs. search needs) (λ c κs. search needs) (λ c κs. search needs) (λ c κs. search needs)
-    returns)
+    (λ c κs. search needs) returns)

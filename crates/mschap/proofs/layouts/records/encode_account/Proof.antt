@@ -17,9 +17,9 @@ sized c = record { nt = search needs; lm = search needs }
 -- each field in turn, the last first
 returns : tie.Need-returns
 returns c =
-    let nodialin = c .before in
-    let barred = nodialin .before in
-    let disabled = barred .before in
+    let dialin = c .before in
+    let hours = dialin .before in
+    let disabled = hours .before in
     let lm = disabled .before in
     let nt = lm .before in
     let start = nt .before .before .before in
@@ -32,8 +32,8 @@ returns c =
     let s₂ =
     next s₁ (encodeHash (account .lm)) 17 (ap suc (sized start .lm)) (lm .encode-hash2 .ensures) in
     let s₃ = next s₂ (flag (account .disabled) ∷ []) 1 refl (disabled .put-flag .ensures) in
-    let s₄ = next s₃ (flag (account .barred) ∷ []) 1 refl (barred .put-flag2 .ensures) in
-    let s₅ = next s₄ (flag (account .nodialin) ∷ []) 1 refl (nodialin .put-flag3 .ensures) in
+    let s₄ = next s₃ (flag (account .«hours_denied») ∷ []) 1 refl (hours .put-flag2 .ensures) in
+    let s₅ = next s₄ (flag (account .«dialin_denied») ∷ []) 1 refl (dialin .put-flag3 .ensures) in
     last s₅ (flag (account .expired) ∷ []) (c .put-flag4 .ensures)
     ∙ ap (λ (l : List ℕ). overAt (a .at) l room) (account-pieces account)
 

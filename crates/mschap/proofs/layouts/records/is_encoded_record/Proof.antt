@@ -6,7 +6,7 @@ use Prim.Native.Nat.{ℕ}
 use native.Mathlib.Omega.{arith}
 use borrow.Author.Needs.{needs}
 use Rattle.octets.specs.Parts.{agrees}
-use Rattle.authenticator.specs.declared.Lookup.{Lookup}
+use Rattle.accounts.specs.declared.Lookup.{Lookup}
 use Rattle.mschap.specs.Layout.{encodeRecord, decodeRecord, isEncodedRecord}
 use Rattle.mschap.specs.Inner.{inRoom}
 use Rattle.mschap.proofs.Putting.{front}
