@@ -7,8 +7,8 @@ ghost use lib.ListN.{length};
 ghost use Rattle.rc4.specs.Rc4.{crypted};
 ghost use Rattle.credentials.specs.Credentials.{longestNt, upper, badNtPassword, lmKeys, ntHashed, lmHashed, responseOf, oldUnderNew, plainBlock, badFiller, sealRefusal, sealedAs, lengthIn, contentFor, lengthTold, passwordLength, unsealedAs};
 
-// Sizes in octets: a hash, the longest password for NT and for LM, a response's keys (three DES keys
-// of 7 octets), and a password's block (room for the longest one, and its length).
+// Sizes in octets: a hash, the longest password for NT and for LM, a response's keys (three DES
+// keys of 7 octets), and a password's block (room for the longest one, and its length).
 pub const HASH_SIZE: usize = 16;
 
 pub const LONGEST_NT: usize = 512;

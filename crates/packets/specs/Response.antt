@@ -1,4 +1,5 @@
--- The Response packet (RFC 2433, section 6): size of the value, LM response, NT response, flag, name.
+-- The Response packet (RFC 2433, section 6): size of the value, LM response, NT response, flag,
+-- name.
 -- Assumes nothing: these are definitions.
 use mathlib.Core.Bool.{Bool, cond, not, _||_}
 use mathlib.Core.List.{List, _∷_, _++_}
