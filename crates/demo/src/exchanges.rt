@@ -1,17 +1,17 @@
 // The six exchanges of RFC 2433, B.1.
 use accounts::Lookup;
 use authenticator::Retries;
-use talk::another_challenge;
-use talk::challenge;
-use talk::change;
-use talk::new_one;
-use talk::opening;
-use talk::response;
-use talk::rightly;
-use talk::say;
-use talk::title;
-use talk::usual_opening;
-use talk::wrongly;
+use loopback::another_challenge;
+use loopback::challenge;
+use loopback::change;
+use loopback::new_one;
+use loopback::opening;
+use loopback::response;
+use loopback::rightly;
+use loopback::say;
+use loopback::title;
+use loopback::usual_opening;
+use loopback::wrongly;
 
 fn successful() {
     title(b"B.1.1 Successful authentication");
@@ -25,40 +25,40 @@ fn failed() {
 
 fn retried() {
     title(b"B.1.3 Successful authentication after retry");
-    let mut talk = opening(255, challenge(), Retries::Default);
-    talk = wrongly(talk, false);
-    rightly(talk, false);
+    let mut loopback = opening(255, challenge(), Retries::Default);
+    loopback = wrongly(loopback, false);
+    rightly(loopback, false);
 }
 
 fn attacked() {
     title(b"B.1.4 Failed hack attack with 3 attempts allowed");
-    let mut talk = usual_opening();
-    talk = wrongly(talk, false);
-    talk = wrongly(talk, false);
-    wrongly(talk, false);
+    let mut loopback = usual_opening();
+    loopback = wrongly(loopback, false);
+    loopback = wrongly(loopback, false);
+    wrongly(loopback, false);
 }
 
 // A conversation with the record that the change handed out.
 fn with_new_password(record: Lookup) {
     let new = new_one();
-    let talk = opening(8, another_challenge(), Retries::Default);
-    response(talk, &new, record);
+    let loopback = opening(8, another_challenge(), Retries::Default);
+    response(loopback, &new, record);
 }
 
 fn changed() {
     title(b"B.1.5 Successful authentication with password change");
-    let mut talk = rightly(usual_opening(), true);
-    talk = change(talk);
+    let mut loopback = rightly(usual_opening(), true);
+    loopback = change(loopback);
     say(b"   The box hands out a record with the new password's hash. In a later conversation:");
-    let record = talk.updated;
+    let record = loopback.updated;
     with_new_password(record);
 }
 
 fn retried_and_changed() {
     title(b"B.1.6 Successful authentication with retry and password change");
-    let mut talk = wrongly(usual_opening(), true);
-    talk = rightly(talk, true);
-    change(talk);
+    let mut loopback = wrongly(usual_opening(), true);
+    loopback = rightly(loopback, true);
+    change(loopback);
 }
 
 pub(crate) fn all() {

@@ -5,10 +5,10 @@ mod exchanges;
 mod slips;
 
 fn main() {
-    talk::say(
-        b"A box and a peer talk. <- is a packet of the box (authenticator), -> one of the peer.",
+    loopback::say(
+        b"A box and a peer loopback. <- is a packet of the box (authenticator), -> one of the peer.",
     );
-    talk::say(
+    loopback::say(
         b"Each opening is lent an empty list of issued challenges, but for the first slip, where two boxes share one.",
     );
     exchanges::all();

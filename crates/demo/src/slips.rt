@@ -1,29 +1,29 @@
 // What students get wrong, and what the box does: the slips of docs/SLIPS.md.
 use accounts::Lookup;
 use authenticator::Retries;
-use talk::Issued;
-use talk::Talk;
-use talk::account;
-use talk::another_challenge;
-use talk::answered;
-use talk::challenge;
-use talk::issued;
-use talk::new_one;
-use talk::old_hash;
-use talk::opening;
-use talk::opening_on;
-use talk::place;
-use talk::right;
-use talk::rightly;
-use talk::rightly_for;
-use talk::say;
-use talk::title;
-use talk::usual_opening;
-use talk::write_change;
-use talk::write_response;
-use talk::wrong;
-use talk::wrongly;
-use talk::wrongly_for;
+use loopback::Issued;
+use loopback::Loopback;
+use loopback::account;
+use loopback::another_challenge;
+use loopback::answered;
+use loopback::challenge;
+use loopback::issued;
+use loopback::new_one;
+use loopback::old_hash;
+use loopback::opening;
+use loopback::opening_on;
+use loopback::place;
+use loopback::right;
+use loopback::rightly;
+use loopback::rightly_for;
+use loopback::say;
+use loopback::title;
+use loopback::usual_opening;
+use loopback::write_change;
+use loopback::write_response;
+use loopback::wrong;
+use loopback::wrongly;
+use loopback::wrongly_for;
 
 // ---- the challenge
 
@@ -42,18 +42,18 @@ fn refused_twice(list: Issued) {
     );
 }
 
-fn say_list(talk: Talk) {
-    let list = talk.list;
+fn say_list(loopback: Loopback) {
+    let list = loopback.list;
     let octets = list.octets;
     issued(&octets, list.used);
 }
 
 // Whoever recorded a Response answers too, and sends the recorded one in place of his own.
-fn replay(talk: Talk, recorded: &[u8]) {
+fn replay(loopback: Loopback, recorded: &[u8]) {
     let guess = wrong();
     let mut out = [0u8; 310];
-    let wrote = write_response(talk, &guess, &mut out);
-    answered(talk, wrote, recorded, account(false));
+    let wrote = write_response(loopback, &guess, &mut out);
+    answered(loopback, wrote, recorded, account(false));
 }
 
 // With a challenge of its own it opens.
@@ -61,19 +61,19 @@ fn with_its_own(list: Issued, recorded: &[u8]) {
     say(
         b"   With a challenge of its own it opens, and the recorded Response is a wrong one there:",
     );
-    let talk = opening_on(list, 7, another_challenge(), Retries::Default);
-    say_list(talk);
-    replay(talk, recorded);
+    let loopback = opening_on(list, 7, another_challenge(), Retries::Default);
+    say_list(loopback);
+    replay(loopback, recorded);
 }
 
 // The first box on the list: its Response is recorded in out. Answers the list.
 fn first_on_list(out: &mut [u8]) -> Issued {
-    let talk = usual_opening();
-    say_list(talk);
+    let loopback = usual_opening();
+    say_list(loopback);
     let password = right();
-    let wrote = write_response(talk, &password, out);
-    answered(talk, wrote, out, account(false));
-    talk.list
+    let wrote = write_response(loopback, &password, out);
+    answered(loopback, wrote, out, account(false));
+    loopback.list
 }
 
 // Boxes on one list, as a controller lends it.
@@ -91,9 +91,9 @@ fn carry() {
     title(
         b"Slip: a carry out of the challenge's first octet. E9 grows by 23 to 00, and the second octet stays.",
     );
-    let mut talk = opening(9, [0xe9, 2, 3, 4, 5, 6, 7, 8], Retries::Count(1));
-    talk = wrongly(talk, false);
-    rightly(talk, false);
+    let mut loopback = opening(9, [0xe9, 2, 3, 4, 5, 6, 7, 8], Retries::Count(1));
+    loopback = wrongly(loopback, false);
+    rightly(loopback, false);
 }
 
 // ---- the Response
@@ -107,7 +107,7 @@ fn disabled_account() -> Lookup {
 }
 
 // An opening with so many retries.
-fn opening_with(retries: u8) -> Talk {
+fn opening_with(retries: u8) -> Loopback {
     opening(1, [1, 2, 3, 4, 5, 6, 7, 8], Retries::Count(retries))
 }
 
@@ -116,9 +116,9 @@ fn disabled() {
         b"Slip: a disabled account reported before the password was checked. A wrong password draws 691, the right one 647.",
     );
     let lookup = disabled_account();
-    let mut talk = opening_with(1);
-    talk = wrongly_for(talk, lookup);
-    rightly_for(talk, lookup);
+    let mut loopback = opening_with(1);
+    loopback = wrongly_for(loopback, lookup);
+    rightly_for(loopback, lookup);
 }
 
 fn unknown() {
@@ -138,13 +138,13 @@ fn account_with_lm(octets: [u8; 16]) -> Lookup {
 }
 
 // A wrong password, with another LM response than the zeros that our peer writes.
-fn wrongly_with_lm(talk: Talk, lm: [u8; 24], lookup: Lookup) {
+fn wrongly_with_lm(loopback: Loopback, lm: [u8; 24], lookup: Lookup) {
     let guess = wrong();
     let mut out = [0u8; 310];
-    let wrote = write_response(talk, &guess, &mut out);
+    let wrote = write_response(loopback, &guess, &mut out);
     octets::copy_at(&mut out, 5, &lm);
     place(b"the right LM response", 5, &lm);
-    answered(talk, wrote, &out, lookup);
+    answered(loopback, wrote, &out, lookup);
 }
 
 // The Response has a wrong NT response and the right LM response.
@@ -153,22 +153,22 @@ fn fallback() {
         b"Slip: falling back to LM when the NT response is wrong. With flag 1 the LM response is not looked at.",
     );
     let hash = credentials::lm_hash(b"MyPw").hash;
-    let talk = opening(7, challenge(), Retries::Count(0));
+    let loopback = opening(7, challenge(), Retries::Count(0));
     let lm = credentials::challenge_response(hash, challenge());
-    wrongly_with_lm(talk, lm, account_with_lm(hash));
+    wrongly_with_lm(loopback, lm, account_with_lm(hash));
 }
 
 // ---- the change
 
 // The right change but for the octets from a place on, which a slip made otherwise.
 fn slipped(at: usize, slip: &[u8]) {
-    let talk = rightly(usual_opening(), true);
+    let loopback = rightly(usual_opening(), true);
     let mut out = [0u8; 1118];
-    let wrote = write_change(talk, &mut out);
+    let wrote = write_change(loopback, &mut out);
     place(b"right,", at, octets::part_of(&out, at, slip.len()));
     place(b"slip, ", at, slip);
     octets::copy_at(&mut out, at, slip);
-    answered(talk, wrote, &out, accounts::not_found());
+    answered(loopback, wrote, &out, accounts::not_found());
 }
 
 fn new_hash() -> [u8; 16] {

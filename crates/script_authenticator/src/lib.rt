@@ -3,13 +3,13 @@
 mod lists;
 mod names;
 mod records;
-mod talks;
+mod conversations;
 
 pub use lists::List;
-pub use talks::Talk;
-pub use talks::new_talk;
+pub use conversations::ScriptState;
+pub use conversations::new_state;
 
-// Which of these commands a line has. (In `run` the literal would stand beside values of Talk, and
+// Which of these commands a line has. (In `run` the literal would stand beside values of ScriptState, and
 // the check of a statement grows with what stands beside it.)
 fn command(line: &[u8]) -> usize {
     script::command(line, b"name account relend list places open step")
@@ -17,18 +17,18 @@ fn command(line: &[u8]) -> usize {
 
 // Runs a line whose command is one of these: writes its result, and answers what goes on to the
 // next line. Writes nothing and changes nothing for any other.
-pub fn run(line: &[u8], talk: Talk) -> Talk {
+pub fn run(line: &[u8], state: ScriptState) -> ScriptState {
     match command(line) {
         0 => {
             names::name(line);
-            talk
+            state
         }
-        1 => talks::account(line, talk),
-        2 => talks::relend(talk),
-        3 => talks::list(line, talk),
-        4 => talks::places(line, talk),
-        5 => talks::open(line, talk),
-        6 => talks::step(line, talk),
-        _ => talk,
+        1 => conversations::account(line, state),
+        2 => conversations::relend(state),
+        3 => conversations::list(line, state),
+        4 => conversations::places(line, state),
+        5 => conversations::open(line, state),
+        6 => conversations::step(line, state),
+        _ => state,
     }
 }

@@ -1,5 +1,5 @@
 // The lines of a script, and what is written for each.
-use script_authenticator::Talk;
+use script_authenticator::ScriptState;
 
 // How a line is read.
 enum Section {
@@ -12,15 +12,15 @@ enum Section {
 // What goes on from line to line, and from script to script.
 pub struct Session {
     section: Section,
-    talk: Talk,
+    state: ScriptState,
 }
 
 // At the start.
 pub(crate) fn new_session() -> Session {
-    let talk = script_authenticator::new_talk();
+    let state = script_authenticator::new_state();
     Session {
         section: Section::Cases,
-        talk,
+        state,
     }
 }
 
@@ -51,8 +51,8 @@ fn copy_line(line: &[u8], session: Session) -> Session {
     script::put(line);
     let before = session.section;
     let section = section_after(line, before);
-    let talk = session.talk;
-    Session { section, talk }
+    let state = session.state;
+    Session { section, state }
 }
 
 // Writes a command's line and its result. Each crate writes the result of its own commands only.
@@ -60,9 +60,9 @@ fn run_command(line: &[u8], mut session: Session) -> Session {
     script::put(line);
     script_ciphers::run(line);
     script_peer::run(line);
-    let before = session.talk;
-    let talk = script_authenticator::run(line, before);
-    session.talk = talk;
+    let before = session.state;
+    let state = script_authenticator::run(line, before);
+    session.state = state;
     session
 }
 

@@ -13,10 +13,10 @@ use lists::List;
 
 // The current conversation, the list that is lent with an opening, the record that is lent with a
 // step, and the one that the last step handed out.
-pub struct Talk {
+pub struct ScriptState {
     conversation: Conversation,
     list: List,
-    lent: Lookup,
+    record: Lookup,
     updated: Lookup,
 }
 
@@ -39,14 +39,14 @@ fn refused_conversation() -> Conversation {
 }
 
 // At the start: the conversation of a refused opening, eight empty places, and no records.
-pub fn new_talk() -> Talk {
+pub fn new_state() -> ScriptState {
     let conversation = refused_conversation();
     let list = lists::empty(8);
     let none = records::lookup(b"account -");
-    Talk {
+    ScriptState {
         conversation,
         list,
-        lent: none,
+        record: none,
         updated: none,
     }
 }
@@ -54,41 +54,41 @@ pub fn new_talk() -> Talk {
 // ---- account and relend
 
 // The record is lent from now on.
-fn lend(lent: Lookup, mut talk: Talk) -> Talk {
-    talk.lent = lent;
-    talk
+fn lend(record: Lookup, mut state: ScriptState) -> ScriptState {
+    state.record = record;
+    state
 }
 
 // account -, account NT LM MARKS
-pub(crate) fn account(line: &[u8], talk: Talk) -> Talk {
-    lend(records::lookup(line), talk)
+pub(crate) fn account(line: &[u8], state: ScriptState) -> ScriptState {
+    lend(records::lookup(line), state)
 }
 
 // relend
-pub(crate) fn relend(talk: Talk) -> Talk {
-    let updated = talk.updated;
+pub(crate) fn relend(state: ScriptState) -> ScriptState {
+    let updated = state.updated;
     if updated.found {
-        return lend(updated, talk);
+        return lend(updated, state);
     }
-    talk
+    state
 }
 
 // ---- list and places
 
 // The list is lent from now on.
-fn lend_list(list: List, mut talk: Talk) -> Talk {
-    talk.list = list;
-    talk
+fn lend_list(list: List, mut state: ScriptState) -> ScriptState {
+    state.list = list;
+    state
 }
 
 // list BUFFER USED COUNTS
-pub(crate) fn list(line: &[u8], talk: Talk) -> Talk {
-    lend_list(lists::read_list(line), talk)
+pub(crate) fn list(line: &[u8], state: ScriptState) -> ScriptState {
+    lend_list(lists::read_list(line), state)
 }
 
 // places N
-pub(crate) fn places(line: &[u8], talk: Talk) -> Talk {
-    lend_list(lists::empty(script::octet(line, 1)), talk)
+pub(crate) fn places(line: &[u8], state: ScriptState) -> ScriptState {
+    lend_list(lists::empty(script::octet(line, 1)), state)
 }
 
 // ---- open
@@ -111,7 +111,7 @@ fn lm_choice(line: &[u8]) -> LmChoice {
 }
 
 // REFUSAL WRITTEN BUFFER CONVERSATION LIST
-fn put_opened(opening: Opening, reply: &[u8]) {
+fn put_opened(opening: OpeningLine, reply: &[u8]) {
     let opened = opening.opened;
     let list = opening.list;
     let conversation = opened.conversation;
@@ -124,13 +124,13 @@ fn put_opened(opening: Opening, reply: &[u8]) {
 }
 
 // An opening's answer, and the list as it left it.
-struct Opening {
+struct OpeningLine {
     opened: Opened,
     list: List,
 }
 
 // Opens a conversation with the list.
-fn open_with(line: &[u8], list: List, reply: &mut [u8]) -> Opening {
+fn open_with(line: &[u8], list: List, reply: &mut [u8]) -> OpeningLine {
     let mut octets = list.octets;
     let mut counts = list.counts;
     let size = lists::within(list.size, 1024);
@@ -146,7 +146,7 @@ fn open_with(line: &[u8], list: List, reply: &mut [u8]) -> Opening {
         reply,
     );
     let used = opened.used;
-    Opening {
+    OpeningLine {
         opened,
         list: List {
             octets,
@@ -159,28 +159,28 @@ fn open_with(line: &[u8], list: List, reply: &mut [u8]) -> Opening {
 }
 
 // The opening becomes the current conversation, and the list goes on as it left it.
-fn after_opening(opening: Opening, mut talk: Talk) -> Talk {
+fn after_opening(opening: OpeningLine, mut state: ScriptState) -> ScriptState {
     let opened = opening.opened;
     let conversation = opened.conversation;
-    talk.conversation = conversation;
+    state.conversation = conversation;
     let list = opening.list;
-    talk.list = list;
-    talk
+    state.list = list;
+    state
 }
 
 // Opens into the reply, and writes the result.
-fn open_into(line: &[u8], reply: &mut [u8], talk: Talk) -> Talk {
-    let before = talk.list;
+fn open_into(line: &[u8], reply: &mut [u8], state: ScriptState) -> ScriptState {
+    let before = state.list;
     let opening = open_with(line, before, reply);
     put_opened(opening, reply);
-    after_opening(opening, talk)
+    after_opening(opening, state)
 }
 
 // open ID CHALLENGE R LM BUFFER
-pub(crate) fn open(line: &[u8], talk: Talk) -> Talk {
+pub(crate) fn open(line: &[u8], state: ScriptState) -> ScriptState {
     let mut reply = [0u8; 2048];
     let n = script::octets(line, 5, &mut reply);
-    open_into(line, &mut reply[..n], talk)
+    open_into(line, &mut reply[..n], state)
 }
 
 // ---- step
@@ -214,28 +214,28 @@ fn put_answer(answer: Answer, reply: &[u8]) {
 }
 
 // The next conversation becomes the current one, and the record is kept for `relend`.
-fn after_step(answer: Answer, mut talk: Talk) -> Talk {
+fn after_step(answer: Answer, mut state: ScriptState) -> ScriptState {
     let conversation = answer.next;
-    talk.conversation = conversation;
+    state.conversation = conversation;
     let updated = answer.updated;
-    talk.updated = updated;
-    talk
+    state.updated = updated;
+    state
 }
 
 // Takes a packet, replies into the reply, and writes the result.
-fn step_into(packet: &[u8], reply: &mut [u8], talk: Talk) -> Talk {
-    let conversation = talk.conversation;
-    let lent = talk.lent;
-    let answer = conversation.step(packet, lent, reply);
+fn step_into(packet: &[u8], reply: &mut [u8], state: ScriptState) -> ScriptState {
+    let conversation = state.conversation;
+    let record = state.record;
+    let answer = conversation.step(packet, record, reply);
     put_answer(answer, reply);
-    after_step(answer, talk)
+    after_step(answer, state)
 }
 
 // step PACKET BUFFER
-pub(crate) fn step(line: &[u8], talk: Talk) -> Talk {
+pub(crate) fn step(line: &[u8], state: ScriptState) -> ScriptState {
     let mut packet = [0u8; 2048];
     let n = script::octets(line, 1, &mut packet);
     let mut reply = [0u8; 2048];
     let k = script::octets(line, 2, &mut reply);
-    step_into(&packet[..n], &mut reply[..k], talk)
+    step_into(&packet[..n], &mut reply[..k], state)
 }

@@ -1,12 +1,12 @@
--- `script_authenticator::talks::open_with` meets its contract. What is lent lies within the arrays
+-- `script_authenticator::conversations::open_with` meets its contract. What is lent lies within the arrays
 -- of the list, by their lengths and what `within` ensures.
 -- Assumes nothing.
 use borrow.Author.Needs.{needs}
 use mathlib.Core.Path.{_≡_}
 use native.Mathlib.Omega.{arith}
 use lib.ListN.{length, length-take}
-use Rattle.script_authenticator.proofs.talks.open_with.Statement.{statement}
-use Rattle.script_authenticator.proofs.talks.open_with.Tie as tie
+use Rattle.script_authenticator.proofs.conversations.open_with.Statement.{statement}
+use Rattle.script_authenticator.proofs.conversations.open_with.Tie as tie
 
 octets-length : (c : tie.Start) → length (c .args .list .octets) ≡ 1024
 octets-length c = search needs

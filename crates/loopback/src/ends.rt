@@ -18,7 +18,7 @@ pub struct Issued {
 
 // Both ends: the conversation, the peer, the list as the opening left it, and the record that an
 // accepted change handed out.
-pub struct Talk {
+pub struct Loopback {
     pub conversation: Conversation,
     pub peer: Peer,
     pub list: Issued,
@@ -85,7 +85,7 @@ fn say_opening(opened: Opened, challenge: [u8; 8], sent: &[u8]) {
 
 // The opening, on a list of issued challenges: the box sends a Challenge, and the peer reads it; or
 // the box refuses to open.
-pub fn opening_on(list: Issued, id: u8, challenge: [u8; 8], retries: Retries) -> Talk {
+pub fn opening_on(list: Issued, id: u8, challenge: [u8; 8], retries: Retries) -> Loopback {
     let mut octets = list.octets;
     let mut counts = list.counts;
     let mut reply = [0u8; 17];
@@ -104,7 +104,7 @@ pub fn opening_on(list: Issued, id: u8, challenge: [u8; 8], retries: Retries) ->
     let peer = Peer::read_challenge(sent).peer;
     let conversation = opened.conversation;
     let updated = accounts::not_found();
-    Talk {
+    Loopback {
         conversation,
         peer,
         list: Issued {
@@ -117,12 +117,12 @@ pub fn opening_on(list: Issued, id: u8, challenge: [u8; 8], retries: Retries) ->
 }
 
 // The opening of a box that is alone on its list.
-pub fn opening(id: u8, challenge: [u8; 8], retries: Retries) -> Talk {
+pub fn opening(id: u8, challenge: [u8; 8], retries: Retries) -> Loopback {
     opening_on(empty_list(), id, challenge, retries)
 }
 
 // The same with the usual challenge, and with the retries that a box has by default.
-pub fn usual_opening() -> Talk {
+pub fn usual_opening() -> Loopback {
     opening(7, challenge(), Retries::Default)
 }
 
@@ -146,10 +146,10 @@ fn read(peer: Peer, answer: &[u8]) -> Peer {
 
 // The box takes the packet that the peer wrote, the first octets of out, and answers, and the peer
 // reads the answer.
-pub fn answered(mut talk: Talk, wrote: PacketWritten, out: &[u8], lookup: Lookup) -> Talk {
+pub fn answered(mut loopback: Loopback, wrote: PacketWritten, out: &[u8], lookup: Lookup) -> Loopback {
     let written = wrote.written;
     let mut reply = [0u8; 17];
-    let before = talk.conversation;
+    let before = loopback.conversation;
     let answer = step(
         before,
         octets::part_of(out, 0, written.length),
@@ -160,62 +160,62 @@ pub fn answered(mut talk: Talk, wrote: PacketWritten, out: &[u8], lookup: Lookup
     let updated = answer.updated;
     let waiting = wrote.peer;
     let peer = read(waiting, octets::part_of(&reply, 0, answer.written));
-    talk.conversation = conversation;
-    talk.peer = peer;
-    talk.updated = updated;
-    talk
+    loopback.conversation = conversation;
+    loopback.peer = peer;
+    loopback.updated = updated;
+    loopback
 }
 
 // ---- the Response
 
 // Writes a Response from a password.
-pub fn write_response(talk: Talk, password: &[u8], out: &mut [u8]) -> PacketWritten {
-    let peer = talk.peer;
+pub fn write_response(loopback: Loopback, password: &[u8], out: &mut [u8]) -> PacketWritten {
+    let peer = loopback.peer;
     peer.write_response(password, b"BENCH\\user", out)
 }
 
-pub fn response(talk: Talk, password: &[u8], lookup: Lookup) -> Talk {
+pub fn response(loopback: Loopback, password: &[u8], lookup: Lookup) -> Loopback {
     let mut out = [0u8; 310];
-    let wrote = write_response(talk, password, &mut out);
-    answered(talk, wrote, &out, lookup)
+    let wrote = write_response(loopback, password, &mut out);
+    answered(loopback, wrote, &out, lookup)
 }
 
 // A Response from the right password, with a record.
-pub fn rightly_for(talk: Talk, lookup: Lookup) -> Talk {
+pub fn rightly_for(loopback: Loopback, lookup: Lookup) -> Loopback {
     let password = right();
-    response(talk, &password, lookup)
+    response(loopback, &password, lookup)
 }
 
 // A Response from a wrong one.
-pub fn wrongly_for(talk: Talk, lookup: Lookup) -> Talk {
+pub fn wrongly_for(loopback: Loopback, lookup: Lookup) -> Loopback {
     let password = wrong();
-    response(talk, &password, lookup)
+    response(loopback, &password, lookup)
 }
 
 // The same with the record of the account.
 
-pub fn rightly(talk: Talk, expired: bool) -> Talk {
-    rightly_for(talk, account(expired))
+pub fn rightly(loopback: Loopback, expired: bool) -> Loopback {
+    rightly_for(loopback, account(expired))
 }
 
-pub fn wrongly(talk: Talk, expired: bool) -> Talk {
-    wrongly_for(talk, account(expired))
+pub fn wrongly(loopback: Loopback, expired: bool) -> Loopback {
+    wrongly_for(loopback, account(expired))
 }
 
 // ---- the change
 
 // Writes the change of the right password to the new one.
-pub fn write_change(talk: Talk, out: &mut [u8]) -> PacketWritten {
+pub fn write_change(loopback: Loopback, out: &mut [u8]) -> PacketWritten {
     let old = right();
     let new = new_one();
     let filler = [0x5au8; 512];
-    let peer = talk.peer;
+    let peer = loopback.peer;
     peer.write_change(&old, &new, &filler, out)
 }
 
 // The box decides by the record that it kept, so that none is lent.
-pub fn change(talk: Talk) -> Talk {
+pub fn change(loopback: Loopback) -> Loopback {
     let mut out = [0u8; 1118];
-    let wrote = write_change(talk, &mut out);
-    answered(talk, wrote, &out, accounts::not_found())
+    let wrote = write_change(loopback, &mut out);
+    answered(loopback, wrote, &out, accounts::not_found())
 }

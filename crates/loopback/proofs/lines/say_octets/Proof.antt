@@ -1,10 +1,10 @@
--- `talk::lines::say_octets` meets its contract.
+-- `loopback::lines::say_octets` meets its contract.
 -- Assumes nothing.
 use Prim.Native.Nat.{_≤_, _-_}
 use borrow.Author.Needs.{needs}
 use lib.ListN.{length}
-use Rattle.talk.proofs.lines.say_octets.Statement.{statement}
-use Rattle.talk.proofs.lines.say_octets.Tie as tie
+use Rattle.loopback.proofs.lines.say_octets.Statement.{statement}
+use Rattle.loopback.proofs.lines.say_octets.Tie as tie
 
 abbrev Inv-loop : tie.InvT-loop
 Inv-loop octets shown i₀ t4 t5 i = i ≤ length shown

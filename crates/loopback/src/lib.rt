@@ -4,7 +4,7 @@ mod ends;
 mod lines;
 
 pub use ends::Issued;
-pub use ends::Talk;
+pub use ends::Loopback;
 pub use ends::account;
 pub use ends::another_challenge;
 pub use ends::answered;
