@@ -14,8 +14,12 @@ module _ {A : Type 0} (encode : A → List ℕ) (decode : List ℕ → A) where
   pub encoding-fits : (v : A) → decode (encode v) ≡ v → isEncoding encode decode (encode v) ≡ true
   encoding-fits v e = ap (λ (w : A). agrees (encode w) (encode v)) e ∙ agrees-refl (encode v)
 
-  -- what is taken for an encoding has the size of one
+  -- what is taken for an encoding is what the value decoded from it encodes to
+  pub encoding-of : (bytes : List ℕ) → isEncoding encode decode bytes ≡ true
+      → encode (decode bytes) ≡ bytes
+  encoding-of bytes e = agrees-equal (encode (decode bytes)) bytes e
+
+  -- so it has the size of one
   pub encoding-length : (n : ℕ) → ((bytes : List ℕ) → length (encode (decode bytes)) ≡ n)
       → (bytes : List ℕ) → isEncoding encode decode bytes ≡ true → length bytes ≡ n
-  encoding-length n size bytes e =
-      ap length (sym (agrees-equal (encode (decode bytes)) bytes e)) ∙ size bytes
+  encoding-length n size bytes e = ap length (sym (encoding-of bytes e)) ∙ size bytes

@@ -1,12 +1,14 @@
 -- What calls that fill buffers return and leave.
 -- Assumes nothing.
-use mathlib.Core.Path.{_≡_, refl, ap, ap₂, _∙_}
+use mathlib.Core.Path.{_≡_, refl, sym, ap, ap₂, _∙_}
 use mathlib.Core.Bool.{Bool, true, false, _&&_, false≢true}
 use mathlib.Core.List.{List}
 use Prim.Native.Nat.{ℕ}
-use borrow.Author.Tests.{eq-eqb}
+use borrow.Author.Tests.{eq-eqb, eqb-true}
 use lib.ListN.{length}
-use Rattle.mschap.specs.Call.{Fills, sized, numbered, afterCall}
+use Rattle.octets.specs.Parts.{part, fixed}
+use Rattle.octets.proofs.Parts.{fixed-whole}
+use Rattle.mschap.specs.Call.{Fills, sized, bothSized, numbered, afterCall}
 
 -- both of two tests hold
 pub both : (s t : Bool) → (s && t) ≡ true → (s ≡ true) × (t ≡ true)
@@ -33,3 +35,21 @@ module _ {out : List ℕ} {r : ℕ} {after : List ℕ} where
   pub fills-number : {n k : ℕ} {x : List ℕ} → length out ≡ n → Fills (sized n out) k x out r after
       → r ≡ k
   fills-number {n} {k} e h = h .number ∙ ap (λ (t : Bool). numbered t k) (eq-eqb (length out) n e)
+
+-- ---- two inputs whose sizes were tested first
+
+module _ (a : ℕ) (x : List ℕ) (b : ℕ) (y : List ℕ) (good : bothSized a x b y ≡ true) where
+  -- they are taken whole
+  pub taken-whole : (fixed a (part 0 a x) ≡ x) × (fixed b (part 0 b y) ≡ y)
+  taken-whole =
+      let sizes = both (sized a x) (sized b y) good in (
+        fixed-whole a x (eqb-true (length x) a (sizes .0)),
+        fixed-whole b y (eqb-true (length y) b (sizes .1)),
+      )
+
+  -- and what is made of them fills a buffer of the right size
+  pub filled-behind : {n r : ℕ} {bytes value out after : List ℕ} → length bytes ≡ n → bytes ≡ value
+      → Fills (sized (length bytes) out) 0 bytes out r after
+      → Fills (bothSized a x b y && sized n out) 0 value out r after
+  filled-behind {n} {r} {bytes} {value} {out} e f h =
+      fills-as (ap (λ (t : Bool). t && sized n out) (sym good)) refl refl (filled-with e f refl h)

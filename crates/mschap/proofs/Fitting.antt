@@ -67,7 +67,7 @@ module _ (c : Conversation) (s : SizedConversation c) where
       choice-sized (mayRetry c e) retried-sized
       (choice-sized (eqb e passwordExpired) (record { challenge = s .challenge; kept = t }) ended-sized)
 
-  -- ---- the hash of an accepted change has sixteen octets
+  -- ---- the hash of an accepted change has sixteen bytes
 
   abbrev Whole : Option (List ℕ) → Type 0
   Whole none = Unit {0}

@@ -36,7 +36,7 @@ use Rattle.mschap.proofs.PeerLaws.{SizedPeer, decoded-peer-sized, peer-
 
 -- ---- the challenge that a reply may give
 
--- digits in pairs are half as many octets
+-- digits in pairs are half as many bytes
 half : (n : ℕ) (ds : List ℕ) → length ds ≡ n + n → length (pairs ds) ≡ n
 half zero [] h = refl
 half zero (x ∷ ds) h = absurd (omega arith)
@@ -44,7 +44,7 @@ half (suc n) [] h = absurd (omega arith)
 half (suc n) (x ∷ []) h = absurd (omega arith)
 half (suc n) (x ∷ y ∷ ds) h = ap suc (half n ds (omega arith))
 
--- a challenge C, given or not, has eight octets
+-- a challenge C, given or not, has eight bytes
 given-eight : (o : Option (List ℕ)) → IfSome Eight o → length (newChallengeFrom o .octets) ≡ 8
 given-eight none h = refl
 given-eight (some ds) h = half 8 ds (h .long)

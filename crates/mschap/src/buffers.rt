@@ -4,16 +4,16 @@ ghost use lib.ListN.{length};
 ghost use Rattle.mschap.specs.Call.{Fills, sized, bothSized};
 
 // What a call returns for an argument that is not valid.
-pub const BAD_ARGUMENT: u32 = 100;
+pub(crate) const BAD_ARGUMENT: u32 = 100;
 
-pub fn wide(n: u8) -> u32
+pub(crate) fn wide(n: u8) -> u32
     ensures { λ r. ⌜ r ≡ n ⌝ }
 {
     n as u32
 }
 
 // Whether a has n bytes and b has m.
-pub fn are_sized(a: &[u8], n: usize, b: &[u8], m: usize) -> bool
+pub(crate) fn are_sized(a: &[u8], n: usize, b: &[u8], m: usize) -> bool
     ensures { λ r. ⌜ r ≡ bothSized n (now (a .entry)) m (now (b .entry)) ⌝ }
 {
     a.len() == n && b.len() == m
@@ -21,7 +21,7 @@ pub fn are_sized(a: &[u8], n: usize, b: &[u8], m: usize) -> bool
 
 // Copies bytes into out, unless there is a refusal. Returns the number of the call, which is
 // BAD_ARGUMENT where out is of another size.
-pub fn fill(refusal: u8, bytes: &[u8], out: &mut [u8]) -> u32
+pub(crate) fn fill(refusal: u8, bytes: &[u8], out: &mut [u8]) -> u32
     ensures { λ r. ⌜ Fills (sized (length (now (bytes .entry))) (now (out .entry))) refusal
         (now (bytes .entry)) (now (out .entry)) r (now (out .exit)) ⌝ }
 {

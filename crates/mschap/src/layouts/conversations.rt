@@ -18,7 +18,7 @@ ghost use Rattle.mschap.specs.Layout.{phaseOf, encodeConversation, decod
 ghost use Rattle.mschap.specs.Layout.{isEncodedConversation, conversationSize};
 ghost use Rattle.mschap.specs.Inner.{inRoom};
 
-pub const CONVERSATION_SIZE: usize = 50;
+pub(crate) const CONVERSATION_SIZE: usize = 50;
 
 const AWAITED_AT: usize = 0;
 
@@ -59,7 +59,7 @@ fn encode_conversation(conversation: Conversation) -> Room
     encode_account(room, KEPT_AT, kept)
 }
 
-pub fn decode_conversation(bytes: &[u8]) -> Conversation
+pub(crate) fn decode_conversation(bytes: &[u8]) -> Conversation
     ensures { λ r. ⌜ r ≡ decodeConversation (now (bytes .entry)) ⌝ }
 {
     let phase = phase_of(packets::octet(bytes, AWAITED_AT));
@@ -78,7 +78,7 @@ pub fn decode_conversation(bytes: &[u8]) -> Conversation
     }
 }
 
-pub fn is_encoded_conversation(bytes: &[u8]) -> bool
+pub(crate) fn is_encoded_conversation(bytes: &[u8]) -> bool
     ensures { λ r. ⌜ r ≡ isEncodedConversation (now (bytes .entry)) ⌝ }
 {
     let conversation = decode_conversation(bytes);
@@ -87,7 +87,7 @@ pub fn is_encoded_conversation(bytes: &[u8]) -> bool
 }
 
 // Fills out with the encoding of a conversation, unless there is a refusal.
-pub fn put_conversation(refusal: u8, conversation: Conversation, out: &mut [u8]) -> u32
+pub(crate) fn put_conversation(refusal: u8, conversation: Conversation, out: &mut [u8]) -> u32
     ensures { λ r. ⌜ Fills (sized conversationSize (now (out .entry))) refusal
         (encodeConversation conversation) (now (out .entry)) r (now (out .exit)) ⌝ }
 {

@@ -15,7 +15,7 @@ ghost use Rattle.mschap.specs.Fields.{callNumber, encodeFailed, encodeVe
 ghost use Rattle.mschap.specs.Fields.{encodeReading, fieldsSize};
 ghost use Rattle.mschap.specs.Inner.{inRoom};
 
-pub const FIELDS_SIZE: usize = 35;
+pub(crate) const FIELDS_SIZE: usize = 35;
 
 const SUCCESS_OR_FAILURE_AT: usize = 0;
 
@@ -76,7 +76,7 @@ fn encode_reading(reading: Reading) -> Room
 }
 
 // Fills out with the encoding of what a reply says, unless there is a refusal.
-pub fn put_fields(refusal: u8, reading: Reading, out: &mut [u8]) -> u32
+pub(crate) fn put_fields(refusal: u8, reading: Reading, out: &mut [u8]) -> u32
     ensures { λ r. ⌜ Fills (sized fieldsSize (now (out .entry))) refusal (encodeReading reading)
         (now (out .entry)) r (now (out .exit)) ⌝ }
 {

@@ -14,7 +14,7 @@ ghost use Rattle.mschap.specs.Call.{Fills, sized};
 ghost use Rattle.mschap.specs.Layout.{encodePeer, decodePeer, isEncodedPeer, peerSize};
 ghost use Rattle.mschap.specs.Inner.{inRoom};
 
-pub const PEER_SIZE: usize = 19;
+pub(crate) const PEER_SIZE: usize = 19;
 
 const SENT_AT: usize = 0;
 
@@ -40,7 +40,7 @@ fn encode_peer(peer: Peer) -> Room
     put_eight(room, NEXT_CHALLENGE_AT, challenge)
 }
 
-pub fn decode_peer(bytes: &[u8]) -> Peer
+pub(crate) fn decode_peer(bytes: &[u8]) -> Peer
     ensures { λ r. ⌜ r ≡ decodePeer (now (bytes .entry)) ⌝ }
 {
     let present = is_flag(packets::octet(bytes, SENT_AT));
@@ -61,7 +61,7 @@ pub fn decode_peer(bytes: &[u8]) -> Peer
     }
 }
 
-pub fn is_encoded_peer(bytes: &[u8]) -> bool
+pub(crate) fn is_encoded_peer(bytes: &[u8]) -> bool
     ensures { λ r. ⌜ r ≡ isEncodedPeer (now (bytes .entry)) ⌝ }
 {
     let peer = decode_peer(bytes);
@@ -70,7 +70,7 @@ pub fn is_encoded_peer(bytes: &[u8]) -> bool
 }
 
 // Fills out with the encoding of a peer, unless there is a refusal.
-pub fn put_peer(refusal: u8, peer: Peer, out: &mut [u8]) -> u32
+pub(crate) fn put_peer(refusal: u8, peer: Peer, out: &mut [u8]) -> u32
     ensures { λ r. ⌜ Fills (sized peerSize (now (out .entry))) refusal (encodePeer peer)
         (now (out .entry)) r (now (out .exit)) ⌝ }
 {

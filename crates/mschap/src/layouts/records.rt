@@ -17,11 +17,11 @@ ghost use Rattle.mschap.specs.Layout.{encodeRecord, decodeRecord};
 ghost use Rattle.mschap.specs.Layout.{isEncodedRecord, recordSize, keptAt};
 ghost use Rattle.mschap.specs.Inner.{roomSize, inRoom};
 
-pub const OPTIONAL_HASH_SIZE: usize = 17;
+pub(crate) const OPTIONAL_HASH_SIZE: usize = 17;
 
-pub const ACCOUNT_SIZE: usize = 38;
+pub(crate) const ACCOUNT_SIZE: usize = 38;
 
-pub const RECORD_SIZE: usize = 39;
+pub(crate) const RECORD_SIZE: usize = 39;
 
 // Places in an account.
 const NT_AT: usize = 0;
@@ -42,13 +42,13 @@ const FOUND_AT: usize = 0;
 const ACCOUNT_AT: usize = 1;
 
 // No branch: a record's flags say whether there is an account, and the time is not to tell it.
-pub fn flag(b: bool) -> u8
+pub(crate) fn flag(b: bool) -> u8
     ensures { λ r. ⌜ r ≡ flag b ⌝ }
 {
     b as u8
 }
 
-pub fn is_flag(n: u8) -> bool
+pub(crate) fn is_flag(n: u8) -> bool
     ensures { λ r. ⌜ r ≡ isFlag n ⌝ }
 {
     n == 1
@@ -71,7 +71,7 @@ fn decode_hash(bytes: &[u8]) -> Hash
     accounts::hash_if(present, octets)
 }
 
-pub fn encode_account(mut room: Room, at: usize, account: Account) -> Room
+pub(crate) fn encode_account(mut room: Room, at: usize, account: Account) -> Room
     requires { ⌜ at ≤ keptAt ⌝ }
     ensures { λ r. ⌜ r .bytes ≡ overAt at (encodeAccount account) (room .bytes) ⌝ }
 {
@@ -85,7 +85,7 @@ pub fn encode_account(mut room: Room, at: usize, account: Account) -> Room
     put_flag(room, at + EXPIRED_AT, account.expired)
 }
 
-pub fn decode_account(bytes: &[u8]) -> Account
+pub(crate) fn decode_account(bytes: &[u8]) -> Account
     ensures { λ r. ⌜ r ≡ decodeAccount (now (bytes .entry)) ⌝ }
 {
     let nt = decode_hash(octets::part_of(bytes, NT_AT, OPTIONAL_HASH_SIZE));
@@ -105,7 +105,7 @@ fn encode_record(lookup: Lookup) -> Room
     encode_account(room, ACCOUNT_AT, account)
 }
 
-pub fn decode_record(bytes: &[u8]) -> Lookup
+pub(crate) fn decode_record(bytes: &[u8]) -> Lookup
     ensures { λ r. ⌜ r ≡ decodeRecord (now (bytes .entry)) ⌝ }
 {
     let found = is_flag(packets::octet(bytes, FOUND_AT));
@@ -113,7 +113,7 @@ pub fn decode_record(bytes: &[u8]) -> Lookup
     accounts::lookup_of(found, account)
 }
 
-pub fn is_encoded_record(bytes: &[u8]) -> bool
+pub(crate) fn is_encoded_record(bytes: &[u8]) -> bool
     ensures { λ r. ⌜ r ≡ isEncodedRecord (now (bytes .entry)) ⌝ }
 {
     let lookup = decode_record(bytes);
@@ -122,7 +122,7 @@ pub fn is_encoded_record(bytes: &[u8]) -> bool
 }
 
 // Fills out with the encoding of a record, unless there is a refusal.
-pub fn put_record(refusal: u8, lookup: Lookup, out: &mut [u8]) -> u32
+pub(crate) fn put_record(refusal: u8, lookup: Lookup, out: &mut [u8]) -> u32
     ensures { λ r. ⌜ Fills (sized recordSize (now (out .entry))) refusal (encodeRecord lookup)
         (now (out .entry)) r (now (out .exit)) ⌝ }
 {

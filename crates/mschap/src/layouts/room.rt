@@ -10,11 +10,11 @@ ghost use Rattle.mschap.specs.Inner.{roomSize};
 
 const ROOM_SIZE: usize = 50;
 
-pub struct Room {
+pub(crate) struct Room {
     pub bytes: [u8; ROOM_SIZE],
 }
 
-pub fn empty_room() -> Room
+pub(crate) fn empty_room() -> Room
     ensures { λ r. ⌜ r .bytes ≡ replicate roomSize 0 ⌝ }
 {
     Room {
@@ -22,7 +22,7 @@ pub fn empty_room() -> Room
     }
 }
 
-pub fn put_byte(room: Room, at: usize, byte: u8) -> Room
+pub(crate) fn put_byte(room: Room, at: usize, byte: u8) -> Room
     ensures { λ r. ⌜ r .bytes ≡ overAt at (byte ∷ []) (room .bytes) ⌝ }
 {
     let mut bytes = room.bytes;
@@ -31,13 +31,13 @@ pub fn put_byte(room: Room, at: usize, byte: u8) -> Room
     Room { bytes }
 }
 
-pub fn put_flag(room: Room, at: usize, b: bool) -> Room
+pub(crate) fn put_flag(room: Room, at: usize, b: bool) -> Room
     ensures { λ r. ⌜ r .bytes ≡ overAt at (flag b ∷ []) (room .bytes) ⌝ }
 {
     put_byte(room, at, flag(b))
 }
 
-pub fn put_eight(room: Room, at: usize, octets: [u8; 8]) -> Room
+pub(crate) fn put_eight(room: Room, at: usize, octets: [u8; 8]) -> Room
     ensures { λ r. ⌜ r .bytes ≡ overAt at octets (room .bytes) ⌝ }
 {
     let mut bytes = room.bytes;
@@ -45,7 +45,7 @@ pub fn put_eight(room: Room, at: usize, octets: [u8; 8]) -> Room
     Room { bytes }
 }
 
-pub fn put_sixteen(room: Room, at: usize, octets: [u8; 16]) -> Room
+pub(crate) fn put_sixteen(room: Room, at: usize, octets: [u8; 16]) -> Room
     ensures { λ r. ⌜ r .bytes ≡ overAt at octets (room .bytes) ⌝ }
 {
     let mut bytes = room.bytes;

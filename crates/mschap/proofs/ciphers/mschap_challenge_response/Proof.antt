@@ -1,14 +1,13 @@
 -- `mschap::ciphers::mschap_challenge_response` meets its contract.
 -- Assumes nothing.
-use mathlib.Core.Path.{_≡_, refl, sym, ap, ap₂, _∙_}
-use mathlib.Core.Bool.{Bool, true, _&&_}
+use mathlib.Core.Path.{_≡_, refl, sym, ap₂, _∙_}
+use mathlib.Core.Bool.{true}
 use borrow.Author.Needs.{needs}
-use borrow.Author.Tests.{eqb-true, not-true, not-false}
+use borrow.Author.Tests.{not-true, not-false}
 use lib.ListN.{length}
 use Rattle.credentials.specs.Credentials.{responseOf}
-use Rattle.octets.proofs.Parts.{fixed-whole}
-use Rattle.mschap.specs.Call.{sized, bothSized}
-use Rattle.mschap.proofs.Filling.{both, fills-as, filled-with}
+use Rattle.mschap.specs.Call.{bothSized}
+use Rattle.mschap.proofs.Filling.{taken-whole, filled-behind}
 use Rattle.mschap.proofs.ciphers.mschap_challenge_response.Statement.{statement}
 use Rattle.mschap.proofs.ciphers.mschap_challenge_response.Tie as tie
 
@@ -20,25 +19,23 @@ returns c =
       bytes = refl;
     }
 
--- both are of their sizes, so they are taken whole
 returns-2 : tie.Need-returns-2
 returns-2 c =
     let put = c .before .before in
     let made = put .before .before .before in
-    let passed = made .before .before .before in
+    let second = made .before in
+    let first = second .before in
+    let passed = first .before in
     let a = passed .before .before .before .before .before .args in
     let good : bothSized 16 (a .hash .now) 8 (a .challenge .now) ≡ true =
     sym (passed .before .are-sized .ensures) ∙ not-false _ (passed .if1 .left) in
-    let sizes = both _ _ good in
-    let first =
-    made .before .before .sixteen-at .ensures
-    ∙ fixed-whole 16 (a .hash .now) (eqb-true _ _ (sizes .0)) in
-    let second =
-    made .before .eight-at .ensures ∙ fixed-whole 8 (a .challenge .now) (eqb-true _ _ (sizes .1)) in
+    let whole = taken-whole 16 (a .hash .now) 8 (a .challenge .now) good in
+    let value =
+    made .challenge-response .ensures
+    ∙ ap₂ responseOf (first .sixteen-at .ensures ∙ whole .0)
+    (second .eight-at .ensures ∙ whole .1) in
     let size : length (made .challenge-response .result) ≡ 24 = search needs in
-    let value = made .challenge-response .ensures ∙ ap₂ responseOf first second in
-    fills-as (ap (λ (t : Bool). t && sized 24 (a .response .now)) (sym good)) refl refl
-    (filled-with size value refl (put .fill .ensures))
+    filled-behind 16 (a .hash .now) 8 (a .challenge .now) good size value (put .fill .ensures)
 
 pub mschap-challenge-response-spec : {M : Type 1} → statement M
 mschap-challenge-response-spec =

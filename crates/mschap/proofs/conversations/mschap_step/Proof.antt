@@ -1,13 +1,13 @@
 -- `mschap::conversations::mschap_step` meets its contract.
 -- Assumes nothing.
-use mathlib.Core.Path.{_≡_, refl, sym, ap, ap₂, _∙_}
-use mathlib.Core.Bool.{Bool, true}
+use mathlib.Core.Path.{_≡_, refl, sym, ap₂, _∙_}
+use mathlib.Core.Bool.{true}
 use borrow.Author.Needs.{needs}
 use borrow.Author.Tests.{not-true, not-false}
-use Rattle.authenticator.specs.Step.{step, refusalIn}
-use Rattle.accounts.specs.declared.Lookup.{Lookup}
+use Rattle.authenticator.specs.Step.{step}
 use Rattle.authenticator.specs.declared.Conversation.{Conversation}
-use Rattle.mschap.specs.Conversations.{stepArguments, stepOf}
+use Rattle.accounts.specs.declared.Lookup.{Lookup}
+use Rattle.mschap.specs.Conversations.{stepArguments}
 use Rattle.mschap.proofs.Calls.{step-sizes, step-called}
 use Rattle.mschap.proofs.conversations.mschap_step.Statement.{statement}
 use Rattle.mschap.proofs.conversations.mschap_step.Tie as tie

@@ -1,8 +1,7 @@
 -- `mschap::layouts::peers::encode_peer` meets its contract.
 -- Assumes nothing.
-use mathlib.Core.Path.{_≡_, refl, ap₂, _∙_}
+use mathlib.Core.Path.{refl, ap₂, _∙_}
 use mathlib.Core.List.{[], _∷_}
-use Prim.Native.Nat.{ℕ}
 use borrow.Author.Needs.{needs}
 use Rattle.mschap.specs.Layout.{flag}
 use Rattle.octets.specs.Parts.{over}
