@@ -195,14 +195,24 @@ struct Tree {
 
 impl Tree {
     fn new() -> Tree {
-        let crates: BTreeSet<String> = read(&root().join("crates.txt"))
-            .lines()
-            .filter(|line| !line.starts_with('#'))
-            .filter_map(|line| line.split_once(':'))
-            .map(|(name, _)| name.to_string())
-            .collect();
+        let text = read(&root().join("crates.txt"));
+        let lines = || text.lines().filter(|line| !line.starts_with('#'));
+        let below = || lines().filter_map(|line| line.split_once(':'));
+        let crates: BTreeSet<String> = below().map(|(name, _)| name.to_string()).collect();
+        // the library: what C's archive and the theorems rest on. Other crates serve the programs.
+        let mut library: BTreeSet<&str> = BTreeSet::from(["mschap", "series"]);
+        let lines_above: Vec<(&str, &str)> = below().collect();
+        for (name, needs) in lines_above.iter().rev() {
+            if library.contains(name) {
+                library.extend(needs.split_whitespace());
+            }
+        }
+        let mut items: Vec<Item> = crates.iter().flat_map(|name| items_of(name)).collect();
+        for item in &mut items {
+            item.is_public_fn &= library.contains(item.krate.as_str());
+        }
         Tree {
-            items: crates.iter().flat_map(|name| items_of(name)).collect(),
+            items,
             crates,
             headings: headings(&read(&root().join("crates/vectors/data/cases.txt"))),
             host_tests: texts(&root().join("host/rust/tests")),
