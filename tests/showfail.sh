@@ -1,4 +1,4 @@
-#!/bin/sh
+# !/bin/sh
 # Runs showfail on messages and compares what it prints (document 01, "What the peer reads").
 # Usage: showfail.sh PROGRAM. Prints the first difference and exits 1, or one line with the count.
 program=$1
@@ -13,7 +13,8 @@ same() {
     check "$1" "$2" "$(printf "$1" | "$program"; echo .)"
 }
 
-# the name of a case, the lines expected, and what was printed, with a dot after it that keeps the last line end
+# the name of a case, the lines expected, and what was printed, with a dot after it that keeps the
+# last line end
 check() {
     expected=$(printf "$2."; echo)
     if [ "$3" != "$expected" ]; then
@@ -47,7 +48,8 @@ same '  E=691   R=1 ' 'E 691\nR 1\nC -\nV 1\n'
 # a pipe that delivers the message in two pieces
 check 'two pieces' 'E 691\nR 1\nC -\nV 2\n' "$({ printf 'E=691 '; sleep 0.2; printf 'R=1 V=2'; } | "$program"; echo .)"
 
-# a field of each kind and text up to 256 octets, with a stack of 32 KiB: under 16 not even true starts
+# a field of each kind and text up to 256 octets, with a stack of 32 KiB: under 16 not even true
+# starts
 long="E=691 R=1 V=2 C=0123456789abcdef$(spaces 224)"
 check 'a stack of 32 KiB' 'E 691\nR 1\nC 0123456789ABCDEF\nV 2\n' \
     "$(printf "$long" | (ulimit -s 32; exec "$program"); echo .)"

@@ -1,6 +1,5 @@
--- Account records (document 01, "How the box judges"): how one is made, what a lookup finds, how one
--- is updated, and which are the rightful user's.
--- Assumes nothing: these are definitions.
+-- Account records (document 01, "How the box judges"): how one is made, what a lookup finds, how
+-- one is updated, and which are the rightful user's. Assumes nothing: these are definitions.
 use mathlib.Core.Bool.{Bool, true, false}
 use mathlib.Core.List.{List}
 use mathlib.Core.Option.{Option, none, some}
@@ -62,7 +61,8 @@ changed a h =
 
 -- ---- the rightful user's
 
--- with an NT hash, and neither disabled, barred by hours nor without dial-in (document 01, demand 3)
+-- with an NT hash, and neither disabled, barred by hours nor without dial-in (document 01, demand
+-- 3)
 pub record Rightful (a : Account) : Type 0 where
   pub nt : a .nt .present ≡ true
   pub enabled : a .disabled ≡ false

@@ -19,8 +19,8 @@ pub struct Hash {
     pub octets: [u8; 16],
 }
 
-// An account record: an NT hash or none, an LM hash or none, and document 01's four marks: disabled,
-// barred by hours, no dial-in, expired.
+// An account record: an NT hash or none, an LM hash or none, and document 01's four marks:
+// disabled, barred by hours, no dial-in, expired.
 pub struct Account {
     pub nt: Hash,
     pub lm: Hash,

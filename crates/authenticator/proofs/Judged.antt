@@ -1,7 +1,6 @@
--- What a packet that passes the checks draws: an invalid Response, a valid one of a rightful user, an
--- accepted change. And "No record and an invalid response give the same reply and the same next
--- conversation, octet for octet."
--- Assumes nothing.
+-- What a packet that passes the checks draws: an invalid Response, a valid one of a rightful user,
+-- an accepted change. And "No record and an invalid response give the same reply and the same next
+-- conversation, octet for octet." Assumes nothing.
 use mathlib.Core.Bool.{Bool, true, false, cond}
 use mathlib.Core.List.{List}
 use mathlib.Core.Logic.{_≢_}
@@ -152,7 +151,8 @@ module _ (c : Conversation) (p b : List ℕ) where
       which Change n = refl
       which Ended n = refl
 
-  -- two lookups with no record, or with one for which the Response is invalid: in every phase, for any packet, refused or not
+  -- two lookups with no record, or with one for which the Response is invalid: in every phase, for
+  -- any packet, refused or not
   pub same-invalid : (l m : Lookup) → foundValid (c .terms) (c .challenge) l (readResponse p) ≡ false
       → foundValid (c .terms) (c .challenge) m (readResponse p) ≡ false
       → step c p l b ≡ step c p m b

@@ -1,5 +1,5 @@
--- What an opening spends: entries of 8 octets that differ among themselves, and the octets in which the code lends them.
--- Assumes nothing.
+-- What an opening spends: entries of 8 octets that differ among themselves, and the octets in which
+-- the code lends them. Assumes nothing.
 use mathlib.Core.Bool.{Bool, true, false, _||_, false≢true}
 use mathlib.Core.List.{List, [], _∷_, _++_, append-nil, flatten}
 use mathlib.Core.Logic.{_≢_}
@@ -43,7 +43,8 @@ no-multiple k (suc q) e pos few = omega arith
 not-back : (k x y : ℕ) → y ≡ (x + 23 * k) % 256 → 0 < k → k ≤ 11 → y ≢ x
 not-back k x y e pos few f = no-multiple k ((x + 23 * k) / 256) (omega (arith, div-add-mod' (x + 23 * k) 256)) pos few
 
--- n challenges from one that k turns of the 23 rule made of x, none of which begins with x: 23 * 11 is under 256
+-- n challenges from one that k turns of the 23 rule made of x, none of which begins with x: 23 * 11
+-- is under 256
 others : (n k x y : ℕ) (xs : List ℕ) → y ≡ (x + 23 * k) % 256 → 0 < k → k + n ≤ 12 → contains (challengesFrom n (y ∷ xs)) (x ∷ xs) ≡ false
 unfolding challengesFrom contains agrees
 others zero k x y xs e pos few = refl

@@ -93,7 +93,8 @@ reply-of c j b h =
     let fits = reply-fits (c .id) (j .reply) .1 in
     taken (replyPacket (c .id) (j .reply)) b (omega arith)
 
--- "a packet is judged exactly when it draws a reply": 1 where the step is not refused, 0 where it is
+-- "a packet is judged exactly when it draws a reply": 1 where the step is not refused, 0 where it
+-- is
 module _ (c : Conversation) (s : StepInput) where
   abbrev countOf : Outcome → ℕ
   countOf o = cond (drewReply o (s .buffer)) 1 0

@@ -1,5 +1,5 @@
--- The authenticator's steps, one after the other. Words in quotes are document 01's, "The series in demand 3".
--- Assumes nothing: these are definitions.
+-- The authenticator's steps, one after the other. Words in quotes are document 01's, "The series in
+-- demand 3". Assumes nothing: these are definitions.
 use mathlib.Core.Bool.{Bool, false, cond, not, _||_}
 use mathlib.Core.List.{List}
 use mathlib.Core.Logic.{_≢_, _⊎_}
@@ -19,8 +19,8 @@ pub record StepInput : Type 0 where
   pub account : Lookup
   pub buffer : List ℕ
 
--- What a box makes of a conversation and of what a step is lent; ours is `stepOn`. What follows is said of any box, so that it can be shown which
--- boxes demand 3 shuts out.
+-- What a box makes of a conversation and of what a step is lent; ours is `stepOn`. What follows is
+-- said of any box, so that it can be shown which boxes demand 3 shuts out.
 abbrev pub Box : Type 0
 Box = Conversation → StepInput → Outcome
 

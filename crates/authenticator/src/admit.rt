@@ -1,5 +1,5 @@
-// The first part of a step: whether the conversation takes a packet, or with which number it refuses
-// it.
+// The first part of a step: whether the conversation takes a packet, or with which number it
+// refuses it.
 ghost use mathlib.Core.Path.{_≡_};
 ghost use Rattle.packets.specs.Frame.{badId};
 ghost use Rattle.authenticator.specs.Conversation.{awaitedCode, isEnded};

@@ -51,8 +51,8 @@ pub enum LmChoice {
 }
 
 // What an opening answers: the refusal (0 is none), the conversation (an ended one of fixed values
-// beside a refusal), how many octets of the reply buffer the Challenge takes, and how many places of
-// the list of issued challenges are used then.
+// beside a refusal), how many octets of the reply buffer the Challenge takes, and how many places
+// of the list of issued challenges are used then.
 pub struct Opened {
     pub refusal: u8,
     pub conversation: Conversation,

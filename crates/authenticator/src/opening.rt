@@ -57,10 +57,11 @@ fn spend(challenge: [u8; 8], r: u8, list: &mut [u8], used: usize, counts: &mut [
 }
 
 impl Conversation {
-    // Opens a conversation: spends its challenge and r successors, which adds them to the list of issued challenges, and writes its Challenge. The
-    // list is what stands in the first used places of the buffer list, 8 octets each, and counts are how many of them end in each octet. Refusals,
-    // which leave all as it was, in this order: 13 (r over 7), 2 (reply under 17 octets), 24 (a bad list), 16 (one of them was issued before), 17
-    // (too few places are left).
+    // Opens a conversation: spends its challenge and r successors, which adds them to the list of
+    // issued challenges, and writes its Challenge. The list is what stands in the first used places
+    // of the buffer list, 8 octets each, and counts are how many of them end in each octet.
+    // Refusals, which leave all as it was, in this order: 13 (r over 7), 2 (reply under 17 octets),
+    // 24 (a bad list), 16 (one of them was issued before), 17 (too few places are left).
     pub fn open(
         id: u8,
         challenge: [u8; 8],

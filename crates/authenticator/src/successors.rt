@@ -1,4 +1,5 @@
-// The conversations that a step can lead to. Every successor is made in one place and keeps the terms.
+// The conversations that a step can lead to. Every successor is made in one place and keeps the
+// terms.
 ghost use mathlib.Core.Path.{_≡_};
 ghost use Prim.Native.Nat.{_-_};
 ghost use Rattle.authenticator.specs.Conversation.{successor, ended, retried, awaitingChange, closed};

@@ -1,5 +1,5 @@
--- Laws of the run over blocks: a block and then the rest, a run over two parts, and the whole padded message as its whole blocks and its tail.
--- Assumes nothing.
+-- Laws of the run over blocks: a block and then the rest, a run over two parts, and the whole
+-- padded message as its whole blocks and its tail. Assumes nothing.
 use mathlib.Core.Path.{_≡_, sym, ap, ap₂, _∙_}
 use mathlib.Core.List.{List, _∷_, _++_}
 use Prim.Native.Nat.{ℕ, zero, suc, _+_, _-_, _*_, _/_, _≤_, _<_}
@@ -89,7 +89,8 @@ module _ (e m : List ℕ) (eight : length e ≡ 8) where
   unfolding tailOf tailLength zeros
   tail-fits = omega arith
 
--- how a hash goes about it: r are the registers after the message's whole blocks, q those after the used octets of the tail t
+-- how a hash goes about it: r are the registers after the message's whole blocks, q those after the
+-- used octets of the tail t
 pub hash-by-tail : {S : Type 0} (f : List ℕ → S → S) (len : ℕ → List ℕ) → ((x : ℕ) → length (len x) ≡ 8) → (s : S) (m : List ℕ) {r q : S} {t : Tail}
     → r ≡ runBlocks f (length m / 64) m s → t ≡ tailOf (len (length m * 8)) m
     → q ≡ runBlocks f (length (take (t .used) (t .octets)) / 64) (take (t .used) (t .octets)) r → q ≡ hashBlocks f len s m

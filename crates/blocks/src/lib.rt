@@ -1,9 +1,10 @@
-// The end of a padded message, for a hash over blocks of 64 octets. (The loop over the blocks stands beside each hash, as Rattle has no
-// function parameters; its proof cites the laws here.)
+// The end of a padded message, for a hash over blocks of 64 octets. (The loop over the blocks
+// stands beside each hash, as Rattle has no function parameters; its proof cites the laws here.)
 ghost use mathlib.Core.Path.{_≡_};
 ghost use Rattle.blocks.specs.Blocks.{tailLength, tailOf};
 
-// The octets that follow the last whole block of a message, padding included: the first `used` of them, one block or two.
+// The octets that follow the last whole block of a message, padding included: the first `used` of
+// them, one block or two.
 pub struct Tail {
     pub octets: [u8; 128],
     pub used: usize,

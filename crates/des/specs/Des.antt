@@ -1,5 +1,5 @@
--- DES as FIPS 46-2 defines it. A block of w bits is a number below 2 ^ w whose first bit, bit 1, is the most significant.
--- Assumes nothing: these are definitions.
+-- DES as FIPS 46-2 defines it. A block of w bits is a number below 2 ^ w whose first bit, bit 1, is
+-- the most significant. Assumes nothing: these are definitions.
 use mathlib.Core.List.{List, [], _∷_, _++_, map, reverse}
 use Prim.Native.Nat.{ℕ, _+_, _-_, _*_, _/_, _%_, _^_}
 use lib.ListN.{length, getD}
@@ -29,7 +29,8 @@ permute w t n = choose w 0 t n
 abbrev pub select : List ℕ → ℕ → ℕ
 select s b = getD s ((b / 32 * 2 + b % 2) * 16 + b / 2 % 16) 0
 
--- after the bits of acc, the four bits of each selection function at its six bits of x, the first at the first six
+-- after the bits of acc, the four bits of each selection function at its six bits of x, the first
+-- at the first six
 abbrev pub substitute : ℕ → List (List ℕ) → ℕ → ℕ
 substitute acc [] x = acc
 substitute acc (s ∷ ss) x = substitute (acc * 16 + select s (x / 2 ^ (6 * length ss) % 64)) ss x
@@ -51,7 +52,8 @@ crypt ks n = permute 64 fp (rounds ks (permute 64 ip n / 2 ^ 32) (permute 64 ip 
 
 -- ---- "Key schedule"
 
--- a left shift of the 28 bits of C or D: each bit moves s places to the left, and the first s bits come last
+-- a left shift of the 28 bits of C or D: each bit moves s places to the left, and the first s bits
+-- come last
 abbrev pub rotate : ℕ → ℕ → ℕ
 rotate s c = c * 2 ^ s % 2 ^ 28 + c / 2 ^ (28 - s)
 
@@ -64,7 +66,8 @@ keysFrom (s ∷ ss) c d = permute 56 pc2 (rotate s c * 2 ^ 28 + rotate s d) ∷ 
 unfoldable pub roundKeys : ℕ → List ℕ
 roundKeys key = keysFrom shifts (permute 64 pc1 key / 2 ^ 28) (permute 64 pc1 key % 2 ^ 28)
 
--- ---- keys of seven octets: the 56 bits of a key that are not parity (appendix 1, KS: bits 8, 16, .., 64 are for parity)
+-- ---- keys of seven octets: the 56 bits of a key that are not parity (appendix 1, KS: bits 8, 16,
+-- .., 64 are for parity)
 
 -- an octet without its last bit
 abbrev pub half : ℕ → ℕ

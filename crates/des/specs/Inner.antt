@@ -1,5 +1,5 @@
--- What the parts of the code compute, as numbers. Only the code's inner functions cite these; no public promise does.
--- Assumes nothing: these are definitions.
+-- What the parts of the code compute, as numbers. Only the code's inner functions cite these; no
+-- public promise does. Assumes nothing: these are definitions.
 use mathlib.Core.List.{List, [], _∷_}
 use Prim.Native.Nat.{ℕ, zero, suc, _*_, _/_, _%_, _^_}
 use lib.ListN.{getD}
@@ -12,7 +12,8 @@ unfoldable pub bitsSwapped : ℕ → ℕ → ℕ → ℕ
 bitsSwapped n m x =
     bitXor (bitXor x (bitAnd (bitXor (x / 2 ^ n) x) m)) (bitAnd (bitXor (x / 2 ^ n) x) m * 2 ^ n % 2 ^ 64)
 
--- the last bit of r, the 32 bits of r, and the first bit of r: each six bits that E chooses stand together in it
+-- the last bit of r, the 32 bits of r, and the first bit of r: each six bits that E chooses stand
+-- together in it
 unfoldable pub spread : ℕ → ℕ
 spread r = bitXor (bitXor (r % 2 * 2 ^ 33 % 2 ^ 64) (r * 2 ^ 1 % 2 ^ 64)) (r / 2 ^ 31)
 
@@ -25,8 +26,8 @@ tableEntries f m (suc n) k = f (k / m) (k % m) ∷ tableEntries f m n (suc k)
 unfoldable pub boxTable : List ℕ
 boxTable = tableEntries (λ i b. select (getD boxes i []) b) 64 512 0
 
--- the table of a function by groups of four bits, a row of 16 for each of n places, the last place first: what the function makes of
--- each four bits in that place where the other bits are clear
+-- the table of a function by groups of four bits, a row of 16 for each of n places, the last place
+-- first: what the function makes of each four bits in that place where the other bits are clear
 abbrev pub placeTable : (ℕ → ℕ) → ℕ → List ℕ
 placeTable g n = tableEntries (λ i b. g (b * 2 ^ (4 * i))) 16 (n * 16) 0
 

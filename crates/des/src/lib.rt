@@ -1,4 +1,5 @@
-// DES (FIPS 46-2): a block of eight octets under a key of seven, the 56 bits of a DES key that are not parity.
+// DES (FIPS 46-2): a block of eight octets under a key of seven, the 56 bits of a DES key that are
+// not parity.
 mod tables;
 
 ghost use mathlib.Core.Path.{_≡_};
@@ -77,7 +78,8 @@ fn permuted(t: &[u32; 128], x: u32) -> u32
     acc
 }
 
-// f(R, K): the selection functions at the six-bit groups of K xor E(R), their results joined, and P.
+// f(R, K): the selection functions at the six-bit groups of K xor E(R), their results joined, and
+// P.
 fn cipher_function(selections: &[u8; 512], places: &[u32; 128], r: u32, k: u64) -> u32
     requires { ⌜ (now selections ≡ boxTable) × (now places ≡ permutationTable) ⌝ }
     ensures { λ v. ⌜ v ≡ cipherF r k ⌝ }

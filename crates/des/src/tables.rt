@@ -1,5 +1,5 @@
-// The tables of DES in the order in which the code reads them. Each is made by a function and lent: a constant would be made again at
-// every indexing.
+// The tables of DES in the order in which the code reads them. Each is made by a function and lent:
+// a constant would be made again at every indexing.
 ghost use mathlib.Core.Path.{_≡_};
 ghost use Rattle.des.specs.Tables.{pc1, shifts};
 ghost use Rattle.des.specs.Inner.{boxTable, permutationTable, choiceTable};
@@ -75,7 +75,8 @@ pub fn first_choice_bits() -> [u8; 56]
     ]
 }
 
-// Permuted choice 2: for each of fourteen places of four bits, the last first, what it makes of the 16 values in that place.
+// Permuted choice 2: for each of fourteen places of four bits, the last first, what it makes of the
+// 16 values in that place.
 pub fn second_choice_places() -> [u64; 224]
     ensures { λ r. ⌜ r ≡ choiceTable ⌝ }
 {
@@ -307,7 +308,8 @@ pub fn second_choice_places() -> [u64; 224]
     ]
 }
 
-// The permutation P: for each of eight places of four bits, the last first, what it makes of the 16 values in that place.
+// The permutation P: for each of eight places of four bits, the last first, what it makes of the 16
+// values in that place.
 pub fn permutation_places() -> [u32; 128]
     ensures { λ r. ⌜ r ≡ permutationTable ⌝ }
 {

@@ -29,8 +29,8 @@ auxG x y z = bitOr (bitOr (bitAnd x y) (bitAnd x z)) (bitAnd y z)
 abbrev pub auxH : ℕ → ℕ → ℕ → ℕ
 auxH x y z = bitXor (bitXor x y) z
 
--- [ABCD k s]: A becomes (A + aux(B,C,D) + X[k] + add) <<< s. The registers then move on by one place, so that the next operation,
--- which the RFC writes [DABC k s], reads them in the same order.
+-- [ABCD k s]: A becomes (A + aux(B,C,D) + X[k] + add) <<< s. The registers then move on by one
+-- place, so that the next operation, which the RFC writes [DABC k s], reads them in the same order.
 unfoldable pub operation : (ℕ → ℕ → ℕ → ℕ) → ℕ → ℕ → ℕ → Registers → Registers
 operation aux add s x r =
     record { a = r .d; b = rotl s (plus (plus (plus (r .a) (aux (r .b) (r .c) (r .d))) x) add); c = r .b; d = r .c }
@@ -101,11 +101,13 @@ initialRegisters = record { a = 0x67452301; b = 0xefcdab89; c = 0x98badcfe; d = 
 unfoldable pub digestOf : Registers → List ℕ
 digestOf r = toLe 4 (r .a) ++ (toLe 4 (r .b) ++ (toLe 4 (r .c) ++ toLe 4 (r .d)))
 
--- the digest of a message; its length goes in as 64 bits, the low-order word and octet first (section 3.2)
+-- the digest of a message; its length goes in as 64 bits, the low-order word and octet first
+-- (section 3.2)
 unfoldable pub md4Of : List ℕ → List ℕ
 md4Of m = digestOf (hashBlocks block (toLe 8) initialRegisters m)
 
--- what the public function answers: the digest of at most 4,096 octets, else refusal 8 and sixteen octets 0
+-- what the public function answers: the digest of at most 4,096 octets, else refusal 8 and sixteen
+-- octets 0
 unfoldable pub md4Answer : List ℕ → Digested
 md4Answer m =
     cond (leb (length m) 4096)

@@ -36,7 +36,8 @@ fn choose(x: u32, y: u32, z: u32) -> u32
     ((y ^ z) & x) ^ z
 }
 
-// G in four operations. No bit is set in both terms, so that their sum is their union; the sum may be joined with those of the step.
+// G in four operations. No bit is set in both terms, so that their sum is their union; the sum may
+// be joined with those of the step.
 fn majority(x: u32, y: u32, z: u32) -> u32
     ensures { λ r. ⌜ r ≡ auxG x y z ⌝ }
 {

@@ -69,7 +69,8 @@ over-fills [] (y ∷ l) h = absurd (not-suc-le-zero h)
 over-fills (x ∷ xs) [] h = refl
 over-fills (x ∷ xs) (y ∷ l) h = ap (λ (m : List ℕ). x ∷ m) (over-fills xs l (le-of-suc-le-suc h))
 
--- a copy into k octets of p ++ q that start where q does, lent and handed back: p stays, and so does what of q the copy does not reach
+-- a copy into k octets of p ++ q that start where q does, lent and handed back: p stays, and so
+-- does what of q the copy does not reach
 pub over-lent : (p q e : List ℕ) (a k : ℕ) → length p ≡ a → length e ≤ k → k ≤ length q
     → take a (p ++ q) ++ (over e (take k (drop a (p ++ q))) ++ drop k (drop a (p ++ q))) ≡ p ++ (e ++ drop (length e) q)
 over-lent p q e a k ha he hk =
@@ -92,7 +93,8 @@ over-rest at xs l {a} {t} ea et =
     ∙ ap (λ (n : ℕ). take n l ++ over xs (drop n l)) ea
     ∙ ap₂ (λ (x y : List ℕ). x ++ over xs y) (take-min at l) (drop-min at l)
 
--- a buffer that begins with done gets xs behind it, and what lay behind that stays; l is the buffer as it was lent
+-- a buffer that begins with done gets xs behind it, and what lay behind that stays; l is the buffer
+-- as it was lent
 pub over-next : (l done xs : List ℕ) {b : List ℕ} → b ≡ done ++ drop (length done) l → length done + length xs ≤ length l
     → overAt (length done) xs b ≡ (done ++ xs) ++ drop (length (done ++ xs)) l
 over-next l done xs {b} e h =
@@ -145,7 +147,8 @@ over-join (suc at) xs ys [] =
 over-join (suc at) xs ys (y ∷ l) =
     ap (λ (n : ℕ). overAt n ys (overAt (suc at) xs (y ∷ l))) (suc-add at (length xs)) ∙ ap (λ (m : List ℕ). y ∷ m) (over-join at xs ys l)
 
--- one turn of the loop: the octet at i is copied, and the rest of xs is still to be laid over the rest of l
+-- one turn of the loop: the octet at i is copied, and the rest of xs is still to be laid over the
+-- rest of l
 pub over-turn : (xs l : List ℕ) (i : ℕ) → i < length xs → i < length l
     → take (suc i) (set l i (getD xs i 0)) ++ over (drop (suc i) xs) (drop (suc i) (set l i (getD xs i 0))) ≡ take i l ++ over (drop i xs) (drop i l)
 unfolding over

@@ -7,7 +7,8 @@ use lib.Dec.{leb, ltb}
 abbrev pub between : ℕ → ℕ → ℕ → Bool
 between low high c = leb low c && leb c high
 
--- the value of the octet c as a hexadecimal digit of either case, and 16 where it is none. c is a digit of base b exactly where this is below b.
+-- the value of the octet c as a hexadecimal digit of either case, and 16 where it is none. c is a
+-- digit of base b exactly where this is below b.
 unfoldable pub digitOf : ℕ → ℕ
 digitOf c =
     cond (between 48 57 c) (c - 48)

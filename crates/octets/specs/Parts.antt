@@ -10,7 +10,8 @@ use lib.ListN.{take, drop, replicate}
 abbrev pub part : ℕ → ℕ → List ℕ → List ℕ
 part a n l = take n (drop a l)
 
--- xs laid over the front of l, which stays as long as it is: what xs does not reach is unchanged, and what of xs finds no place is left out
+-- xs laid over the front of l, which stays as long as it is: what xs does not reach is unchanged,
+-- and what of xs finds no place is left out
 unfoldable pub over : List ℕ → List ℕ → List ℕ
 over [] l = l
 over (x ∷ xs) [] = []

@@ -1,4 +1,5 @@
-// Lists of octets: parts, copies, agreement, numbers of two, four and eight octets, digits. Every function is total.
+// Lists of octets: parts, copies, agreement, numbers of two, four and eight octets, digits. Every
+// function is total.
 ghost use mathlib.Core.Path.{_≡_};
 ghost use mathlib.Core.Bool.{cond, _&&_};
 ghost use mathlib.Core.List.{[], _∷_};
@@ -33,7 +34,8 @@ pub fn seven_at(s: &[u8], at: usize) -> [u8; 7]
     octets
 }
 
-// The eight octets of s from the place at on, as for a DES block or a challenge; 0 for those that s does not reach.
+// The eight octets of s from the place at on, as for a DES block or a challenge; 0 for those that s
+// does not reach.
 pub fn eight_at(s: &[u8], at: usize) -> [u8; 8]
     ensures { λ r. ⌜ r ≡ fixed 8 (part at 8 (now (s .entry))) ⌝ }
 {
@@ -51,7 +53,8 @@ pub fn sixteen_at(s: &[u8], at: usize) -> [u8; 16]
     octets
 }
 
-// Lays source over the front of target: what it does not reach is unchanged, and what of it finds no place is left out.
+// Lays source over the front of target: what it does not reach is unchanged, and what of it finds
+// no place is left out.
 pub fn copy(target: &mut [u8], source: &[u8])
     ensures { λ _. ⌜ now (target .exit) ≡ over (now (source .entry)) (now (target .entry)) ⌝ }
 {
@@ -73,8 +76,8 @@ pub fn copy_at(target: &mut [u8], at: usize, source: &[u8])
 
 // ---- without a branch, so that the time does not tell what holds
 
-// x where both conditions hold, else y. The place in a row of three decides: of a conditional, or of
-// a product with one condition, the compiler makes a branch again.
+// x where both conditions hold, else y. The place in a row of three decides: of a conditional, or
+// of a product with one condition, the compiler makes a branch again.
 fn where_both(a: bool, b: bool, x: u8, y: u8) -> u8
     ensures { λ r. ⌜ r ≡ cond (a && b) x y ⌝ }
 {

@@ -1,5 +1,5 @@
--- One turn of each loop of the code: the identity, the key schedule, the data. The last two share the look-ahead.
--- Assumes nothing.
+-- One turn of each loop of the code: the identity, the key schedule, the data. The last two share
+-- the look-ahead. Assumes nothing.
 use mathlib.Core.Path.{_≡_, refl, sym, ap, ap₂, _∙_}
 use mathlib.Core.Bool.{cond}
 use mathlib.Core.List.{List, [], _++_, append-nil}
@@ -31,7 +31,8 @@ pub record Ready (s : List ℕ) (i a : ℕ) : Type 0 where
 pub ready-at : {s : List ℕ} {i i′ a : ℕ} → Ready s i a → i′ ≡ i → Ready s i′ a
 ready-at {s} r e = record { long = r .long; first = r .first ∙ ap (λ (x : ℕ). getD s x 0) (sym e) }
 
--- after the exchange of i and j: k is the place after i, read before the exchange, and a′ what the choice makes of it
+-- after the exchange of i and j: k is the place after i, read before the exchange, and a′ what the
+-- choice makes of it
 pub ready-turn : {s s′ : List ℕ} {i j k a a′ : ℕ} → Ready s i a → i < 256 → j < 256 → s′ ≡ swapped s i j → k ≡ (i + 1) % 256
     → a′ ≡ cond (eqb k j) a (getD s k 0) → Ready s′ ((i + 1) % 256) a′
 ready-turn {s} {s′} {i} {j} {k} {a} {a′} r hi hj es ek ea = record {
@@ -53,7 +54,8 @@ mixed-turn key {s} {s′} {n} {j} {a} {b} {j′} e r eb ej es =
 
 -- ---- the data
 
--- a step by what the look-ahead read: the state that it reaches, and the octet that this state gives
+-- a step by what the look-ahead read: the state that it reaches, and the octet that this state
+-- gives
 pub step-turn : (w : State) {s′ : List ℕ} {a i′ j′ b x : ℕ} → i′ ≡ (w .i + 1) % 256 → Ready (w .s) i′ a → j′ ≡ (w .j + a) % 256
     → s′ ≡ swapped (w .s) i′ j′ → b ≡ getD (w .s) j′ 0 → x ≡ (a + b) % 256
     → (_≡_ {A = State} (record { s = s′; i = i′; j = j′ }) (nextState w)) × (getD s′ x 0 ≡ outputOctet (nextState w))
@@ -75,7 +77,8 @@ step-turn w {s′} {a} {i′} {j′} {b} {x} ei r ej es eb ex = (reached, ap (λ
         ∙ ap (λ (y : ℕ). y % 256) (sym (sum-swapped (w .s) i′ j′ (rw ej (below (w .j + a))) (rw ei (below (w .i + 1)))))
         ∙ ap (λ (l : List ℕ). (getD l i′ 0 + getD l j′ 0) % 256) (sym es)
 
--- n octets are done, and doing the rest from here gives what was asked of the state w₀ and the data d₀
+-- n octets are done, and doing the rest from here gives what was asked of the state w₀ and the data
+-- d₀
 pub record Done (w₀ : State) (d₀ : List ℕ) (w : State) (d : List ℕ) (n : ℕ) : Type 0 where
   pub within : n ≤ length d
   pub long : length d ≡ length d₀

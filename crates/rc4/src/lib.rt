@@ -1,4 +1,5 @@
-// RC4: a key of 1 to 256 octets, a state by value, the data in place. No RFC defines RC4; it is checked against the keystreams of RFC 6229.
+// RC4: a key of 1 to 256 octets, a state by value, the data in place. No RFC defines RC4; it is
+// checked against the keystreams of RFC 6229.
 use std::num::wrapping_add_u8;
 ghost use mathlib.Core.Path.{_≡_};
 ghost use mathlib.Core.Bool.{cond};
@@ -22,8 +23,9 @@ pub struct Keyed {
 
 // ---- the look-ahead
 //
-// Each turn of RC4 exchanges two entries, and the next turn begins with a read that may want one of them. Read after the exchange, it waits
-// for the stores. So both loops read the next entry before the exchange (`ahead`), and then choose between it and what the exchange put there.
+// Each turn of RC4 exchanges two entries, and the next turn begins with a read that may want one of
+// them. Read after the exchange, it waits for the stores. So both loops read the next entry before
+// the exchange (`ahead`), and then choose between it and what the exchange put there.
 
 // Exchanges the entries at i and j, where the one at i is a. Answers the one that was at j.
 fn put(s: &mut [u8; 256], i: u8, j: u8, a: u8) -> u8
@@ -107,7 +109,8 @@ pub fn new(key: &[u8]) -> Keyed
 
 // ---- the data
 
-// Puts the data under the keystream, in place. Answers the state after it, from which the next data go on.
+// Puts the data under the keystream, in place. Answers the state after it, from which the next data
+// go on.
 pub fn apply(state: State, data: &mut [u8]) -> State
     ensures { λ r. ⌜ (r ≡ laterState (length (now («data» .entry))) state) × (now («data» .exit) ≡ ciphered state (now («data» .entry))) ⌝ }
 {
@@ -131,7 +134,8 @@ pub fn apply(state: State, data: &mut [u8]) -> State
     State { s, i, j }
 }
 
-// The data under a key's keystream from its start, in place. Answers the refusal; where it is not 0, the data are unchanged.
+// The data under a key's keystream from its start, in place. Answers the refusal; where it is not
+// 0, the data are unchanged.
 pub fn rc4(key: &[u8], data: &mut [u8]) -> u8
     ensures { λ r. ⌜ (r ≡ keyRefusal (now (key .entry))) × (now («data» .exit) ≡ crypted (now (key .entry)) (now («data» .entry))) ⌝ }
 {

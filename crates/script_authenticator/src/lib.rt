@@ -9,8 +9,8 @@ pub use lists::List;
 pub use conversations::ScriptState;
 pub use conversations::new_state;
 
-// Which of these commands a line has. (In `run` the literal would stand beside values of ScriptState, and
-// the check of a statement grows with what stands beside it.)
+// Which of these commands a line has. (In `run` the literal would stand beside values of
+// ScriptState, and the check of a statement grows with what stands beside it.)
 fn command(line: &[u8]) -> usize {
     script::command(line, b"name account relend list places open step")
 }

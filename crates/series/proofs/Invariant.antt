@@ -1,5 +1,5 @@
--- Courses: one law of a step carries a claim along a whole course, and one law of a step bounds a sum over it.
--- Assumes nothing.
+-- Courses: one law of a step carries a claim along a whole course, and one law of a step bounds a
+-- sum over it. Assumes nothing.
 use mathlib.Core.List.{List, [], _∷_, _++_}
 use mathlib.Core.Path.{_≡_, refl}
 use Prim.Native.Nat.{ℕ, _+_, _≤_}
@@ -7,8 +7,9 @@ use native.Mathlib.Omega.{arith}
 use lib.ListN.{length, length-append}
 use Rattle.series.specs.Course.{collect, end, Along, total}
 
--- An invariant of box and peer: at a place that is ready for the packets that are due, an allowed step does what is claimed of it, as many packets are
--- judged as it takes of those, and the place after it is ready for the rest.
+-- An invariant of box and peer: at a place that is ready for the packets that are due, an allowed
+-- step does what is claimed of it, as many packets are judged as it takes of those, and the place
+-- after it is ready for the rest.
 pub record Invariant {S M K : Type 0} (next : S → M → S) (kinds : M → List K) (judged : S → M → ℕ) (Allowed Claimed : S → M → Type 0) : Type 1 where
   pub Ready : List K → S → Type 0
   pub law : (due : List K) (s : S) (m : M) → Ready (kinds m ++ due) s → Allowed s m

@@ -1,6 +1,5 @@
--- "What our peer writes, our box reads back field for field, and the other way round": over what the writers leave in their buffers, with any
--- padding behind.
--- Assumes nothing.
+-- "What our peer writes, our box reads back field for field, and the other way round": over what
+-- the writers leave in their buffers, with any padding behind. Assumes nothing.
 use mathlib.Core.Bool.{true, false}
 use mathlib.Core.List.{List, _∷_, _++_}
 use mathlib.Core.Path.{_≡_, refl, sym, ap, _∙_, subst}
@@ -40,7 +39,8 @@ pub challenge-read : (o : Opening) → opened o .refusal ≡ 0 → length (o .ch
 challenge-read o ok eight behind =
     ap (λ (x : List ℕ). readChallenge (x ++ behind)) (opened-written o ok eight) ∙ challenge-back (o .id) (o .challenge) behind eight
 
--- Success, or the Failure with the reason (646 to 649, 691, 709), R, no C and V=2: what our peer reads of the reply to its last packet
+-- Success, or the Failure with the reason (646 to 649, 691, 709), R, no C and V=2: what our peer
+-- reads of the reply to its last packet
 pub reply-read : (c : Conversation) (s : StepInput) (q : Peer) (behind : List ℕ) → refusalAt stepOn c s ≡ 0 → q .sent .present ≡ true → q .sent .id ≡ c .id
     → peerReads q (replyOf (stepOn c s) ++ behind) ≡ readingFor (replyFor c (reasonIn (stepOn c s .answer .kind)))
 reply-read c s q behind ok sent id =
@@ -55,7 +55,8 @@ module _ (t : Turn) (password name out padding : List ℕ) (ok : writeResponse t
   response-same : response ≡ responseFor t password name ++ padding
   response-same = ap (λ (x : List ℕ). x ++ padding) (response-left t password name out ok)
 
-  -- the turn's identifier, the LM response zero, the password's NT response, the flag 1, and the name
+  -- the turn's identifier, the LM response zero, the password's NT response, the flag 1, and the
+  -- name
   pub response-round-trip : ResponseBack (t .id) (responseFields (t .challenge) password) name response
   response-round-trip =
       let n = name-fits t password name out ok in

@@ -29,7 +29,8 @@ use Rattle.series.specs.Writers.{Writer}
 
 -- ---- openings, passwords, records
 
--- identifier 255 and a challenge that begins with E9, so that both next over their octet; an empty list of three places
+-- identifier 255 and a challenge that begins with E9, so that both next over their octet; an empty
+-- list of three places
 abbrev pub opening : Retries → Opening
 opening r =
     record {

@@ -1,6 +1,7 @@
--- The premises of demand 3 can be met: identifier 255, a challenge that begins with E9, r = 1, LM disallowed, an expired record, one invalid try
--- (lent a record with no hash), the right password and the change, each with padding, and refused steps before, between and behind them; and a later conversation.
--- Assumes nothing.
+-- The premises of demand 3 can be met: identifier 255, a challenge that begins with E9, r = 1, LM
+-- disallowed, an expired record, one invalid try (lent a record with no hash), the right password
+-- and the change, each with padding, and refused steps before, between and behind them; and a later
+-- conversation. Assumes nothing.
 use mathlib.Core.Bool.{Bool, true, false, cond}
 use mathlib.Core.List.{List, [], _∷_}
 use mathlib.Core.Logic.{inr}
@@ -41,7 +42,8 @@ steps = other short ∷ badTry (found blankAccount) ∷ other narrow ∷ rightTr
 
 -- ---- the premises
 
--- a short packet and a narrow buffer are refused in any conversation, with 1 where it has ended and else with n
+-- a short packet and a narrow buffer are refused in any conversation, with 1 where it has ended and
+-- else with n
 refused : (c : Conversation) (s : StepInput) (n : ℕ) → 0 < n → stepRefusal c (s .packet) (s .buffer) ≡ cond (isEnded (c .phase)) 1 n → Refused stepOn c s
 refused c s n pos e = inr (λ z. which (isEnded (c .phase)) (sym e ∙ z))
   where

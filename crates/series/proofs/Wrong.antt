@@ -1,6 +1,6 @@
--- Demand 3 holds of no box that is ours but for one slip: refuses everything, 691 always, accepts always, the change leaves the record, pretends on
--- retries, retries do not fall. So the statement is strong enough to shut them out.
--- Assumes nothing.
+-- Demand 3 holds of no box that is ours but for one slip: refuses everything, 691 always, accepts
+-- always, the change leaves the record, pretends on retries, retries do not fall. So the statement
+-- is strong enough to shut them out. Assumes nothing.
 use mathlib.Core.Bool.{Bool, true, false, cond, false≢true}
 use mathlib.Core.List.{List, [], _∷_, _++_}
 use mathlib.Core.Path.{_≡_, refl, sym, ap, _∙_, subst}
@@ -146,7 +146,8 @@ not-pretending h =
 
 -- ---- the change leaves the record
 
--- what a first conversation draws for an expired record, valid or not: a Failure, and with 648 the record is kept
+-- what a first conversation draws for an expired record, valid or not: a Failure, and with 648 the
+-- record is kept
 abbrev Expired : Conversation → List ℕ → Type 0
 Expired c p =
     let d = judge c p (found (account true)) in

@@ -42,7 +42,8 @@ leavesRecord c s =
     let d = judge c (s .packet) (s .account) in
     record { reply = d .reply; next = d .next; updated = cond (d .updated .found) (found (c .kept)) notFound }
 
--- judges the first Response of a conversation that was opened with r retries, and pretends on retries
+-- judges the first Response of a conversation that was opened with r retries, and pretends on
+-- retries
 abbrev pub pretends : ℕ → Judge
 pretends r c s = cond (ltb (c .retries) r) (accepts c s) (judge c (s .packet) (s .account))
 

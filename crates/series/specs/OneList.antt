@@ -1,6 +1,6 @@
--- Many boxes on one list (document 02, request 2026-03): "One controller now lends all forty boxes the same list."
--- What follows is said of any opener, so that it can be shown which ones the claim shuts out.
--- Assumes nothing: these are definitions.
+-- Many boxes on one list (document 02, request 2026-03): "One controller now lends all forty boxes
+-- the same list." What follows is said of any opener, so that it can be shown which ones the claim
+-- shuts out. Assumes nothing: these are definitions.
 use mathlib.Core.Bool.{true, false}
 use mathlib.Core.List.{List, _∷_, _++_}
 use mathlib.Core.Logic.{_≢_}
@@ -23,7 +23,8 @@ use Rattle.series.specs.Course.{end, Along}
 use Rattle.series.specs.Boxes.{ourBox}
 use Rattle.series.specs.Openers.{Opener}
 
--- An opening is lent what the one before it left in the list, or more: nobody took an entry out. Its challenge has eight octets.
+-- An opening is lent what the one before it left in the list, or more: nobody took an entry out.
+-- Its challenge has eight octets.
 pub record PassedOn (i : Issued) (o : Opening) : Type 0 where
   pub kept : (x : List ℕ) → contains (listed 8 i) x ≡ true → contains (listed 8 (o .issued)) x ≡ true
   pub eight : length (o .challenge) ≡ 8
@@ -43,7 +44,8 @@ module _ (opener : Opener) where
   abbrev pub leftBy : Issued → Opening → Issued
   leftBy i o = opener .leaves o
 
-  -- A run of openings, of any boxes, on one list that nobody empties. What the boxes do between them does not touch the list.
+  -- A run of openings, of any boxes, on one list that nobody empties. What the boxes do between
+  -- them does not touch the list.
   abbrev pub OnOneList : Issued → List Opening → Type 0
   OnOneList i os = Along leftBy PassedOn i os
 
@@ -66,13 +68,14 @@ module _ (opener : Opener) where
   abbrev pub reached : Opening → List StepInput → Conversation
   reached o ss = end (nextAfter ourBox) (opener .answer o .conversation) ss
 
-  -- No challenge that one opening can put in force, its own or a retry's, is ever put in force by another: whatever packets, records and buffers
-  -- the two conversations were lent.
+  -- No challenge that one opening can put in force, its own or a retry's, is ever put in force by
+  -- another: whatever packets, records and buffers the two conversations were lent.
   abbrev pub NoneTwice : Type 0
   NoneTwice =
       (i : Issued) (first second : Opening) → Two i first second → (ss ts : List StepInput) → reached first ss .challenge ≢ reached second ts .challenge
 
-  -- So one recorded answer opens no second box: octets that are a hash's response in one conversation, NT or LM, are not in another.
+  -- So one recorded answer opens no second box: octets that are a hash's response in one
+  -- conversation, NT or LM, are not in another.
   abbrev pub NoneAnsweredTwice : Type 0
   NoneAnsweredTwice =
       (i : Issued) (first second : Opening) → Two i first second → (ss ts : List StepInput) (h : Hash) (response : List ℕ)

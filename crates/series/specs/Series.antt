@@ -31,14 +31,15 @@ use Rattle.series.specs.Writers.{Writer}
 
 -- ---- our peer's packets
 
--- A packet that our peer writes: a "try" from a password, invalid or with the "right password", or the change.
+-- A packet that our peer writes: a "try" from a password, invalid or with the "right password", or
+-- the change.
 pub data Packet : Type 0 where
   invalid : (password name : List ℕ) → Packet
   right : (password name : List ℕ) → Packet
   passwordChange : (old new filler : List ℕ) → Packet
 
--- What is lent with it: our peer's output buffer and padding behind the packet; the step's record or none and its reply buffer; padding
--- behind the reply.
+-- What is lent with it: our peer's output buffer and padding behind the packet; the step's record
+-- or none and its reply buffer; padding behind the reply.
 pub record ExchangeInput : Type 0 where
   pub out : List ℕ
   pub packetPadding : List ℕ
@@ -63,7 +64,8 @@ abbrev pub packetKinds : Step → List PacketKind
 packetKinds (ours t l) = packetKind t ∷ []
 packetKinds (other s) = []
 
--- our peer's packets in their order: "k invalid tries", the right password and, "after 648", the change
+-- our peer's packets in their order: "k invalid tries", the right password and, "after 648", the
+-- change
 abbrev pub plan : ℕ → Bool → List PacketKind
 plan k expired = replicate k Invalid ++ (Right ∷ cond expired (PasswordChange ∷ []) [])
 
@@ -87,11 +89,13 @@ writes w t (invalid p n) out = w .response t p n out
 writes w t (right p n) out = w .response t p n out
 writes w t (passwordChange o n f) out = w .change t o n f out
 
--- "it reaches the box as written": what the writer left in its output buffer, with padding behind it
+-- "it reaches the box as written": what the writer left in its output buffer, with padding behind
+-- it
 abbrev pub reaching : Wrote → ExchangeInput → StepInput
 reaching w l = record { packet = take (w .answer .length) (w .out) ++ l .packetPadding; account = l .account; buffer = l .buffer }
 
--- A packet with what comes of it: what the writer left, the step that takes it, our peer once it wrote, and what reaches our peer.
+-- A packet with what comes of it: what the writer left, the step that takes it, our peer once it
+-- wrote, and what reaches our peer.
 pub record Exchange : Type 0 where
   pub wrote : Wrote
   pub input : StepInput
@@ -165,8 +169,9 @@ module _ (box : Box) (writer : Writer) where
   abbrev pub judgedAt : SeriesState → Step → ℕ
   judgedAt p m = judged box (p .conversation) (inputAt p m)
 
-  -- An invalid try is lent a record for which it is invalid, or none. "The right password is one whose NT hash is the record's", and that record
-  -- is lent. The change is "written with the right password as the old one", and lent any record or none.
+  -- An invalid try is lent a record for which it is invalid, or none. "The right password is one
+  -- whose NT hash is the record's", and that record is lent. The change is "written with the right
+  -- password as the old one", and lent any record or none.
   abbrev pub Meant : Account → SeriesState → Packet → ExchangeInput → Type 0
   Meant a p (invalid w n) l =
       l .account .found ≡ true → validIn (p .conversation) (l .account .account) (readResponse (exchange p (invalid w n) l .input .packet)) ≡ false
@@ -190,8 +195,9 @@ module _ (box : Box) (writer : Writer) where
       → Along (nextAfter box) (Refused box) (opened o .conversation) ss → l .account ≡ found a → TryWithin password name l
       → DrawsSuccess (exchange (later o behind ss) (right password name) l) (o .id)
 
-  -- An invalid try draws 691 with R=1; the right password Success or, expired, 648; the change Success, and a record is handed out that lets the
-  -- new password in. (What a reading calls for is part of it: a retry, a version 2 change.)
+  -- An invalid try draws 691 with R=1; the right password Success or, expired, 648; the change
+  -- Success, and a record is handed out that lets the new password in. (What a reading calls for is
+  -- part of it: a retry, a version 2 change.)
   abbrev pub Answered : Account → ℕ → Packet → Exchange → Type 0
   Answered a id (invalid w n) x = DrawsFailure x id authenticationFailure 1
   Answered a id (right w n) x = cond (a .expired) (DrawsFailure x id passwordExpired 0) (DrawsSuccess x id)
@@ -204,9 +210,9 @@ module _ (box : Box) (writer : Writer) where
   Claimed a p (other s) = Unit {0}
 
   -- "A single claim about the series from opening to end": the Challenge is read; each packet of
-  -- our peer is written and draws what it should; "with k invalid tries the box judges exactly
-  -- k + 1 packets, or k + 2 with the record expired", and the conversation has ended; of any steps
-  -- at all it judges at most r + 2, and a step whose packet it does not judge leaves all as it was. It
+  -- our peer is written and draws what it should; "with k invalid tries the box judges exactly k +
+  -- 1 packets, or k + 2 with the record expired", and the conversation has ended; of any steps at
+  -- all it judges at most r + 2, and a step whose packet it does not judge leaves all as it was. It
   -- holds of our box and writer (proofs/Demand3), and of none of the wrong ones in specs/Boxes and
   -- specs/Writers (proofs/Wrong, WrongRefusals, WrongWriters).
   abbrev pub Demand3 : Type 0

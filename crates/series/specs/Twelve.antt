@@ -1,5 +1,5 @@
--- Document 01's table of twelve: inputs, outputs, what each input gives by the definitions, and the rows.
--- Assumes nothing: these are definitions.
+-- Document 01's table of twelve: inputs, outputs, what each input gives by the definitions, and the
+-- rows. Assumes nothing: these are definitions.
 use mathlib.Core.Bool.{cond}
 use mathlib.Core.List.{List, [], _∷_, _++_}
 use mathlib.Core.Option.{Option, none, some}
@@ -24,8 +24,9 @@ use Rattle.authenticator.specs.declared.Kind.the-variants as kind
 use Rattle.authenticator.specs.declared.Retries.the-variants.{Default}
 use Rattle.authenticator.specs.declared.LmChoice.the-variants.{Silent}
 
--- An identifier or a challenge whose next is asked for; a raw key; an opening with an identifier and a challenge; a Response to a conversation
--- that awaits an identifier, with no record; an opened block; a Failure message.
+-- An identifier or a challenge whose next is asked for; a raw key; an opening with an identifier
+-- and a challenge; a Response to a conversation that awaits an identifier, with no record; an
+-- opened block; a Failure message.
 pub data Input : Type 0 where
   identifier : ℕ → Input
   challenge : List ℕ → Input

@@ -1,8 +1,8 @@
 // Whether a Response is valid, and the reason that it draws.
 //
 // A Response that is not valid takes the same work in whatever way it is not (a wrong response, no
-// record, no hash, LM off), so that the time does not tell an unknown account. Hash and response are
-// chosen without a branch, and one response is made and compared in every case.
+// record, no hash, LM off), so that the time does not tell an unknown account. Hash and response
+// are chosen without a branch, and one response is made and compared in every case.
 ghost use mathlib.Core.Path.{_≡_};
 ghost use mathlib.Core.Bool.{cond, _&&_};
 ghost use Rattle.verify.specs.Response.{foundValid, firstReason, responseReason};
