@@ -1,5 +1,6 @@
 -- Account records (document 01, "How the box judges"): how one is made, what a lookup finds, how
--- one is updated, and which are the rightful user's. Assumes nothing: these are definitions.
+-- one is updated, and which are the rightful user's.
+-- Assumes nothing: these are definitions.
 use mathlib.Core.Bool.{Bool, true, false}
 use mathlib.Core.List.{List}
 use mathlib.Core.Option.{Option, none, some}

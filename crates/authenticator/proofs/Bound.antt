@@ -1,5 +1,6 @@
 -- How many packets a conversation can still judge: each judged packet lowers it, and no step raises
--- it. So of any steps at all the authenticator judges at most r + 2. Assumes nothing.
+-- it. So of any steps at all the authenticator judges at most r + 2.
+-- Assumes nothing.
 use mathlib.Core.Bool.{Bool, true, false, cond, _&&_}
 use mathlib.Core.List.{List}
 use mathlib.Core.Option.{Option, none, some}

@@ -1,5 +1,6 @@
 -- The challenges that a conversation can still put in force, its own and a retry's: no step adds
--- one. Assumes nothing.
+-- one.
+-- Assumes nothing.
 use mathlib.Core.Bool.{Bool, true, false, cond, _||_, _&&_, or-true}
 use mathlib.Core.List.{List}
 use mathlib.Core.Option.{Option, none, some}

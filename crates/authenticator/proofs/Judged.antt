@@ -1,6 +1,7 @@
 -- What a packet that passes the checks draws: an invalid Response, a valid one of a rightful user,
 -- an accepted change. And "No record and an invalid response give the same reply and the same next
--- conversation, octet for octet." Assumes nothing.
+-- conversation, octet for octet."
+-- Assumes nothing.
 use mathlib.Core.Bool.{Bool, true, false, cond}
 use mathlib.Core.List.{List}
 use mathlib.Core.Logic.{_≢_}

@@ -1,6 +1,7 @@
 -- An opening that is not refused: the first conversation, the Challenge at the front of the buffer,
 -- and its challenges in the list, where none of them was. A refused one: an ended conversation of
--- fixed values, and buffer and list as they were. Either leaves true counts true. Assumes nothing.
+-- fixed values, and buffer and list as they were. Either leaves true counts true.
+-- Assumes nothing.
 use mathlib.Core.Bool.{Bool, true, false, cond}
 use mathlib.Core.List.{List, _++_}
 use mathlib.Core.Logic.{_≢_}

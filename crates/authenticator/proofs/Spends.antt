@@ -1,5 +1,6 @@
 -- What an opening spends: entries of 8 octets that differ among themselves, and the octets in which
--- the code lends them. Assumes nothing.
+-- the code lends them.
+-- Assumes nothing.
 use mathlib.Core.Bool.{Bool, true, false, _||_, false≢true}
 use mathlib.Core.List.{List, [], _∷_, _++_, append-nil, flatten}
 use mathlib.Core.Logic.{_≢_}

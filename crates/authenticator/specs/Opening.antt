@@ -1,6 +1,6 @@
 -- The opening of a conversation: it spends its challenge and its successors, which adds them to the
--- list of issued challenges (document 02, request 2026-03), and writes the Challenge. Assumes
--- nothing: these are definitions.
+-- list of issued challenges (document 02, request 2026-03), and writes the Challenge.
+-- Assumes nothing: these are definitions.
 use mathlib.Core.Bool.{Bool, true, false, cond}
 use mathlib.Core.List.{List}
 use mathlib.Core.Path.{_≡_}

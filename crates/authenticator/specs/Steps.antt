@@ -1,5 +1,6 @@
 -- The authenticator's steps, one after the other. Words in quotes are document 01's, "The series in
--- demand 3". Assumes nothing: these are definitions.
+-- demand 3".
+-- Assumes nothing: these are definitions.
 use mathlib.Core.Bool.{Bool, false, cond, not, _||_}
 use mathlib.Core.List.{List}
 use mathlib.Core.Logic.{_≢_, _⊎_}

@@ -1,5 +1,6 @@
 -- The buffer of the last blocks: a copy of the message's end, the octet 128, and the length in its
--- place. Assumes nothing.
+-- place.
+-- Assumes nothing.
 use mathlib.Core.Path.{_≡_, sym, ap, ap₂, _∙_, subst}
 use mathlib.Core.List.{List, _∷_, _++_, append-assoc}
 use Prim.Native.Nat.{ℕ, suc, _+_, _-_, _*_, _/_, _%_, _≤_}

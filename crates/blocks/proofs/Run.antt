@@ -1,5 +1,6 @@
 -- Laws of the run over blocks: a block and then the rest, a run over two parts, and the whole
--- padded message as its whole blocks and its tail. Assumes nothing.
+-- padded message as its whole blocks and its tail.
+-- Assumes nothing.
 use mathlib.Core.Path.{_≡_, sym, ap, ap₂, _∙_}
 use mathlib.Core.List.{List, _∷_, _++_}
 use Prim.Native.Nat.{ℕ, zero, suc, _+_, _-_, _*_, _/_, _≤_, _<_}

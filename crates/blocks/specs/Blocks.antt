@@ -1,7 +1,7 @@
 -- A hash over blocks of 64 octets: the padding and the run over the blocks, for any registers S,
 -- any function of a block and any way to write the length. MD4 is one (RFC 1320, 3.1, 3.2 and 3.4);
--- SHA-1 pads alike and writes the length the other way round. Assumes nothing: these are
--- definitions.
+-- SHA-1 pads alike and writes the length the other way round.
+-- Assumes nothing: these are definitions.
 use mathlib.Core.List.{List, _∷_, _++_}
 use Prim.Native.Nat.{ℕ, zero, suc, _+_, _-_, _*_, _/_, _%_}
 use lib.ListN.{length, take, drop, replicate}

@@ -1,5 +1,6 @@
 -- What stands at a place of a table that is made by a rule, and a test that passes at each entry of
--- a table. Assumes nothing.
+-- a table.
+-- Assumes nothing.
 use mathlib.Core.Path.{_≡_, sym, ap, ap₂, _∙_}
 use mathlib.Core.Bool.{Bool, true, _&&_}
 use mathlib.Core.List.{List, [], _∷_}

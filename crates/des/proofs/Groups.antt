@@ -1,5 +1,6 @@
 -- A linear function by groups of four bits: each group in its place is looked up in a table, and
--- the entries are joined by exclusive or. P and PC-2 are looked up so. Assumes nothing.
+-- the entries are joined by exclusive or. P and PC-2 are looked up so.
+-- Assumes nothing.
 use mathlib.Core.Path.{_≡_, sym, ap, ap₂, _∙_}
 use mathlib.Core.List.{List}
 use Prim.Native.Nat.{ℕ, zero, suc, _+_, _*_, _/_, _%_, _^_, _<_}

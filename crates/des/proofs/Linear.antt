@@ -1,6 +1,7 @@
 -- Linear functions: those that pass through exclusive or. Two of them that agree on the powers of
 -- two below 2 ^ w agree on all numbers below 2 ^ w, so that an equation of such functions is one
--- computed test. Assumes nothing.
+-- computed test.
+-- Assumes nothing.
 use mathlib.Core.Path.{_≡_, refl, sym, ap, ap₂, _∙_}
 use mathlib.Core.Bool.{Bool, true, _&&_}
 use Prim.Native.Nat.{ℕ, zero, suc, _+_, _*_, _/_, _%_, _^_, _<_}

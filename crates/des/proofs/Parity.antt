@@ -1,5 +1,6 @@
 -- The parity bits of a key have no effect on its round keys, and a key that goes without them and
--- back has the same round keys. Assumes nothing.
+-- back has the same round keys.
+-- Assumes nothing.
 use mathlib.Core.Path.{_≡_, refl, sym, ap, ap₂, _∙_, subst}
 use mathlib.Core.List.{List, [], _∷_, map}
 use Prim.Native.Nat.{ℕ, zero, suc, _+_, _*_, _/_, _%_, _^_, _<_}

@@ -1,6 +1,6 @@
 -- The cipher function as the code computes it: each six bits of E(R) stand together in the spread
--- word, and the selection functions' results are joined as the definition joins them. Assumes
--- nothing.
+-- word, and the selection functions' results are joined as the definition joins them.
+-- Assumes nothing.
 use mathlib.Core.Path.{_≡_, sym, ap, ap₂, _∙_}
 use mathlib.Core.List.{[]}
 use Prim.Native.Nat.{ℕ, _+_, _*_, _/_, _%_, _^_, _<_}

@@ -1,5 +1,6 @@
 -- Decryption undoes encryption: for every list of round keys, and so for every key and every block
--- of eight octets. Assumes nothing.
+-- of eight octets.
+-- Assumes nothing.
 use mathlib.Core.Path.{_≡_, ap, ap₂, _∙_, subst}
 use mathlib.Core.List.{List, [], _∷_, reverse, reverseAux}
 use Prim.Native.Nat.{ℕ, _*_, _/_, _%_, _^_, _<_}

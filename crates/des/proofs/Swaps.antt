@@ -1,5 +1,6 @@
 -- The five exchanges of bits that make IP, and the same in the opposite order, which make its
--- inverse. Assumes nothing.
+-- inverse.
+-- Assumes nothing.
 use mathlib.Core.Path.{_≡_}
 use Prim.Native.Nat.{ℕ, _^_, _<_}
 use Rattle.des.specs.Tables.{ip, fp}

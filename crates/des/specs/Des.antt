@@ -1,5 +1,6 @@
 -- DES as FIPS 46-2 defines it. A block of w bits is a number below 2 ^ w whose first bit, bit 1, is
--- the most significant. Assumes nothing: these are definitions.
+-- the most significant.
+-- Assumes nothing: these are definitions.
 use mathlib.Core.List.{List, [], _∷_, _++_, map, reverse}
 use Prim.Native.Nat.{ℕ, _+_, _-_, _*_, _/_, _%_, _^_}
 use lib.ListN.{length, getD}

@@ -1,5 +1,6 @@
 -- What other crates need of MD4: a digest has sixteen octets, and the answer up to 4,096 octets of
--- input and above. Assumes nothing.
+-- input and above.
+-- Assumes nothing.
 use mathlib.Core.Path.{_≡_, refl, ap}
 use mathlib.Core.Bool.{Bool, cond}
 use mathlib.Core.List.{List}

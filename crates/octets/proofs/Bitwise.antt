@@ -1,5 +1,6 @@
 -- Expressions in and, or and exclusive or. Two of them that agree on all binary digits agree on all
--- numbers, so that a law of these operations is one computed test. Assumes nothing.
+-- numbers, so that a law of these operations is one computed test.
+-- Assumes nothing.
 use mathlib.Core.Path.{_≡_, refl, sym, ap₂, _∙_, subst}
 use mathlib.Core.Bool.{Bool, true, false, _&&_}
 use mathlib.Core.List.{List, [], _∷_, map}

@@ -1,5 +1,6 @@
 -- Laws of numbers as digits and as octets, over the width: each reading undoes the writing and each
--- writing the reading. Assumes nothing.
+-- writing the reading.
+-- Assumes nothing.
 use mathlib.Core.Path.{_≡_, refl, sym, ap, ap₂, _∙_, subst}
 use mathlib.Core.List.{List, [], _∷_}
 use Prim.Native.Nat.{ℕ, zero, suc, _+_, _*_, _/_, _%_, _^_, _<_}

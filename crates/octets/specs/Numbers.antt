@@ -1,5 +1,6 @@
 -- Numbers as digits of w bits each, and as octets. "Be" (big-endian) has the most significant octet
--- first, "Le" (little-endian) the least significant. Assumes nothing: these are definitions.
+-- first, "Le" (little-endian) the least significant.
+-- Assumes nothing: these are definitions.
 use mathlib.Core.List.{List, [], _∷_}
 use Prim.Native.Nat.{ℕ, zero, suc, _+_, _*_, _/_, _%_, _^_}
 use lib.ListN.{length}

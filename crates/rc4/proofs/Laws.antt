@@ -1,5 +1,6 @@
 -- The laws of RC4 for other crates to cite: lengths, a second run that undoes the first, a run over
--- two parts, and which keys are taken. Assumes nothing.
+-- two parts, and which keys are taken.
+-- Assumes nothing.
 use mathlib.Core.Path.{_≡_, refl, ap, ap₂}
 use mathlib.Core.Bool.{Bool, true, false, cond, _&&_, and-eq-true-iff}
 use mathlib.Core.List.{List, [], _∷_, _++_}

@@ -1,5 +1,6 @@
 -- One turn of each loop of the code: the identity, the key schedule, the data. The last two share
--- the look-ahead. Assumes nothing.
+-- the look-ahead.
+-- Assumes nothing.
 use mathlib.Core.Path.{_≡_, refl, sym, ap, ap₂, _∙_}
 use mathlib.Core.Bool.{cond}
 use mathlib.Core.List.{List, [], _++_, append-nil}

@@ -1,5 +1,6 @@
 -- RC4 over lists of octets: the key schedule, the keystream, and data under the keystream. No RFC
--- defines RC4; RFC 6229 lists keystreams of it. Assumes nothing: these are definitions.
+-- defines RC4; RFC 6229 lists keystreams of it.
+-- Assumes nothing: these are definitions.
 use mathlib.Core.Bool.{Bool, cond, _&&_}
 use mathlib.Core.List.{List, [], _∷_, _++_}
 use Prim.Native.Nat.{ℕ, zero, suc, _+_, _%_}

@@ -1,5 +1,6 @@
 -- A packet of our peer that draws a reply: what our peer reads, and where box and peer stand
--- afterwards. Assumes nothing.
+-- afterwards.
+-- Assumes nothing.
 use mathlib.Core.Bool.{cond}
 use mathlib.Core.List.{List, _++_}
 use mathlib.Core.Path.{_≡_, sym, ap, ap₂, _∙_}

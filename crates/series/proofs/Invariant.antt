@@ -1,5 +1,6 @@
 -- Courses: one law of a step carries a claim along a whole course, and one law of a step bounds a
--- sum over it. Assumes nothing.
+-- sum over it.
+-- Assumes nothing.
 use mathlib.Core.List.{List, [], _∷_, _++_}
 use mathlib.Core.Path.{_≡_, refl}
 use Prim.Native.Nat.{ℕ, _+_, _≤_}

@@ -1,6 +1,7 @@
 -- A place that is ready for the packets that are due: box and peer agree on identifier and
 -- challenge, and the conversation's phase, retries and kept record are fit for those packets. It is
--- so after an opening, and after each packet that draws what it should. Assumes nothing.
+-- so after an opening, and after each packet that draws what it should.
+-- Assumes nothing.
 use mathlib.Core.Bool.{Bool, true, false, cond}
 use mathlib.Core.List.{List, [], _∷_}
 use mathlib.Core.Path.{_≡_, refl, sym, ap, _∙_}

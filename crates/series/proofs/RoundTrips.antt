@@ -1,5 +1,6 @@
 -- "What our peer writes, our box reads back field for field, and the other way round": over what
--- the writers leave in their buffers, with any padding behind. Assumes nothing.
+-- the writers leave in their buffers, with any padding behind.
+-- Assumes nothing.
 use mathlib.Core.Bool.{true, false}
 use mathlib.Core.List.{List, _∷_, _++_}
 use mathlib.Core.Path.{_≡_, refl, sym, ap, _∙_, subst}

@@ -1,6 +1,7 @@
 -- The premises of the claim about one list can be met: two boxes open on a list of six places, one
 -- with a challenge that begins with E9 and one with another. In the other's place, the first one's
--- challenge, or its successor, is refused with 16. Assumes nothing.
+-- challenge, or its successor, is refused with 16.
+-- Assumes nothing.
 use mathlib.Core.Bool.{Bool, true, false, _&&_, false≢true}
 use mathlib.Core.List.{List, [], _∷_, flatten}
 use mathlib.Core.Path.{_≡_, refl, ap}

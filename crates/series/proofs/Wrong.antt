@@ -1,6 +1,7 @@
 -- Demand 3 holds of no box that is ours but for one slip: refuses everything, 691 always, accepts
 -- always, the change leaves the record, pretends on retries, retries do not fall. So the statement
--- is strong enough to shut them out. Assumes nothing.
+-- is strong enough to shut them out.
+-- Assumes nothing.
 use mathlib.Core.Bool.{Bool, true, false, cond, false≢true}
 use mathlib.Core.List.{List, [], _∷_, _++_}
 use mathlib.Core.Path.{_≡_, refl, sym, ap, _∙_, subst}

@@ -1,6 +1,7 @@
 -- Many boxes on one list (document 02, request 2026-03): "One controller now lends all forty boxes
 -- the same list." What follows is said of any opener, so that it can be shown which ones the claim
--- shuts out. Assumes nothing: these are definitions.
+-- shuts out.
+-- Assumes nothing: these are definitions.
 use mathlib.Core.Bool.{true, false}
 use mathlib.Core.List.{List, _∷_, _++_}
 use mathlib.Core.Logic.{_≢_}

@@ -1,6 +1,6 @@
 -- Our way to open, and wrong ones. The claim about one list (specs/OneList) holds of ours
--- (proofs/OneList) and of none of the others (proofs/WrongOpeners). Assumes nothing: these are
--- definitions.
+-- (proofs/OneList) and of none of the others (proofs/WrongOpeners).
+-- Assumes nothing: these are definitions.
 use mathlib.Core.List.{List}
 use Prim.Native.Nat.{ℕ}
 use lib.ListN.{length}

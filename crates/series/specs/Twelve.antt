@@ -1,5 +1,6 @@
 -- Document 01's table of twelve: inputs, outputs, what each input gives by the definitions, and the
--- rows. Assumes nothing: these are definitions.
+-- rows.
+-- Assumes nothing: these are definitions.
 use mathlib.Core.Bool.{cond}
 use mathlib.Core.List.{List, [], _∷_, _++_}
 use mathlib.Core.Option.{Option, none, some}

@@ -1,5 +1,6 @@
 -- `md4::whole_blocks` meets its contract. The loop's invariant: the blocks that are left, from the
--- registers as they are, give what is asked. Assumes nothing.
+-- registers as they are, give what is asked.
+-- Assumes nothing.
 use mathlib.Core.Path.{_≡_, sym, ap, _∙_}
 use Prim.Native.Nat.{ℕ, _+_, _-_, _/_, _≤_}
 use native.Mathlib.Nat.{sub-zero}

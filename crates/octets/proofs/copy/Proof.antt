@@ -1,5 +1,6 @@
 -- `octets::copy` meets its contract. The loop's invariant: what is copied, and the rest of source
--- laid over the rest of target, is what is asked. Assumes nothing.
+-- laid over the rest of target, is what is asked.
+-- Assumes nothing.
 use mathlib.Core.Path.{_≡_, refl, sym, _∙_}
 use mathlib.Core.List.{_++_}
 use Prim.Native.Nat.{_+_, _-_, _≤_, min}

@@ -1,5 +1,6 @@
 -- `rc4::apply` meets its contract. The loop's invariant: doing the rest from here gives what is
--- asked, and a is the entry that the next turn begins with. Assumes nothing.
+-- asked, and a is the entry that the next turn begins with.
+-- Assumes nothing.
 use mathlib.Core.Path.{ap}
 use Prim.Native.Nat.{ℕ, _+_, _-_, _%_}
 use native.Mathlib.Omega.{arith}

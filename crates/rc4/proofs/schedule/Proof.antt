@@ -1,5 +1,6 @@
 -- `rc4::schedule` meets its contract. The loop's invariant: n rounds are done, and a is the entry
--- that the next begins with; after the last that is entry 0. Assumes nothing.
+-- that the next begins with; after the last that is entry 0.
+-- Assumes nothing.
 use mathlib.Core.Path.{_≡_, sym, ap}
 use mathlib.Core.List.{List}
 use Prim.Native.Nat.{ℕ, _≤_, _-_, _%_}

@@ -1,5 +1,6 @@
 -- `authenticator::Conversation::change` meets its contract: by the new hash that was found, or
--- none. Assumes nothing.
+-- none.
+-- Assumes nothing.
 use borrow.Author.Needs.{needs}
 use mathlib.Core.List.{List}
 use mathlib.Core.Option.{Option}

@@ -1,5 +1,6 @@
 -- `issued::entries::contains` meets its contract. The loop's invariant: the entry stands among
--- those that are left exactly where it stands among all. Assumes nothing.
+-- those that are left exactly where it stands among all.
+-- Assumes nothing.
 use mathlib.Core.Bool.{Bool, true, false, _||_}
 use mathlib.Core.List.{List}
 use mathlib.Core.Path.{_≡_, refl, sym, ap, _∙_}

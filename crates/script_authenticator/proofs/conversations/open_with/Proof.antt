@@ -1,5 +1,6 @@
 -- `script_authenticator::conversations::open_with` meets its contract. What is lent lies within the
--- arrays of the list, by their lengths and what `within` ensures. Assumes nothing.
+-- arrays of the list, by their lengths and what `within` ensures.
+-- Assumes nothing.
 use borrow.Author.Needs.{needs}
 use mathlib.Core.Path.{_≡_}
 use native.Mathlib.Omega.{arith}

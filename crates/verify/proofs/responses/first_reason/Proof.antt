@@ -1,5 +1,6 @@
 -- `verify::responses::first_reason` meets its contract: the choices, from the last to the first,
--- are the definition's. Assumes nothing.
+-- are the definition's.
+-- Assumes nothing.
 use borrow.Author.Needs.{needs}
 use mathlib.Core.Bool.{cond, not}
 use mathlib.Core.Path.{ap, _∙_}
