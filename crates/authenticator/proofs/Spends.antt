@@ -1,5 +1,5 @@
 -- What an opening spends: entries of 8 octets that differ among themselves, and the octets in which
--- the code lends them.
+-- the code passes them.
 -- Assumes nothing.
 use mathlib.Core.Bool.{Bool, true, false, _||_, false≢true}
 use mathlib.Core.List.{List, [], _∷_, _++_, append-nil, flatten}
@@ -72,7 +72,7 @@ challenges-octets (suc n) c x e o h = which (agrees c x) refl (challenges-octets
     which true p next = subst (λ (l : List ℕ). (length l ≡ 8) × Octets l) (agrees-equal c x p) (e, o)
     which false p next = next (sym (ap (λ (t : Bool). t || contains (challengesFrom n (incremented c)) x) p) ∙ h)
 
--- ---- as the code lends them
+-- ---- as the code passes them
 
 -- the first n of n + k, as octets
 challenges-front : (w n k : ℕ) (c : List ℕ) → length c ≡ w → take (w * n) (flatten (challengesFrom (n + k) c)) ≡ flatten (challengesFrom n c)

@@ -21,7 +21,7 @@ use Rattle.authenticator.specs.declared.Conversation.{Conversation}
 use Rattle.authenticator.specs.declared.Phase.the-variants.{Response}
 use Rattle.authenticator.specs.declared.Opened.{Opened}
 
--- what is lent to an opening
+-- what is passed to an opening
 pub record Opening : Type 0 where
   pub id : ℕ
   pub challenge : List ℕ

@@ -20,7 +20,7 @@ pub record StepInput : Type 0 where
   pub account : Lookup
   pub buffer : List ℕ
 
--- What a box makes of a conversation and of what a step is lent; ours is `stepOn`. What follows is
+-- What a box makes of a conversation and of a step's input; ours is `stepOn`. What follows is
 -- said of any box, so that it can be shown which boxes demand 3 shuts out.
 abbrev pub Box : Type 0
 Box = Conversation → StepInput → Outcome

@@ -54,7 +54,7 @@ pub fn is_bad_nt_password(password: &[u8]) -> bool
     LONGEST_NT < password.len() || password.len() % 2 == 1
 }
 
-// A.6, NtPasswordHash(): the password's octets as lent, 0 to 512 of them, an even number; else
+// A.6, NtPasswordHash(): the password's octets as passed, 0 to 512 of them, an even number; else
 // refusal 8.
 pub fn nt_hash(password: &[u8]) -> Hashed
     ensures { λ r. ⌜ r ≡ ntHashed (now (password .entry)) ⌝ }

@@ -27,8 +27,8 @@ use loopback::wrongly_for;
 
 // ---- the challenge
 
-// A second box, on the list that the first was lent: neither its challenge nor the next one, which
-// a retry would answer, can be had again. A refused opening leaves the list as it was.
+// A second box, on the list that the first was passed: neither its challenge nor the next one,
+// which a retry would answer, can be had again. A refused opening leaves the list as it was.
 fn refused_twice(list: Issued) {
     say(
         b"   A second box on the same list, with the same challenge, and with the one that a retry at the first would answer:",
@@ -76,7 +76,7 @@ fn first_on_list(out: &mut [u8]) -> Issued {
     loopback.list
 }
 
-// Boxes on one list, as a controller lends it.
+// Boxes on one list, as a controller passes it.
 fn shared() {
     title(
         b"Slip: one challenge shared by two boxes, so that a Response recorded at the first would open the second. It is refused there.",

@@ -271,7 +271,7 @@ pub fn drop_parity(key: [u8; 8]) -> [u8; 7]
 
 // ---- DES
 
-// A block of 64 bits under a key of seven octets, with the tables lent.
+// A block of 64 bits under a key of seven octets, with the tables passed in.
 fn encrypt_with(
     selections: &[u8; 512],
     places: &[u32; 128],

@@ -1,5 +1,5 @@
-// The tables of DES in the order in which the code reads them. Each is made by a function and lent:
-// a constant would be made again at every indexing.
+// The tables of DES in the order in which the code reads them. Each is made by a function and
+// passed on: a constant would be made again at every indexing.
 ghost use mathlib.Core.Path.{_≡_};
 ghost use Rattle.des.specs.Tables.{pc1, shifts};
 ghost use Rattle.des.specs.Inner.{boxTable, permutationTable, choiceTable};

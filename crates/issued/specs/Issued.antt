@@ -9,7 +9,7 @@ use lib.Dec.{eqb, ltb}
 use lib.ListN.{length, take, drop, replicate, getD}
 use Rattle.octets.specs.Parts.{overAt, agrees}
 
--- What is lent: the buffer, how many of its places are used, and the counts.
+-- What is passed: the buffer, how many of its places are used, and the counts.
 pub record Issued : Type 0 where
   pub buffer : List ℕ
   pub used : ℕ

@@ -1,6 +1,6 @@
-// The list of issued challenges: entries of one width in a lent buffer, and counts of their last
-// octets. An opening spends entries: they are added, unless one of them was issued before. Every
-// public function is total.
+// The list of issued challenges: entries of one width in a caller's buffer, and counts of their
+// last octets. An opening spends entries: they are added, unless one of them was issued before.
+// Every public function is total.
 mod counts;
 mod entries;
 

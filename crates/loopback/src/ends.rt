@@ -146,7 +146,12 @@ fn read(peer: Peer, answer: &[u8]) -> Peer {
 
 // The box takes the packet that the peer wrote, the first octets of out, and answers, and the peer
 // reads the answer.
-pub fn answered(mut loopback: Loopback, wrote: PacketWritten, out: &[u8], lookup: Lookup) -> Loopback {
+pub fn answered(
+    mut loopback: Loopback,
+    wrote: PacketWritten,
+    out: &[u8],
+    lookup: Lookup,
+) -> Loopback {
     let written = wrote.written;
     let mut reply = [0u8; 17];
     let before = loopback.conversation;
@@ -213,7 +218,7 @@ pub fn write_change(loopback: Loopback, out: &mut [u8]) -> PacketWritten {
     peer.write_change(&old, &new, &filler, out)
 }
 
-// The box decides by the record that it kept, so that none is lent.
+// The box decides by the record that it kept, so that none is passed.
 pub fn change(loopback: Loopback) -> Loopback {
     let mut out = [0u8; 1118];
     let wrote = write_change(loopback, &mut out);

@@ -62,7 +62,7 @@ fn octets_of(challenges: usize) -> usize {
     if challenges < 64 { 8 * challenges } else { 512 }
 }
 
-// An opening that was refused, with the challenge that it was lent.
+// An opening that was refused, with the challenge that it was passed.
 pub(crate) fn refused_opening(refusal: u8, challenge: [u8; 8]) {
     put(b"      The box does not open with ");
     say_octets(&challenge);

@@ -69,7 +69,7 @@ over-fills [] (y ∷ l) h = absurd (not-suc-le-zero h)
 over-fills (x ∷ xs) [] h = refl
 over-fills (x ∷ xs) (y ∷ l) h = ap (λ (m : List ℕ). x ∷ m) (over-fills xs l (le-of-suc-le-suc h))
 
--- a copy into k octets of p ++ q that start where q does, lent and handed back: p stays, and so
+-- a copy into k octets of p ++ q that start where q does, passed and handed back: p stays, and so
 -- does what of q the copy does not reach
 pub over-lent : (p q e : List ℕ) (a k : ℕ) → length p ≡ a → length e ≤ k → k ≤ length q
     → take a (p ++ q) ++ (over e (take k (drop a (p ++ q))) ++ drop k (drop a (p ++ q))) ≡ p ++ (e ++ drop (length e) q)
@@ -94,7 +94,7 @@ over-rest at xs l {a} {t} ea et =
     ∙ ap₂ (λ (x y : List ℕ). x ++ over xs y) (take-min at l) (drop-min at l)
 
 -- a buffer that begins with done gets xs behind it, and what lay behind that stays; l is the buffer
--- as it was lent
+-- as it was passed
 pub over-next : (l done xs : List ℕ) {b : List ℕ} → b ≡ done ++ drop (length done) l → length done + length xs ≤ length l
     → overAt (length done) xs b ≡ (done ++ xs) ++ drop (length (done ++ xs)) l
 over-next l done xs {b} e h =

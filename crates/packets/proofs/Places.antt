@@ -116,7 +116,7 @@ module _ (p : List ℕ) where
 
   -- ---- within the packet
 
-  -- a packet that is not refused has a name, and ends within what was lent
+  -- a packet that is not refused has a name, and ends within what was passed
   fit-bounds : isBadResponse p ≡ false → (55 ≤ lengthOf p) × (lengthOf p ≤ length p)
   fit-bounds = by (badFrame p) (not (eqb (octet 0 p) 2)) (ltb (lengthOf p) 55) (ltb 310 (lengthOf p) || not (eqb (octet 4 p) 49)) (badResponseFlag p) refl refl
     where
@@ -135,7 +135,7 @@ module _ (p : List ℕ) where
       by true e = let b = name-bounds in let i = inside e in simp (u, e) (omega arith)
       by false e = let b = fit-bounds u in simp (u, e) (omega arith)
 
-  -- each part lies within what was lent, for every packet, so that a caller may read it there
+  -- each part lies within what was passed, for every packet, so that a caller may read it there
   pub parts-within : (domainPart p .offset + domainPart p .length ≤ length p) × (accountPart p .offset + accountPart p .length ≤ length p)
   unfolding domainPart accountPart
   parts-within = by (isBadResponse p) (isSplit (readName p)) refl refl

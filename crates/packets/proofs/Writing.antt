@@ -1,5 +1,5 @@
 -- What the writers leave: the pieces of a packet, laid one behind the other over the front of the
--- lent buffer, are the packet there. Lengths of the packets.
+-- the caller's buffer, are the packet there. Lengths of the packets.
 -- Assumes nothing.
 use mathlib.Core.Path.{_≡_, refl, sym, ap, _∙_}
 use mathlib.Core.Bool.{Bool, true, false, cond, _||_, false≢true}

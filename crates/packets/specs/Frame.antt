@@ -22,7 +22,7 @@ lengthOf p = fromBe (octet 2 p ∷ octet 3 p ∷ [])
 abbrev pub framed : ℕ → ℕ → List ℕ → List ℕ
 framed code id d = code ∷ id ∷ (toBe 2 (headSize + length d) ++ d)
 
--- refusal 3: under 4 octets, or Length under 4 or over what was lent
+-- refusal 3: under 4 octets, or Length under 4 or over what was passed
 abbrev pub badFrame : List ℕ → Bool
 badFrame p = ltb (length p) headSize || (ltb (lengthOf p) headSize || ltb (length p) (lengthOf p))
 
@@ -34,7 +34,7 @@ badId id p = not (eqb (octet 1 p) id)
 abbrev pub dataOf : List ℕ → List ℕ
 dataOf p = part headSize (lengthOf p - headSize) p
 
--- ---- a packet at the front of a lent buffer
+-- ---- a packet at the front of a caller's buffer
 
 -- the buffer afterwards: the packet and then the octets that lay there before or, with too little
 -- room, all as it was

@@ -22,7 +22,7 @@ pub fn length(packet: &[u8]) -> usize
     octets::u16_from_be(octet(packet, 2), octet(packet, 3)) as usize
 }
 
-// The packet is under 4 octets, or its Length is under 4 or over what was lent.
+// The packet is under 4 octets, or its Length is under 4 or over what was passed.
 pub fn is_bad_frame(packet: &[u8]) -> bool
     ensures { λ r. ⌜ r ≡ badFrame (now (packet .entry)) ⌝ }
 {

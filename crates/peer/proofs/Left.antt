@@ -1,5 +1,5 @@
 -- What our peer's writers leave in their output buffers: where a writer refuses nothing, the packet
--- stands at the front, and what was lent met the rules of its refusals.
+-- stands at the front, and what was passed met the rules of its refusals.
 -- Assumes nothing.
 use mathlib.Core.Bool.{Bool, true, false, cond, _||_}
 use mathlib.Core.List.{List}

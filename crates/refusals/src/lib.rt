@@ -12,7 +12,7 @@
 //      0  none
 //      1  the conversation has ended
 //      2  reply buffer under 17 octets
-//      3  packet under 4 octets, or its Length under 4 or over what was lent
+//      3  packet under 4 octets, or its Length under 4 or over what was passed
 //      4  code is not the awaited one
 //      5  identifier is not the awaited one; for the peer, not that of its last packet
 //      6  Response Length or size wrong; change Length not 1118
@@ -27,7 +27,7 @@
 //     13  r over 7
 //     16  a challenge to be spent is in the list of issued ones
 //     17  too few places are left in that list
-//     24  the lent list is bad: its places, the used ones or its counts
+//     24  the list is bad: its places, the used ones or its counts
 ghost use mathlib.Core.Path.{_≡_};
 ghost use mathlib.Core.Bool.{cond};
 

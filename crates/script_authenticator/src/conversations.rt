@@ -11,8 +11,8 @@ use authenticator::Opened;
 use authenticator::Retries;
 use lists::List;
 
-// The current conversation, the list that is lent with an opening, the record that is lent with a
-// step, and the one that the last step handed out.
+// The current conversation, the list that is passed with an opening, the record that is passed with
+// a step, and the one that the last step handed out.
 pub struct ScriptState {
     conversation: Conversation,
     list: List,
@@ -53,7 +53,7 @@ pub fn new_state() -> ScriptState {
 
 // ---- account and relend
 
-// The record is lent from now on.
+// The record is passed from now on.
 fn lend(record: Lookup, mut state: ScriptState) -> ScriptState {
     state.record = record;
     state
@@ -75,7 +75,7 @@ pub(crate) fn relend(state: ScriptState) -> ScriptState {
 
 // ---- list and places
 
-// The list is lent from now on.
+// The list is passed from now on.
 fn lend_list(list: List, mut state: ScriptState) -> ScriptState {
     state.list = list;
     state

@@ -1,13 +1,13 @@
 // The commands of the box (the authenticator): the name in a Response, the record and the list that
-// are lent, an opening and a step.
+// are passed, an opening and a step.
+mod conversations;
 mod lists;
 mod names;
 mod records;
-mod conversations;
 
-pub use lists::List;
 pub use conversations::ScriptState;
 pub use conversations::new_state;
+pub use lists::List;
 
 // Which of these commands a line has. (In `run` the literal would stand beside values of
 // ScriptState, and the check of a statement grows with what stands beside it.)

@@ -1,8 +1,8 @@
-// The list of issued challenges that is lent with an opening, as it is read and written.
+// The list of issued challenges that is passed with an opening, as it is read and written.
 ghost use Prim.Native.Nat.{_≤_};
 
-// The buffer is the first size octets, and the first number counts are lent with it. What is behind
-// them is 0.
+// The buffer is the first size octets, and the first number counts are passed with it. What is
+// behind them is 0.
 pub struct List {
     pub octets: [u8; 1024],
     pub size: usize,
@@ -11,7 +11,7 @@ pub struct List {
     pub number: usize,
 }
 
-// A length, or the most that it can be: what is lent has to lie within its array.
+// A length, or the most that it can be: what is passed has to lie within its array.
 pub(crate) fn within(length: usize, most: usize) -> usize
     ensures { λ r. ⌜ r ≤ most ⌝ }
 {
@@ -81,7 +81,7 @@ fn put_count(is_first: bool, octet: u8, count: u16) {
     script::put_number(count as u64)
 }
 
-// The counts of the octets, those that are not 0. Where fewer are lent, the others are 0. Answers
+// The counts of the octets, those that are not 0. Where fewer are passed, the others are 0. Answers
 // whether there was none.
 fn put_each(counts: [u16; 512]) -> bool {
     let mut is_first = true;

@@ -1,6 +1,5 @@
--- A sample of what demand 3 speaks of: openings, a record, our peer's packets and what is lent with
--- them. They meet the premises with any box and writer.
--- Assumes nothing.
+-- A sample of what demand 3 speaks of: openings, a record, our peer's packets and what is passed
+-- with them. They meet the premises with any box and writer. Assumes nothing.
 use mathlib.Core.Bool.{Bool, true, false, cond, _&&_, false≢true}
 use mathlib.Core.List.{List, [], _∷_}
 use mathlib.Core.Path.{_≡_, refl}
@@ -125,7 +124,7 @@ new-within l = try-within new (line 55 l) refl (omega arith) (omega arith)
 
 -- at any place, with any box and writer
 module _ (box : Box) (writer : Writer) (p : SeriesState) where
-  -- lent no record, or one with no hash
+  -- passed no record, or one with no hash
   pub bad-allowed : (a : Account) → Allowed box writer a p (badTry notFound)
   bad-allowed a = (try-within bad (line 60 notFound) refl (omega arith) (omega arith), λ e. absurd (false≢true e))
 

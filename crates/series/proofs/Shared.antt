@@ -64,7 +64,7 @@ octets (x ∷ l) h k = which (ltb x 256) refl h k (octets l)
     which true p q (suc k) next = next q k
     which false p q k next = absurd (false≢true q)
 
--- lent the very list that was left
+-- on the very list that was left
 pub input : (o : Opening) → small (o .challenge) ≡ true → length (o .challenge) ≡ 8 → PassedOn (o .issued) o
 input o s e = record { kept = λ x h. h; eight = e; octets = octets (o .challenge) s }
 

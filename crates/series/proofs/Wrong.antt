@@ -213,7 +213,7 @@ not-leaving-record h =
 
 -- ---- retries do not fall
 
--- a Response that is lent no record, with an identifier
+-- a Response with no record, with an identifier
 abbrev pub try : ℕ → StepInput
 try id = record { packet = 2 ∷ id ∷ 0 ∷ 55 ∷ 49 ∷ (replicate 48 0 ++ (1 ∷ 117 ∷ [])); account = notFound; buffer = replicate 17 0 }
 

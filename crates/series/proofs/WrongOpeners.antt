@@ -102,7 +102,7 @@ following-opens : opened (noRetries following) .refusal ≡ 0
 unfolding opened openedIssued openRefusal spendRefusal badBuffer flatten over agrees ending endings contains containsAny challengesFrom
 following-opens = refl
 
--- a Response that is lent no record: it draws 691 with R=1
+-- a Response with no record: it draws 691 with R=1
 abbrev try : StepInput
 try = record { packet = 2 ∷ 7 ∷ 0 ∷ 55 ∷ 49 ∷ (replicate 48 0 ++ (1 ∷ 117 ∷ [])); account = notFound; buffer = replicate 17 0 }
 

@@ -1,5 +1,5 @@
 -- Demand 3 holds of no box that judges as ours does and answers otherwise what ours refuses: lays
--- the reply into the buffer and says that it refused, hands out the record that was lent, changes
+-- the reply into the buffer and says that it refused, hands out the record that was passed, changes
 -- the conversation, ends it unseen, or judges the packet after all.
 -- Assumes nothing.
 use mathlib.Core.Bool.{true, false, cond, true≢false}
@@ -65,7 +65,7 @@ not-laying-replies h =
 left-by : (box : Box) → Demand3 box ourWriter → (s : StepInput) → Leaves box first s
 left-by box h s = subst (λ (c : Conversation). Leaves box c s) first-once (h (opening (Count 1)) opens-once refl .2 (s ∷ []) .1 .0)
 
--- a stray packet that is lent a record
+-- a stray packet with a record
 abbrev lentRecord : StepInput
 lentRecord = record { packet = stray .packet; account = found (account true); buffer = stray .buffer }
 

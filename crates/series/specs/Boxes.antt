@@ -75,7 +75,7 @@ laysReply c s =
       buffer = writtenOver (replyPacket (c .id) (judge c (s .packet) (s .account) .reply)) (s .buffer);
     }
 
--- hands out the record that was lent
+-- hands out the record that was passed
 abbrev pub handsOutRecord : Box
 handsOutRecord c s =
     record {

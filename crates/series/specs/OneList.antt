@@ -24,14 +24,14 @@ use Rattle.series.specs.Course.{end, Along}
 use Rattle.series.specs.Boxes.{ourBox}
 use Rattle.series.specs.Openers.{Opener}
 
--- An opening is lent what the one before it left in the list, or more: nobody took an entry out.
+-- An opening gets what the one before it left in the list, or more: nobody took an entry out.
 -- Its challenge has eight octets.
 pub record PassedOn (i : Issued) (o : Opening) : Type 0 where
   pub kept : (x : List ℕ) → contains (listed 8 i) x ≡ true → contains (listed 8 (o .issued)) x ≡ true
   pub eight : length (o .challenge) ≡ 8
   pub octets : (k : ℕ) → getD (o .challenge) k 0 < 256
 
--- what is lent to an opening meets none of 13, 2, 24, 16 and 17
+-- what is passed to an opening meets none of 13, 2, 24, 16 and 17
 pub record Openable (o : Opening) : Type 0 where
   pub eight : length (o .challenge) ≡ 8
   pub not13 : retriesOf (o .retries) ≤ 7
@@ -70,7 +70,7 @@ module _ (opener : Opener) where
   reached o ss = end (nextAfter ourBox) (opener .answer o .conversation) ss
 
   -- No challenge that one opening can put in force, its own or a retry's, is ever put in force by
-  -- another: whatever packets, records and buffers the two conversations were lent.
+  -- another: whatever packets, records and buffers the two conversations were passed.
   abbrev pub NoneTwice : Type 0
   NoneTwice =
       (i : Issued) (first second : Opening) → Two i first second → (ss ts : List StepInput) → reached first ss .challenge ≢ reached second ts .challenge

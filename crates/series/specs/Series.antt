@@ -38,7 +38,7 @@ pub data Packet : Type 0 where
   right : (password name : List ℕ) → Packet
   passwordChange : (old new filler : List ℕ) → Packet
 
--- What is lent with it: our peer's output buffer and padding behind the packet; the step's record
+-- What is passed with it: our peer's output buffer and padding behind the packet; the step's record
 -- or none and its reply buffer; padding behind the reply.
 pub record ExchangeInput : Type 0 where
   pub out : List ℕ
@@ -106,8 +106,8 @@ pub record Exchange : Type 0 where
 -- ---- the premises
 
 -- "The limits are kept when our peer's calls and the steps that take its packets meet none of 2, 8,
--- 9, 10 and 12." They are said of what is lent, by the rules of these refusals, and not of what box
--- or writer answers: so neither gets out of the claim by refusing.
+-- 9, 10 and 12." They are said of what is passed, by the rules of these refusals, and not of what
+-- box or writer answers: so neither gets out of the claim by refusing.
 pub record TryWithin (password name : List ℕ) (l : ExchangeInput) : Type 0 where
   pub not8 : badNtPassword password ≡ false
   pub not10 : badName name ≡ false
@@ -161,7 +161,7 @@ module _ (box : Box) (writer : Writer) where
       record { conversation = exchange p t l .outcome .answer .next; peer = afterReply (exchange p t l .peer) (exchange p t l .reply) }
   next p (other s) = record { conversation = nextAfter box (p .conversation) s; peer = p .peer }
 
-  -- what a step is lent, and whether its packet is judged
+  -- a step's input, and whether its packet is judged
   abbrev pub inputAt : SeriesState → Step → StepInput
   inputAt p (ours t l) = exchange p t l .input
   inputAt p (other s) = s
@@ -169,9 +169,9 @@ module _ (box : Box) (writer : Writer) where
   abbrev pub judgedAt : SeriesState → Step → ℕ
   judgedAt p m = judged box (p .conversation) (inputAt p m)
 
-  -- An invalid try is lent a record for which it is invalid, or none. "The right password is one
-  -- whose NT hash is the record's", and that record is lent. The change is "written with the right
-  -- password as the old one", and lent any record or none.
+  -- An invalid try comes with a record for which it is invalid, or none. "The right password is one
+  -- whose NT hash is the record's", and that record is passed. The change is "written with the
+  -- right password as the old one", and passed with any record or none.
   abbrev pub Meant : Account → SeriesState → Packet → ExchangeInput → Type 0
   Meant a p (invalid w n) l =
       l .account .found ≡ true → validIn (p .conversation) (l .account .account) (readResponse (exchange p (invalid w n) l .input .packet)) ≡ false

@@ -45,7 +45,7 @@ pub data Output : Type 0 where
   password : Option ℕ → Output
   fields : ℕ → ℕ → Option (List ℕ) → ℕ → Output
 
--- lent an empty list with a place for each of its three challenges
+-- on an empty list with a place for each of its three challenges
 abbrev openingOf : ℕ → List ℕ → Opening
 openingOf id c =
     record { id = id; challenge = c; retries = Default; lm = Silent; issued = emptyList 8 3; buffer = replicate 17 0 }

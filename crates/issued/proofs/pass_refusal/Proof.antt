@@ -18,7 +18,7 @@ use Rattle.issued.proofs.Spending.{GoodList, sound, places-fit}
 use Rattle.issued.proofs.pass_refusal.Statement.{statement}
 use Rattle.issued.proofs.pass_refusal.Tie as tie
 
--- ---- what is lent
+-- ---- what is passed
 
 abbrev given : tie.Start → Issued
 given c = record { buffer = c .args .buffer .now; used = c .args .used; counts = c .args .counts .now }

@@ -1,5 +1,5 @@
--- `script_authenticator::conversations::open_with` meets its contract. What is lent lies within the
--- arrays of the list, by their lengths and what `within` ensures.
+-- `script_authenticator::conversations::open_with` meets its contract. What is passed lies within
+-- the arrays of the list, by their lengths and what `within` ensures.
 -- Assumes nothing.
 use borrow.Author.Needs.{needs}
 use mathlib.Core.Path.{_≡_}
