@@ -1,5 +1,6 @@
 -- A sample of what demand 3 speaks of: openings, a record, our peer's packets and what is passed
--- with them. They meet the premises with any box and writer. Assumes nothing.
+-- with them. They meet the premises with any box and writer.
+-- Assumes nothing.
 use mathlib.Core.Bool.{Bool, true, false, cond, _&&_, false≢true}
 use mathlib.Core.List.{List, [], _∷_}
 use mathlib.Core.Path.{_≡_, refl}

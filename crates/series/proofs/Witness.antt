@@ -1,7 +1,8 @@
 -- The premises of demand 3 can be met: identifier 255, a challenge that begins with E9, r = 1, LM
 -- disallowed, an expired record, one invalid try (with a record that has no hash), the right
 -- password and the change, each with padding, and refused steps before, between and behind them;
--- and a later conversation. Assumes nothing.
+-- and a later conversation.
+-- Assumes nothing.
 use mathlib.Core.Bool.{Bool, true, false, cond}
 use mathlib.Core.List.{List, [], _∷_}
 use mathlib.Core.Logic.{inr}
