@@ -1,14 +1,15 @@
 // The layout of a conversation.
-use crate::buffers::fill;
 use crate::layouts::records::ACCOUNT_SIZE;
 use crate::layouts::records::decode_account;
 use crate::layouts::records::encode_account;
 use crate::layouts::records::is_flag;
 use crate::layouts::room::Room;
 use crate::layouts::room::empty_room;
+use crate::layouts::room::is_front;
 use crate::layouts::room::put_byte;
 use crate::layouts::room::put_eight;
 use crate::layouts::room::put_flag;
+use crate::layouts::room::put_front;
 use authenticator::Conversation;
 use authenticator::Phase;
 use verify::Terms;
@@ -81,9 +82,11 @@ pub(crate) fn decode_conversation(bytes: &[u8]) -> Conversation
 pub(crate) fn is_encoded_conversation(bytes: &[u8]) -> bool
     ensures { λ r. ⌜ r ≡ isEncodedConversation (now (bytes .entry)) ⌝ }
 {
-    let conversation = decode_conversation(bytes);
-    let encoding = encode_conversation(conversation).bytes;
-    octets::agree(octets::part_of(&encoding, 0, CONVERSATION_SIZE), bytes)
+    is_front(
+        encode_conversation(decode_conversation(bytes)),
+        CONVERSATION_SIZE,
+        bytes,
+    )
 }
 
 // Fills out with the encoding of a conversation, unless there is a refusal.
@@ -91,10 +94,10 @@ pub(crate) fn put_conversation(refusal: u8, conversation: Conversation, out: &mu
     ensures { λ r. ⌜ Fills (sized conversationSize (now (out .entry))) refusal
         (encodeConversation conversation) (now (out .entry)) r (now (out .exit)) ⌝ }
 {
-    let encoding = encode_conversation(conversation).bytes;
-    fill(
+    put_front(
         refusal,
-        octets::part_of(&encoding, 0, CONVERSATION_SIZE),
+        encode_conversation(conversation),
+        CONVERSATION_SIZE,
         out,
     )
 }

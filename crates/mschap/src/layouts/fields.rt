@@ -1,10 +1,10 @@
 // The layout of what a reply says.
-use crate::buffers::fill;
 use crate::layouts::room::Room;
 use crate::layouts::room::empty_room;
 use crate::layouts::room::put_byte;
 use crate::layouts::room::put_eight;
 use crate::layouts::room::put_flag;
+use crate::layouts::room::put_front;
 use message::Call;
 use message::Failed;
 use message::Reading;
@@ -80,6 +80,5 @@ pub(crate) fn put_fields(refusal: u8, reading: Reading, out: &mut [u8]) -> u32
     ensures { λ r. ⌜ Fills (sized fieldsSize (now (out .entry))) refusal (encodeReading reading)
         (now (out .entry)) r (now (out .exit)) ⌝ }
 {
-    let encoding = encode_reading(reading).bytes;
-    fill(refusal, octets::part_of(&encoding, 0, FIELDS_SIZE), out)
+    put_front(refusal, encode_reading(reading), FIELDS_SIZE, out)
 }

@@ -1,11 +1,12 @@
 // The layout of a peer.
-use crate::buffers::fill;
 use crate::layouts::records::is_flag;
 use crate::layouts::room::Room;
 use crate::layouts::room::empty_room;
+use crate::layouts::room::is_front;
 use crate::layouts::room::put_byte;
 use crate::layouts::room::put_eight;
 use crate::layouts::room::put_flag;
+use crate::layouts::room::put_front;
 use peer::Peer;
 use peer::Sent;
 use peer::Turn;
@@ -64,9 +65,7 @@ pub(crate) fn decode_peer(bytes: &[u8]) -> Peer
 pub(crate) fn is_encoded_peer(bytes: &[u8]) -> bool
     ensures { λ r. ⌜ r ≡ isEncodedPeer (now (bytes .entry)) ⌝ }
 {
-    let peer = decode_peer(bytes);
-    let encoding = encode_peer(peer).bytes;
-    octets::agree(octets::part_of(&encoding, 0, PEER_SIZE), bytes)
+    is_front(encode_peer(decode_peer(bytes)), PEER_SIZE, bytes)
 }
 
 // Fills out with the encoding of a peer, unless there is a refusal.
@@ -74,6 +73,5 @@ pub(crate) fn put_peer(refusal: u8, peer: Peer, out: &mut [u8]) -> u32
     ensures { λ r. ⌜ Fills (sized peerSize (now (out .entry))) refusal (encodePeer peer)
         (now (out .entry)) r (now (out .exit)) ⌝ }
 {
-    let encoding = encode_peer(peer).bytes;
-    fill(refusal, octets::part_of(&encoding, 0, PEER_SIZE), out)
+    put_front(refusal, encode_peer(peer), PEER_SIZE, out)
 }

@@ -1,8 +1,9 @@
 // The layout of an account and of a record, which is what a lookup found.
-use crate::buffers::fill;
 use crate::layouts::room::Room;
 use crate::layouts::room::empty_room;
+use crate::layouts::room::is_front;
 use crate::layouts::room::put_flag;
+use crate::layouts::room::put_front;
 use crate::layouts::room::put_sixteen;
 use accounts::Account;
 use accounts::Hash;
@@ -116,9 +117,7 @@ pub(crate) fn decode_record(bytes: &[u8]) -> Lookup
 pub(crate) fn is_encoded_record(bytes: &[u8]) -> bool
     ensures { λ r. ⌜ r ≡ isEncodedRecord (now (bytes .entry)) ⌝ }
 {
-    let lookup = decode_record(bytes);
-    let encoding = encode_record(lookup).bytes;
-    octets::agree(octets::part_of(&encoding, 0, RECORD_SIZE), bytes)
+    is_front(encode_record(decode_record(bytes)), RECORD_SIZE, bytes)
 }
 
 // Fills out with the encoding of a record, unless there is a refusal.
@@ -126,6 +125,5 @@ pub(crate) fn put_record(refusal: u8, lookup: Lookup, out: &mut [u8]) -> u32
     ensures { λ r. ⌜ Fills (sized recordSize (now (out .entry))) refusal (encodeRecord lookup)
         (now (out .entry)) r (now (out .exit)) ⌝ }
 {
-    let encoding = encode_record(lookup).bytes;
-    fill(refusal, octets::part_of(&encoding, 0, RECORD_SIZE), out)
+    put_front(refusal, encode_record(lookup), RECORD_SIZE, out)
 }

@@ -18,19 +18,17 @@ sized c =
 returns : tie.Need-returns
 returns c =
     let put = c .before .before in
-    let taken = put .before .before in
-    let encoded = taken .before .before .before in
+    let encoded = put .before .before in
     let start = encoded .before .before in
     let v = start .args .conversation in
     let long = length-conversation v (sized start) in
     let value =
     front 50 (encodeConversation v) long (omega arith) (encoded .encode-conversation .ensures)
-    (taken .part-of .ensures) in
-    filled-with (ap length value ∙ long) value refl (put .fill .ensures)
+    refl in
+    filled-with (ap length value ∙ long) value refl (put .put-front .ensures)
 
 pub put-conversation-spec : {M : Type 1} → statement M
 put-conversation-spec =
     tie.close
     (tie.spec
-    (λ c κs. search needs) (λ c. search needs) (λ c κs. search needs) (λ c κs. search needs)
-    (λ c. search needs) returns)
+    (λ c κs. search needs) (λ c κs. search needs) (λ c. search needs) returns)

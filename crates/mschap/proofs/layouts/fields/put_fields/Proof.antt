@@ -17,19 +17,16 @@ eight c = search needs
 returns : tie.Need-returns
 returns c =
     let put = c .before .before in
-    let taken = put .before .before in
-    let encoded = taken .before .before .before in
+    let encoded = put .before .before in
     let start = encoded .before .before in
     let v = start .args .reading in
     let long = length-reading v (eight start) in
     let value =
-    front 35 (encodeReading v) long (omega arith) (encoded .encode-reading .ensures)
-    (taken .part-of .ensures) in
-    filled-with (ap length value ∙ long) value refl (put .fill .ensures)
+    front 35 (encodeReading v) long (omega arith) (encoded .encode-reading .ensures) refl in
+    filled-with (ap length value ∙ long) value refl (put .put-front .ensures)
 
 pub put-fields-spec : {M : Type 1} → statement M
 put-fields-spec =
     tie.close
     (tie.spec
-    (λ c κs. search needs) (λ c. search needs) (λ c κs. search needs) (λ c κs. search needs)
-    (λ c. search needs) returns)
+    (λ c κs. search needs) (λ c κs. search needs) (λ c. search needs) returns)

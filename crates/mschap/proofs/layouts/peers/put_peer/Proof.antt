@@ -17,19 +17,15 @@ sized c = record { sent = search needs; turn = search needs }
 returns : tie.Need-returns
 returns c =
     let put = c .before .before in
-    let taken = put .before .before in
-    let encoded = taken .before .before .before in
+    let encoded = put .before .before in
     let start = encoded .before .before in
     let v = start .args .peer in
     let long = length-peer v (sized start) in
-    let value =
-    front 19 (encodePeer v) long (omega arith) (encoded .encode-peer .ensures)
-    (taken .part-of .ensures) in
-    filled-with (ap length value ∙ long) value refl (put .fill .ensures)
+    let value = front 19 (encodePeer v) long (omega arith) (encoded .encode-peer .ensures) refl in
+    filled-with (ap length value ∙ long) value refl (put .put-front .ensures)
 
 pub put-peer-spec : {M : Type 1} → statement M
 put-peer-spec =
     tie.close
     (tie.spec
-    (λ c κs. search needs) (λ c. search needs) (λ c κs. search needs) (λ c κs. search needs)
-    (λ c. search needs) returns)
+    (λ c κs. search needs) (λ c κs. search needs) (λ c. search needs) returns)

@@ -1,6 +1,6 @@
 -- `mschap::layouts::records::is_encoded_record` meets its contract.
 -- Assumes nothing.
-use mathlib.Core.Path.{ap, _∙_}
+use mathlib.Core.Path.{refl, ap, _∙_}
 use mathlib.Core.List.{List}
 use Prim.Native.Nat.{ℕ}
 use native.Mathlib.Omega.{arith}
@@ -17,22 +17,20 @@ use Rattle.mschap.proofs.layouts.records.is_encoded_record.Tie as tie
 returns : tie.Need-returns
 unfolding isEncodedRecord
 returns c =
-    let taken = c .before in
-    let encoded = taken .before .before .before in
+    let encoded = c .before in
     let decoded = encoded .before in
     let bytes = decoded .before .before .args .bytes .now in
     let v = decodeRecord bytes in
+    let long = length-record v (decoded-record-sized bytes) in
     let room =
     encoded .encode-record .ensures
-    ∙ ap (λ (u : Lookup). inRoom (encodeRecord u)) (decoded .decode-record .ensures) in
-    let value =
-    front 39 (encodeRecord v) (length-record v (decoded-record-sized bytes)) (omega arith) room
-    (taken .part-of .ensures) in
-    c .agree .ensures ∙ ap (λ (l : List ℕ). agrees l bytes) value
+    ∙ ap (λ (u : Lookup). inRoom (encodeRecord u))
+    (decoded .decode-record .ensures) in
+    let value = front 39 (encodeRecord v) long (omega arith) room refl in
+    c .is-front .ensures ∙ ap (λ (l : List ℕ). agrees l bytes) value
 
 pub is-encoded-record-spec : {M : Type 1} → statement M
 is-encoded-record-spec =
     tie.close
     (tie.spec
-    (λ c κs. search needs) (λ c κs. search needs) (λ c. search needs) (λ c κs. search needs)
-    (λ c κs. search needs) returns)
+    (λ c κs. search needs) (λ c κs. search needs) (λ c κs. search needs) returns)

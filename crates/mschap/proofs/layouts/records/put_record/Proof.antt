@@ -17,19 +17,16 @@ sized c = record { nt = search needs; lm = search needs }
 returns : tie.Need-returns
 returns c =
     let put = c .before .before in
-    let taken = put .before .before in
-    let encoded = taken .before .before .before in
+    let encoded = put .before .before in
     let start = encoded .before .before in
     let v = start .args .lookup in
     let long = length-record v (sized start) in
     let value =
-    front 39 (encodeRecord v) long (omega arith) (encoded .encode-record .ensures)
-    (taken .part-of .ensures) in
-    filled-with (ap length value ∙ long) value refl (put .fill .ensures)
+    front 39 (encodeRecord v) long (omega arith) (encoded .encode-record .ensures) refl in
+    filled-with (ap length value ∙ long) value refl (put .put-front .ensures)
 
 pub put-record-spec : {M : Type 1} → statement M
 put-record-spec =
     tie.close
     (tie.spec
-    (λ c κs. search needs) (λ c. search needs) (λ c κs. search needs) (λ c κs. search needs)
-    (λ c. search needs) returns)
+    (λ c κs. search needs) (λ c κs. search needs) (λ c. search needs) returns)
