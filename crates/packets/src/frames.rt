@@ -1,8 +1,6 @@
 // The frame of every packet: code, identifier, Length, data.
 use crate::sizes::HEAD_SIZE;
-use refusals::refuse_if;
 ghost use mathlib.Core.Path.{_≡_};
-ghost use mathlib.Core.Bool.{cond};
 ghost use mathlib.Core.List.{_∷_};
 ghost use Prim.Native.Nat.{_-_};
 ghost use Rattle.octets.specs.Numbers.{toBe};
@@ -35,13 +33,6 @@ pub fn is_bad_id(id: u8, packet: &[u8]) -> bool
     ensures { λ r. ⌜ r ≡ badId id (now (packet .entry)) ⌝ }
 {
     octet(packet, 1) != id
-}
-
-// Refusal 3, or 0.
-pub fn frame_refusal(packet: &[u8]) -> u8
-    ensures { λ r. ⌜ r ≡ cond (badFrame (now (packet .entry))) 3 0 ⌝ }
-{
-    refuse_if(is_bad_frame(packet), 3, 0)
 }
 
 // What Length leaves behind the first `front` octets.

@@ -9,7 +9,6 @@ mod sizes;
 pub use changes::change_refusal;
 pub use changes::read_change;
 pub use changes::write_change;
-pub use frames::frame_refusal;
 pub use frames::is_bad_frame;
 pub use frames::is_bad_id;
 pub use frames::length;

@@ -13,6 +13,7 @@ use message::Reading;
 use packets::CHALLENGE_SIZE;
 use packets::ChallengeFields;
 use packets::Written;
+use refusals::refuse_if;
 ghost use mathlib.Core.Bool.{cond};
 ghost use mathlib.Core.List.{[]};
 ghost use mathlib.Core.Path.{_≡_};
@@ -38,11 +39,7 @@ fn after_challenge(read: ChallengeFields) -> Peer
 fn refusal_before(packet: &[u8]) -> u8
     ensures { λ r. ⌜ r ≡ cond (badFrame (now (packet .entry))) 3 5 ⌝ }
 {
-    if packets::frame_refusal(packet) == 3 {
-        3
-    } else {
-        5
-    }
+    refuse_if(packets::is_bad_frame(packet), 3, 5)
 }
 
 // What a packet says as the reply to the last one that was sent; where none was, no packet has its
