@@ -25,7 +25,14 @@ isEnded Ended = true
 -- every successor keeps the terms
 abbrev pub successor : Conversation → ℕ → List ℕ → ℕ → Phase → Account → Conversation
 successor c id challenge retries phase kept =
-    record { terms = c .terms; id = id; challenge = challenge; retries = retries; phase = phase; kept = kept }
+    record {
+      terms = c .terms;
+      id = id;
+      challenge = challenge;
+      retries = retries;
+      phase = phase;
+      kept = kept;
+    }
 
 -- the end: the kept record is dropped
 abbrev pub ended : Conversation → Conversation
@@ -33,7 +40,8 @@ ended c = successor c (c .id) (c .challenge) (c .retries) Ended blankAccount
 
 -- another Response is awaited
 abbrev pub retried : Conversation → Conversation
-retried c = successor c (nextId (c .id)) (incremented (c .challenge)) (c .retries - 1) (c .phase) (c .kept)
+retried c = successor c (nextId (c .id)) (incremented (c .challenge)) (c .retries - 1) (c .phase)
+    (c .kept)
 
 -- a change is awaited, and the record is kept; the challenge stays
 abbrev pub awaitingChange : Conversation → Account → Conversation
@@ -42,4 +50,11 @@ awaitingChange c a = successor c (nextId (c .id)) (c .challenge) (c .retries) Ch
 -- what a refused opening hands out
 abbrev pub closed : Conversation
 closed =
-    record { terms = record { lm = false }; id = 0; challenge = replicate 8 0; retries = 0; phase = Ended; kept = blankAccount }
+    record {
+      terms = record { lm = false };
+      id = 0;
+      challenge = replicate 8 0;
+      retries = 0;
+      phase = Ended;
+      kept = blankAccount;
+    }

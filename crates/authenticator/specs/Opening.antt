@@ -47,7 +47,8 @@ spends o = challengesFrom (suc (retriesOf (o .retries))) (o .challenge)
 
 -- 13, 2, and then 24, 16, 17 of the list, whose entries have 8 octets; 0 is none
 unfoldable pub openRefusal : Opening → ℕ
-openRefusal o = cond (ltb 7 (retriesOf (o .retries))) 13 (cond (badReplyBuffer (o .buffer)) 2 (spendRefusal 8 (spends o) (o .issued)))
+openRefusal o = cond (ltb 7 (retriesOf (o .retries))) 13
+    (cond (badReplyBuffer (o .buffer)) 2 (spendRefusal 8 (spends o) (o .issued)))
 
 -- the list afterwards: "all are added", or it is as it was
 unfoldable pub openedIssued : Opening → Issued
@@ -71,14 +72,20 @@ openingPacket o = challengePacket (o .id) (o .challenge)
 abbrev pub openedBy : ℕ → Opening → Opened
 openedBy n o =
     cond (eqb n 0)
-    (record { refusal = 0; conversation = firstConversation o; written = length (openingPacket o); used = openedIssued o .used })
+    (record {
+      refusal = 0;
+      conversation = firstConversation o;
+      written = length (openingPacket o);
+      used = openedIssued o .used;
+    })
     (record { refusal = n; conversation = closed; written = 0; used = o .issued .used })
 
 unfoldable pub opened : Opening → Opened
 opened o = openedBy (openRefusal o) o
 
 unfoldable pub openedBuffer : Opening → List ℕ
-openedBuffer o = cond (eqb (openRefusal o) 0) (writtenOver (openingPacket o) (o .buffer)) (o .buffer)
+openedBuffer o = cond (eqb (openRefusal o) 0) (writtenOver (openingPacket o) (o .buffer))
+    (o .buffer)
 
 -- what an opening answers (r), and leaves in the list and in the reply buffer
 pub record OpenedAs (o : Opening) (r : Opened) (issued : Issued) (buffer : List ℕ) : Type 0 where

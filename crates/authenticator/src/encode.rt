@@ -27,7 +27,8 @@ fn retry_digit(retry: bool) -> u8
 
 // Writes a reply to the packet with an identifier, and answers how many octets it takes.
 pub(crate) fn write_reply(id: u8, reply: Reply, out: &mut [u8]) -> usize
-    ensures { λ r. ⌜ (r ≡ writtenLength (replyPacket id reply) (now (out .entry))) × (now (out .exit) ≡ writtenOver (replyPacket id reply) (now (out .entry))) ⌝ }
+    ensures { λ r. ⌜ (r ≡ writtenLength (replyPacket id reply) (now (out .entry)))
+        × (now (out .exit) ≡ writtenOver (replyPacket id reply) (now (out .entry))) ⌝ }
 {
     match reply {
         Reply::Success => packets::write_success(id, out),

@@ -93,7 +93,12 @@ impl Conversation {
     // One step: a packet is refused, and conversation and buffer stay as they were, or it is judged
     // and draws a reply.
     pub fn step(self, packet: &[u8], lookup: Lookup, reply: &mut [u8]) -> Answer
-        ensures { λ r. ⌜ (r ≡ step self (now (packet .entry)) lookup (now (reply .entry)) .answer) × (now (reply .exit) ≡ step self (now (packet .entry)) lookup (now (reply .entry)) .buffer) × (refusalIn (r .kind) ≡ stepRefusal self (now (packet .entry)) (now (reply .entry))) × (reasonIn (r .kind) ≡ stepReason self (now (packet .entry)) lookup (now (reply .entry))) ⌝ }
+        ensures { λ r. ⌜ (r ≡ step self (now (packet .entry)) lookup (now (reply .entry)) .answer)
+            × (now (reply .exit)
+            ≡ step self (now (packet .entry)) lookup (now (reply .entry)) .buffer)
+            × (refusalIn (r .kind) ≡ stepRefusal self (now (packet .entry)) (now (reply .entry)))
+            × (reasonIn (r .kind)
+            ≡ stepReason self (now (packet .entry)) lookup (now (reply .entry))) ⌝ }
     {
         let refusal = self.refusal(packet, reply);
         if refusal != 0 {

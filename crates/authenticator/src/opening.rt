@@ -35,7 +35,12 @@ fn is_lm_allowed(lm: LmChoice) -> bool
 }
 
 fn refused_opening(refusal: u8, used: usize) -> Opened
-    ensures { λ r. ⌜ r ≡ record { refusal = refusal; conversation = closed; written = 0; used = used } ⌝ }
+    ensures { λ r. ⌜ r ≡ record {
+      refusal = refusal;
+      conversation = closed;
+      written = 0;
+      used = used;
+    } ⌝ }
 {
     let conversation = closed_conversation();
     Opened {
@@ -49,7 +54,11 @@ fn refused_opening(refusal: u8, used: usize) -> Opened
 // Spends the challenge and its r successors: refusals 24, 16 and 17.
 fn spend(challenge: [u8; 8], r: u8, list: &mut [u8], used: usize, counts: &mut [u16]) -> Spent
     requires { ⌜ r ≤ 7 ⌝ }
-    ensures { λ s. ⌜ (s .refusal ≡ spendRefusal 8 (challengesFrom (suc r) challenge) (record { buffer = now (list .entry); used = used; counts = now (counts .entry) })) × (record { buffer = now (list .exit); used = s .used; counts = now (counts .exit) } ≡ spent 8 (challengesFrom (suc r) challenge) (record { buffer = now (list .entry); used = used; counts = now (counts .entry) })) ⌝ }
+    ensures { λ s. ⌜ (s .refusal ≡ spendRefusal 8 (challengesFrom (suc r) challenge)
+        (record { buffer = now (list .entry); used = used; counts = now (counts .entry) }))
+        × (record { buffer = now (list .exit); used = s .used; counts = now (counts .exit) }
+        ≡ spent 8 (challengesFrom (suc r) challenge)
+        (record { buffer = now (list .entry); used = used; counts = now (counts .entry) })) ⌝ }
 {
     let run = challenges::challenges_from(challenge);
     let n = 8 * (r as usize + 1);
@@ -72,7 +81,20 @@ impl Conversation {
         counts: &mut [u16],
         reply: &mut [u8],
     ) -> Opened
-        ensures { λ r. ⌜ OpenedAs (record { id = id; challenge = challenge; retries = retries; lm = lm; issued = record { buffer = now (list .entry); used = used; counts = now (counts .entry) }; buffer = now (reply .entry) }) r (record { buffer = now (list .exit); used = r .used; counts = now (counts .exit) }) (now (reply .exit)) ⌝ }
+        ensures { λ r. ⌜ OpenedAs (record {
+          id = id;
+          challenge = challenge;
+          retries = retries;
+          lm = lm;
+          issued = record {
+            buffer = now (list .entry);
+            used = used;
+            counts = now (counts .entry);
+          };
+          buffer = now (reply .entry);
+        }) r
+            (record { buffer = now (list .exit); used = r .used; counts = now (counts .exit) })
+            (now (reply .exit)) ⌝ }
     {
         let r = retries_of(retries);
         if 7 < r {

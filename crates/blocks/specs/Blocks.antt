@@ -23,7 +23,8 @@ padded e m = m ++ (128 ∷ (replicate (zeros (length m)) 0 ++ e))
 -- the registers after the whole padded message, from s; len writes the number of the message's bits
 -- as eight octets
 unfoldable pub hashBlocks : {S : Type 0} → (List ℕ → S → S) → (ℕ → List ℕ) → S → List ℕ → S
-hashBlocks f len s m = runBlocks f (length (padded (len (length m * 8)) m) / 64) (padded (len (length m * 8)) m) s
+hashBlocks f len s m = runBlocks f (length (padded (len (length m * 8)) m) / 64)
+    (padded (len (length m * 8)) m) s
 
 -- ---- the last block or two, which the code makes in a buffer of its own
 

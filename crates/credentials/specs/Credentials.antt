@@ -67,7 +67,8 @@ abbrev pub stdText : List ℕ
 stdText = 75 ∷ 71 ∷ 83 ∷ 33 ∷ 64 ∷ 35 ∷ 36 ∷ 37 ∷ []
 
 unfoldable pub lmHashOf : List ℕ → List ℕ
-lmHashOf password = desEncrypt (part 0 7 (lmKeys password)) stdText ++ desEncrypt (part 7 7 (lmKeys password)) stdText
+lmHashOf password = desEncrypt (part 0 7 (lmKeys password)) stdText
+    ++ desEncrypt (part 7 7 (lmKeys password)) stdText
 
 -- refusal 8: an LM password is over 14 octets
 abbrev pub badLmPassword : List ℕ → Bool
@@ -93,14 +94,16 @@ responseOf hash challenge = desThree (fixed keysSize hash) challenge
 -- A.17, NtPasswordHashEncryptedWithBlock(): the first half under the new hash's octets 0 to 6, the
 -- second under 7 to 13
 unfoldable pub oldUnderNew : List ℕ → List ℕ → List ℕ
-oldUnderNew old new = desEncrypt (part 0 7 new) (part 0 8 old) ++ desEncrypt (part 7 7 new) (part 8 8 old)
+oldUnderNew old new = desEncrypt (part 0 7 new) (part 0 8 old)
+    ++ desEncrypt (part 7 7 new) (part 8 8 old)
 
 -- ---- the sealed password
 
 -- A.11, PWBLOCK: 512 octets, the password at their end and before it the first octets of the
 -- filler, and then the password's length in octets
 unfoldable pub plainBlock : List ℕ → List ℕ → List ℕ
-plainBlock filler password = take (longestNt - length password) filler ++ (password ++ toLe 4 (length password))
+plainBlock filler password = take (longestNt - length password) filler
+    ++ (password ++ toLe 4 (length password))
 
 -- A.12, EncryptPwBlockWithPasswordHash(): one RC4 run over all 516, keyed by the old hash
 unfoldable pub sealedBlock : List ℕ → List ℕ → List ℕ → List ℕ
@@ -118,7 +121,8 @@ unfoldable pub sealedAs : List ℕ → List ℕ → List ℕ → Sealed
 sealedAs old password filler =
     record {
       refusal = sealRefusal password filler;
-      block = cond (eqb (sealRefusal password filler) 0) (sealedBlock old filler password) (replicate blockSize 0);
+      block = cond (eqb (sealRefusal password filler) 0) (sealedBlock old filler password)
+          (replicate blockSize 0);
     }
 
 -- the length that an opened block gives
@@ -151,7 +155,10 @@ ValidLength (Password n) = (n ≤ longestNt) × (n % 2 ≡ 0)
 
 -- opening a block: what it holds, and its 512 octets, of which a password is the last
 unfoldable pub unsealedAs : List ℕ → List ℕ → Unsealed
-unsealedAs old block = record { content = contentFor (lengthUnder old block); octets = fixed longestNt (crypted old block) }
+unsealedAs old block = record {
+  content = contentFor (lengthUnder old block);
+  octets = fixed longestNt (crypted old block);
+}
 
 -- the password of n octets in an opened block
 unfoldable pub passwordIn : Unsealed → ℕ → List ℕ

@@ -222,7 +222,8 @@ fn content_of(n: u32) -> Content
 
 // Opens a block under the old hash.
 pub fn unseal(old: [u8; HASH_SIZE], block: [u8; BLOCK_SIZE]) -> Unsealed
-    ensures { λ r. ⌜ (r ≡ unsealedAs old block) × (lengthTold (r .content) ≡ passwordLength (lengthIn (crypted old block))) ⌝ }
+    ensures { λ r. ⌜ (r ≡ unsealedAs old block)
+        × (lengthTold (r .content) ≡ passwordLength (lengthIn (crypted old block))) ⌝ }
 {
     let mut plain = block;
     rc4::rc4(&old, &mut plain);

@@ -61,7 +61,8 @@ rotate s c = c * 2 ^ s % 2 ^ 28 + c / 2 ^ (28 - s)
 -- for each number of left shifts the next C and D, and PC-2 of the two
 abbrev pub keysFrom : List ℕ → ℕ → ℕ → List ℕ
 keysFrom [] c d = []
-keysFrom (s ∷ ss) c d = permute 56 pc2 (rotate s c * 2 ^ 28 + rotate s d) ∷ keysFrom ss (rotate s c) (rotate s d)
+keysFrom (s ∷ ss) c d = permute 56 pc2 (rotate s c * 2 ^ 28 + rotate s d) ∷ keysFrom ss (rotate s c)
+    (rotate s d)
 
 -- KS: the sixteen round keys of a key of 64 bits, from the C and D that PC-1 gives
 unfoldable pub roundKeys : ℕ → List ℕ
@@ -103,4 +104,5 @@ desDecrypt key block = toBe 8 (crypt (reverse (scheduleOf key)) (fromBe block))
 -- a block under each of the three keys of 21 octets
 unfoldable pub desThree : List ℕ → List ℕ → List ℕ
 desThree keys block =
-    desEncrypt (part 0 7 keys) block ++ (desEncrypt (part 7 7 keys) block ++ desEncrypt (part 14 7 keys) block)
+    desEncrypt (part 0 7 keys) block
+    ++ (desEncrypt (part 7 7 keys) block ++ desEncrypt (part 14 7 keys) block)

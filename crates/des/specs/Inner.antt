@@ -11,7 +11,8 @@ use Rattle.des.specs.Des.{permute, select}
 -- those bits of x that the mask m names have changed places with the bits n places above them
 unfoldable pub bitsSwapped : ℕ → ℕ → ℕ → ℕ
 bitsSwapped n m x =
-    bitXor (bitXor x (bitAnd (bitXor (x / 2 ^ n) x) m)) (bitAnd (bitXor (x / 2 ^ n) x) m * 2 ^ n % 2 ^ 64)
+    bitXor (bitXor x (bitAnd (bitXor (x / 2 ^ n) x) m))
+    (bitAnd (bitXor (x / 2 ^ n) x) m * 2 ^ n % 2 ^ 64)
 
 -- the last bit of r, the 32 bits of r, and the first bit of r: each six bits that E chooses stand
 -- together in it

@@ -279,7 +279,8 @@ fn encrypt_with(
     key: [u8; 7],
     x: u64,
 ) -> [u8; 8]
-    requires { ⌜ (now selections ≡ boxTable) × (now places ≡ permutationTable) × (now choice ≡ choiceTable) ⌝ }
+    requires { ⌜ (now selections ≡ boxTable) × (now places ≡ permutationTable)
+        × (now choice ≡ choiceTable) ⌝ }
     ensures { λ r. ⌜ r ≡ toBe 8 (crypt (scheduleOf key) x) ⌝ }
 {
     let s = schedule_of(choice, key);

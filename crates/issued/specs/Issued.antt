@@ -83,7 +83,8 @@ emptyList w n = record { buffer = replicate (w * n) 0; used = 0; counts = replic
 
 -- "when the buffer is not whole places, at most 4,096, when more entries are used than it has"
 unfoldable pub badBuffer : ℕ → List ℕ → ℕ → Bool
-badBuffer w l used = eqb w 0 || (not (eqb (length l % w) 0) || (ltb mostPlaces (places w l) || ltb (places w l) used))
+badBuffer w l used = eqb w 0 || (not (eqb (length l % w) 0)
+    || (ltb mostPlaces (places w l) || ltb (places w l) used))
 
 -- "or when the lent counts are not 256, each true of the list"
 abbrev pub badCounts : ℕ → Issued → Bool
@@ -96,7 +97,8 @@ full w cs i = ltb (places w (i .buffer) - i .used) (length cs)
 -- 24, "16 for a challenge spent, then 17"; 0 is none. What one pass over the list finds, and first
 -- the buffer.
 abbrev pub passRefusal : ℕ → List (List ℕ) → Issued → ℕ
-passRefusal w cs i = cond (badCounts w i) 24 (cond (containsAny cs (listed w i)) 16 (cond (full w cs i) 17 0))
+passRefusal w cs i = cond (badCounts w i) 24
+    (cond (containsAny cs (listed w i)) 16 (cond (full w cs i) 17 0))
 
 unfoldable pub spendRefusal : ℕ → List (List ℕ) → Issued → ℕ
 spendRefusal w cs i = cond (badBuffer w (i .buffer) (i .used)) 24 (passRefusal w cs i)

@@ -11,7 +11,8 @@ use crate::counts::raise;
 // Whether entry is one of the first n entries of run.
 fn contains(run: &[u8], n: usize, entry: &[u8]) -> bool
     requires { ⌜ (0 < length (now entry)) × (length (now entry) * n ≤ length (now run)) ⌝ }
-    ensures { λ r. ⌜ r ≡ contains (entries (length (now (entry .entry))) n (now (run .entry))) (now (entry .entry)) ⌝ }
+    ensures { λ r. ⌜ r ≡ contains (entries (length (now (entry .entry))) n (now (run .entry)))
+        (now (entry .entry)) ⌝ }
 {
     let width = entry.len();
     let mut rest = run;
@@ -28,8 +29,10 @@ fn contains(run: &[u8], n: usize, entry: &[u8]) -> bool
 
 // Marks the octets in which the first n entries of run end.
 pub(crate) fn mark(run: &[u8], n: usize, width: usize, marks: &mut [bool])
-    requires { ⌜ (0 < width) × (width * n ≤ length (now run)) × (now marks ≡ replicate octetValues false) ⌝ }
-    ensures { λ _. ⌜ (length (now (marks .exit)) ≡ octetValues) × Marked (now (marks .exit)) (entries width n (now (run .entry))) ⌝ }
+    requires { ⌜ (0 < width) × (width * n ≤ length (now run))
+        × (now marks ≡ replicate octetValues false) ⌝ }
+    ensures { λ _. ⌜ (length (now (marks .exit)) ≡ octetValues)
+        × Marked (now (marks .exit)) (entries width n (now (run .entry))) ⌝ }
 {
     let mut rest = run;
     let mut left = n;
@@ -43,8 +46,10 @@ pub(crate) fn mark(run: &[u8], n: usize, width: usize, marks: &mut [bool])
 
 // Raises, for each of the first n entries of run, the count of its last octet.
 pub(crate) fn count(run: &[u8], n: usize, width: usize, counts: &mut [u16])
-    requires { ⌜ (0 < width) × (width * n ≤ length (now run)) × (length (now counts) ≡ octetValues) × Room (now counts) n ⌝ }
-    ensures { λ _. ⌜ now (counts .exit) ≡ raised (now (counts .entry)) (entries width n (now (run .entry))) ⌝ }
+    requires { ⌜ (0 < width) × (width * n ≤ length (now run)) × (length (now counts) ≡ octetValues)
+        × Room (now counts) n ⌝ }
+    ensures { λ _. ⌜ now (counts .exit)
+        ≡ raised (now (counts .entry)) (entries width n (now (run .entry))) ⌝ }
 {
     let mut rest = run;
     let mut left = n;
@@ -68,8 +73,11 @@ fn either(a: bool, b: bool) -> bool
 // Whether entry is one of the first n entries of run. The octets in which those end are marked: an
 // entry whose last octet is not marked needs no comparison.
 fn is_sought(entry: &[u8], run: &[u8], n: usize, marks: &[bool]) -> bool
-    requires { ⌜ (0 < length (now entry)) × (length (now entry) * n ≤ length (now run)) × (length (now marks) ≡ octetValues) × Marked (now marks) (entries (length (now entry)) n (now run)) ⌝ }
-    ensures { λ r. ⌜ r ≡ contains (entries (length (now (entry .entry))) n (now (run .entry))) (now (entry .entry)) ⌝ }
+    requires { ⌜ (0 < length (now entry)) × (length (now entry) * n ≤ length (now run))
+        × (length (now marks) ≡ octetValues)
+        × Marked (now marks) (entries (length (now entry)) n (now run)) ⌝ }
+    ensures { λ r. ⌜ r ≡ contains (entries (length (now (entry .entry))) n (now (run .entry)))
+        (now (entry .entry)) ⌝ }
 {
     let last = entry[entry.len() - 1] as usize;
     if !marks[last] {
@@ -89,8 +97,13 @@ pub(crate) fn scan(
     marks: &[bool],
     counts: &mut [u16],
 ) -> bool
-    requires { ⌜ (0 < width) × (width * used ≤ length (now buffer)) × (width * n ≤ length (now run)) × (length (now marks) ≡ octetValues) × Marked (now marks) (entries width n (now run)) × (length (now counts) ≡ octetValues) × Room (now counts) used ⌝ }
-    ensures { λ r. ⌜ (r ≡ containsAny (entries width n (now (run .entry))) (entries width used (now (buffer .entry)))) × (now (counts .exit) ≡ raised (now (counts .entry)) (entries width used (now (buffer .entry)))) ⌝ }
+    requires { ⌜ (0 < width) × (width * used ≤ length (now buffer)) × (width * n ≤ length (now run))
+        × (length (now marks) ≡ octetValues) × Marked (now marks) (entries width n (now run))
+        × (length (now counts) ≡ octetValues) × Room (now counts) used ⌝ }
+    ensures { λ r. ⌜ (r ≡ containsAny (entries width n (now (run .entry)))
+        (entries width used (now (buffer .entry))))
+        × (now (counts .exit)
+        ≡ raised (now (counts .entry)) (entries width used (now (buffer .entry)))) ⌝ }
 {
     let mut met = false;
     let mut rest = buffer;

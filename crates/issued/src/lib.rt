@@ -52,7 +52,8 @@ fn is_full(buffer: &[u8], used: usize, width: usize, n: usize) -> bool
 // order; 0 is none. There is one pass over the list.
 fn pass_refusal(buffer: &[u8], used: usize, counts: &[u16], width: usize, run: &[u8]) -> u8
     requires { ⌜ badBuffer width (now buffer) used ≡ false ⌝ }
-    ensures { λ r. ⌜ r ≡ passRefusal width (entriesIn width (now (run .entry))) (record { buffer = now (buffer .entry); used = used; counts = now (counts .entry) }) ⌝ }
+    ensures { λ r. ⌜ r ≡ passRefusal width (entriesIn width (now (run .entry)))
+        (record { buffer = now (buffer .entry); used = used; counts = now (counts .entry) }) ⌝ }
 {
     let n = run.len() / width;
     let mut marks = [false; OCTET_VALUES];
@@ -66,7 +67,8 @@ fn pass_refusal(buffer: &[u8], used: usize, counts: &[u16], width: usize, run: &
 
 // The refusal of the entries of run: 24 for a bad buffer, else what the pass finds.
 fn refusal(buffer: &[u8], used: usize, counts: &[u16], width: usize, run: &[u8]) -> u8
-    ensures { λ r. ⌜ r ≡ spendRefusal width (entriesIn width (now (run .entry))) (record { buffer = now (buffer .entry); used = used; counts = now (counts .entry) }) ⌝ }
+    ensures { λ r. ⌜ r ≡ spendRefusal width (entriesIn width (now (run .entry)))
+        (record { buffer = now (buffer .entry); used = used; counts = now (counts .entry) }) ⌝ }
 {
     if is_bad_buffer(buffer, used, width) {
         return 24;
@@ -79,7 +81,11 @@ fn refusal(buffer: &[u8], used: usize, counts: &[u16], width: usize, run: &[u8])
 // which leave all as it was: 24 (the buffer, used or the counts), 16 (one of them stands in the
 // list), 17 (too few places are left). Entries of run are not compared with each other.
 pub fn spend(buffer: &mut [u8], used: usize, counts: &mut [u16], width: usize, run: &[u8]) -> Spent
-    ensures { λ r. ⌜ (r .refusal ≡ spendRefusal width (entriesIn width (now (run .entry))) (record { buffer = now (buffer .entry); used = used; counts = now (counts .entry) })) × (record { buffer = now (buffer .exit); used = r .used; counts = now (counts .exit) } ≡ spent width (entriesIn width (now (run .entry))) (record { buffer = now (buffer .entry); used = used; counts = now (counts .entry) })) ⌝ }
+    ensures { λ r. ⌜ (r .refusal ≡ spendRefusal width (entriesIn width (now (run .entry)))
+        (record { buffer = now (buffer .entry); used = used; counts = now (counts .entry) }))
+        × (record { buffer = now (buffer .exit); used = r .used; counts = now (counts .exit) }
+        ≡ spent width (entriesIn width (now (run .entry)))
+        (record { buffer = now (buffer .entry); used = used; counts = now (counts .entry) })) ⌝ }
 {
     let refusal = refusal(buffer, used, counts, width, run);
     if refusal != 0 {

@@ -33,16 +33,23 @@ auxH x y z = bitXor (bitXor x y) z
 -- place, so that the next operation, which the RFC writes [DABC k s], reads them in the same order.
 unfoldable pub operation : (ℕ → ℕ → ℕ → ℕ) → ℕ → ℕ → ℕ → Registers → Registers
 operation aux add s x r =
-    record { a = r .d; b = rotl s (plus (plus (plus (r .a) (aux (r .b) (r .c) (r .d))) x) add); c = r .b; d = r .c }
+    record {
+      a = r .d;
+      b = rotl s (plus (plus (plus (r .a) (aux (r .b) (r .c) (r .d))) x) add);
+      c = r .b;
+      d = r .c;
+    }
 
 -- the operations of a round, from its table of k and s; x is the block's words
 unfoldable pub operations : (ℕ → ℕ → ℕ → ℕ) → ℕ → List ℕ → List (ℕ × ℕ) → Registers → Registers
 operations aux add x [] r = r
-operations aux add x (e ∷ t) r = operations aux add x t (operation aux add (e .1) (getD x (e .0) 0) r)
+operations aux add x (e ∷ t) r = operations aux add x t
+    (operation aux add (e .1) (getD x (e .0) 0) r)
 
 -- four operations in a row, as the code does them; each register is then in its own place again
 unfoldable pub row : (ℕ → ℕ → ℕ → ℕ) → ℕ → ℕ → ℕ → ℕ → ℕ → ℕ → ℕ → ℕ → ℕ → Registers → Registers
-row aux add s₀ s₁ s₂ s₃ x₀ x₁ x₂ x₃ r = operation aux add s₃ x₃ (operation aux add s₂ x₂ (operation aux add s₁ x₁ (operation aux add s₀ x₀ r)))
+row aux add s₀ s₁ s₂ s₃ x₀ x₁ x₂ x₃ r = operation aux add s₃ x₃
+    (operation aux add s₂ x₂ (operation aux add s₁ x₁ (operation aux add s₀ x₀ r)))
 
 -- the tables of the three rounds, a row for each row of the RFC
 unfoldable pub table1 : List (ℕ × ℕ)
@@ -78,7 +85,12 @@ round3 x = operations auxH 0x6ed9eba1 x table3
 
 -- each register, increased by the value it had before the block
 unfoldable pub increased : Registers → Registers → Registers
-increased s r = record { a = plus (r .a) (s .a); b = plus (r .b) (s .b); c = plus (r .c) (s .c); d = plus (r .d) (s .d) }
+increased s r = record {
+  a = plus (r .a) (s .a);
+  b = plus (r .b) (s .b);
+  c = plus (r .c) (s .c);
+  d = plus (r .d) (s .d);
+}
 
 -- section 2: n words of a block from the word k on, each of four octets, the low-order octet first
 abbrev pub wordsFrom : ℕ → ℕ → List ℕ → List ℕ

@@ -28,7 +28,12 @@ pub record ParsedFields : Type 0 where
 -- the first fields of a list of words
 abbrev pub parsedIn : List (List ℕ) → ParsedFields
 parsedIn ws =
-    record { e = firstField fieldE ws; r = firstField fieldR ws; v = firstField fieldV ws; c = firstField fieldC ws }
+    record {
+      e = firstField fieldE ws;
+      r = firstField fieldR ws;
+      v = firstField fieldV ws;
+      c = firstField fieldC ws;
+    }
 
 -- for each kind what the one tells of it or, where that is nothing, what the other tells
 abbrev pub joined : ParsedFields → ParsedFields → ParsedFields

@@ -43,7 +43,8 @@ unfoldable pub isField : ℕ → ℕ → ℕ → ℕ → List ℕ → Bool
 isField letter base low high [] = false
 isField letter base low high (x ∷ []) = false
 isField letter base low high (x ∷ y ∷ ds) =
-    eqb x letter && (eqb y 61 && (leb low (length ds) && (leb (length ds) high && allBelow base (map digitOf ds))))
+    eqb x letter && (eqb y 61 && (leb low (length ds)
+    && (leb (length ds) high && allBelow base (map digitOf ds))))
 
 -- the values of a field's digits
 unfoldable pub fieldOf : ℕ → ℕ → ℕ → ℕ → List ℕ → Option (List ℕ)
@@ -98,7 +99,8 @@ callFits End e r v = not (eqb e authenticationFailure && eqb r 1 || eqb e passwo
 
 unfoldable pub calledFor : ℕ → ℕ → ℕ → Call
 calledFor e r v =
-    cond (callFits Retry e r v) Retry (cond (callFits ChangeTwo e r v) ChangeTwo (cond (callFits ChangeOne e r v) ChangeOne End))
+    cond (callFits Retry e r v) Retry
+    (cond (callFits ChangeTwo e r v) ChangeTwo (cond (callFits ChangeOne e r v) ChangeOne End))
 
 -- document 01's refusal number of a verdict; 0 is none
 abbrev pub verdictRefusal : Verdict → ℕ
@@ -128,7 +130,10 @@ abbrev pub refusedWith : ℕ → Reading
 refusedWith n = record { verdict = Refused n; c = noChallenge }
 
 abbrev pub failedWith : ℕ → ℕ → ℕ → NewChallenge → Reading
-failedWith e r v c = record { verdict = Failure (record { e = e; r = r; v = v; call = calledFor e r v }); c = c }
+failedWith e r v c = record {
+  verdict = Failure (record { e = e; r = r; v = v; call = calledFor e r v });
+  c = c;
+}
 
 -- R missing is 0, V missing is 1
 abbrev pub valueR : List (List ℕ) → ℕ
@@ -140,11 +145,13 @@ valueV ws = numberOr 10 1 (firstField fieldV ws)
 -- by the digits of E: without E, refusal 11
 abbrev pub readFields : List (List ℕ) → Option (List ℕ) → Reading
 readFields ws none = refusedWith 11
-readFields ws (some e) = failedWith (numberFrom 10 0 e) (valueR ws) (valueV ws) (newChallengeFrom (firstField fieldC ws))
+readFields ws (some e) = failedWith (numberFrom 10 0 e) (valueR ws) (valueV ws)
+    (newChallengeFrom (firstField fieldC ws))
 
 -- what the message m says; over 256 octets, refusal 11
 unfoldable pub readMessage : List ℕ → Reading
-readMessage m = cond (ltb 256 (length m)) (refusedWith 11) (readFields (words m) (firstField fieldE (words m)))
+readMessage m = cond (ltb 256 (length m)) (refusedWith 11)
+    (readFields (words m) (firstField fieldE (words m)))
 
 abbrev pub isNone : Option (List ℕ) → Bool
 isNone none = true

@@ -369,7 +369,8 @@ pub fn refused_with(number: u8) -> Reading
 // The verdict on the fields of a message.
 fn judge(message: &[u8], f: Fields) -> Reading
     requires { ⌜ parsedAt (now message) f ≡ parsedIn (words (now message)) ⌝ }
-    ensures { λ r. ⌜ r ≡ readFields (words (now (message .entry))) (firstField fieldE (words (now (message .entry)))) ⌝ }
+    ensures { λ r. ⌜ r ≡ readFields (words (now (message .entry)))
+        (firstField fieldE (words (now (message .entry)))) ⌝ }
 {
     let at_e = f.e;
     let at_r = f.r;
@@ -393,7 +394,9 @@ fn judge(message: &[u8], f: Fields) -> Reading
 
 // What a Failure packet's message says to the peer.
 pub fn read(message: &[u8]) -> Reading
-    ensures { λ r. ⌜ (r ≡ readMessage (now (message .entry))) × (verdictRefusal (r .verdict) ≡ messageRefusal (now (message .entry))) × (verdictValues (r .verdict) ≡ messageValues (now (message .entry))) ⌝ }
+    ensures { λ r. ⌜ (r ≡ readMessage (now (message .entry)))
+        × (verdictRefusal (r .verdict) ≡ messageRefusal (now (message .entry)))
+        × (verdictValues (r .verdict) ≡ messageValues (now (message .entry))) ⌝ }
 {
     if 256 < message.len() {
         return refused_with(11);

@@ -93,7 +93,8 @@ unfoldable pub encodeAccount : Account → List ℕ
 encodeAccount a =
     encodeHash (a .nt)
     ++ (encodeHash (a .lm)
-    ++ (flag (a .disabled) ∷ flag (a .«hours_denied») ∷ flag (a .«dialin_denied») ∷ flag (a .expired) ∷ []))
+    ++ (flag (a .disabled) ∷ flag (a .«hours_denied») ∷ flag (a .«dialin_denied») ∷ flag
+    (a .expired) ∷ []))
 
 unfoldable pub decodeAccount : List ℕ → Account
 decodeAccount bytes =

@@ -26,7 +26,8 @@ replyArguments peer fields = isEncodedPeer peer && sized fieldsSize fields
 pub record ReplyCall (peer packet fields : List ℕ) (r : ℕ) (peerAfter fieldsAfter : List ℕ)
     : Type 0 where
   pub number : r
-      ≡ numbered (replyArguments peer fields) (verdictRefusal (peerReads (decodePeer peer) packet .verdict))
+      ≡ numbered (replyArguments peer fields)
+      (verdictRefusal (peerReads (decodePeer peer) packet .verdict))
   pub next : peerAfter ≡ afterCall r (encodePeer (afterReply (decodePeer peer) packet)) peer
   pub says : fieldsAfter ≡ afterCall r (encodeReading (peerReads (decodePeer peer) packet)) fields
 

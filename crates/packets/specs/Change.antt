@@ -15,7 +15,8 @@ use Rattle.packets.specs.declared.Written.{Written}
 -- the flags go most significant octet first (decided by document 01)
 unfoldable pub changePacket : ℕ → Change → List ℕ
 changePacket id f =
-    framed 6 id (f .block ++ (f .verifier ++ (f .lmblock ++ (f .lmverifier ++ (f .lm ++ (f .nt ++ toBe 2 (f .flags)))))))
+    framed 6 id (f .block ++ (f .verifier
+    ++ (f .lmblock ++ (f .lmverifier ++ (f .lm ++ (f .nt ++ toBe 2 (f .flags)))))))
 
 -- octets that the packet does not reach are 0
 abbrev pub readChange : List ℕ → Change

@@ -39,7 +39,8 @@ dataOf p = part headSize (lengthOf p - headSize) p
 -- the buffer afterwards: the packet and then the octets that lay there before or, with too little
 -- room, all as it was
 unfoldable pub writtenOver : List ℕ → List ℕ → List ℕ
-writtenOver packet out = cond (leb (length packet) (length out)) (packet ++ drop (length packet) out) out
+writtenOver packet out = cond (leb (length packet) (length out))
+    (packet ++ drop (length packet) out) out
 
 -- how many octets were written
 unfoldable pub writtenLength : List ℕ → List ℕ → ℕ

@@ -27,16 +27,19 @@ afterSplit (x ∷ n) = cond (eqb x 92) n (afterSplit n)
 
 -- the packet by itself fails the check of 3, 4 (code 2 awaited), 6 or 7
 abbrev pub isBadResponse : List ℕ → Bool
-isBadResponse p = badFrame p || (not (eqb (octet 0 p) 2) || (badResponseSize p || badResponseFlag p))
+isBadResponse p = badFrame p || (not (eqb (octet 0 p) 2)
+    || (badResponseSize p || badResponseFlag p))
 
 -- the domain: the part of the name before the backslash (empty before a leading one) or, where
 -- there is none, the whole home domain
 unfoldable pub domainOf : List ℕ → List ℕ → List ℕ
-domainOf p home = cond (isBadResponse p) [] (cond (isSplit (readName p)) (beforeSplit (readName p)) home)
+domainOf p home = cond (isBadResponse p) []
+    (cond (isSplit (readName p)) (beforeSplit (readName p)) home)
 
 -- the account: the rest of the name
 unfoldable pub accountOf : List ℕ → List ℕ
-accountOf p = cond (isBadResponse p) [] (cond (isSplit (readName p)) (afterSplit (readName p)) (readName p))
+accountOf p = cond (isBadResponse p) []
+    (cond (isSplit (readName p)) (afterSplit (readName p)) (readName p))
 
 -- ---- where the two parts stand in the packet; no name begins at 0, so offset 0 says that the part
 -- is not there
@@ -50,7 +53,11 @@ partFrom a p = record { offset = a; length = lengthOf p - a }
 
 -- not there where the name has no backslash: the home domain counts
 unfoldable pub domainPart : List ℕ → Part
-domainPart p = cond (isBadResponse p) noPart (cond (isSplit (readName p)) (record { offset = nameOffset; length = length (beforeSplit (readName p)) }) noPart)
+domainPart p = cond (isBadResponse p) noPart
+    (cond (isSplit (readName p))
+    (record { offset = nameOffset; length = length (beforeSplit (readName p)) }) noPart)
 
 unfoldable pub accountPart : List ℕ → Part
-accountPart p = cond (isBadResponse p) noPart (cond (isSplit (readName p)) (partFrom (nameOffset + 1 + length (beforeSplit (readName p))) p) (partFrom nameOffset p))
+accountPart p = cond (isBadResponse p) noPart
+    (cond (isSplit (readName p)) (partFrom (nameOffset + 1 + length (beforeSplit (readName p))) p)
+    (partFrom nameOffset p))

@@ -40,18 +40,24 @@ refusedChallenge n = record { refusal = n; id = 0; challenge = replicate challen
 -- refusal 11: of another kind, cut short, or of a size other than 8. A name may follow and is
 -- ignored.
 abbrev pub badChallenge : List ℕ → Bool
-badChallenge p = not (eqb (octet 0 p) 1) || (ltb (lengthOf p) challengeLength || not (eqb (octet headSize p) challengeSize))
+badChallenge p = not (eqb (octet 0 p) 1)
+    || (ltb (lengthOf p) challengeLength || not (eqb (octet headSize p) challengeSize))
 
 -- 3, then 11
 unfoldable pub readChallenge : List ℕ → ChallengeFields
 readChallenge p =
     cond (badFrame p) (refusedChallenge 3)
     (cond (badChallenge p) (refusedChallenge 11)
-    (record { refusal = 0; id = octet 1 p; challenge = fixed challengeSize (part challengeOffset challengeSize p) }))
+    (record {
+      refusal = 0;
+      id = octet 1 p;
+      challenge = fixed challengeSize (part challengeOffset challengeSize p);
+    }))
 
 -- what a packet says, by its code
 abbrev pub bodyRead : List ℕ → Reading
-bodyRead p = cond (eqb (octet 0 p) 3) succeeded (cond (eqb (octet 0 p) 4) (readMessage (dataOf p)) (refusedWith 11))
+bodyRead p = cond (eqb (octet 0 p) 3) succeeded
+    (cond (eqb (octet 0 p) 4) (readMessage (dataOf p)) (refusedWith 11))
 
 -- a reply to the last packet, which had the identifier last: 3, then 5, then 11 for another kind or
 -- by the message
@@ -71,4 +77,5 @@ replyRefusal last p =
 
 -- E, R and V of a Failure that is not refused
 unfoldable pub replyValues : ℕ → List ℕ → List ℕ
-replyValues last p = cond (badFrame p || (badId last p || not (eqb (octet 0 p) 4))) [] (messageValues (dataOf p))
+replyValues last p = cond (badFrame p || (badId last p || not (eqb (octet 0 p) 4))) []
+    (messageValues (dataOf p))

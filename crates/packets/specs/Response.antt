@@ -31,7 +31,8 @@ readName p = part nameOffset (lengthOf p - nameOffset) p
 -- refusal 6: Length not 55 to 310, or the size not 49
 abbrev pub badResponseSize : List ℕ → Bool
 badResponseSize p =
-    ltb (lengthOf p) shortestResponse || (ltb longestResponse (lengthOf p) || not (eqb (octet headSize p) valueSize))
+    ltb (lengthOf p) shortestResponse
+    || (ltb longestResponse (lengthOf p) || not (eqb (octet headSize p) valueSize))
 
 -- refusal 7
 abbrev pub badResponseFlag : List ℕ → Bool

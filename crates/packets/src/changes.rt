@@ -29,7 +29,8 @@ ghost use Rattle.packets.specs.Change.{changePacket, badChangeSize, badC
 
 // The flags, the most significant octet first.
 fn flags(packet: &[u8]) -> u16
-    ensures { λ r. ⌜ r ≡ fromBe (octet flagsOffset (now (packet .entry)) ∷ octet (flagsOffset + 1) (now (packet .entry)) ∷ []) ⌝ }
+    ensures { λ r. ⌜ r ≡ fromBe (octet flagsOffset (now (packet .entry)) ∷ octet (flagsOffset + 1)
+        (now (packet .entry)) ∷ []) ⌝ }
 {
     octets::u16_from_be(octet(packet, FLAGS_OFFSET), octet(packet, FLAGS_OFFSET + 1))
 }
@@ -91,7 +92,8 @@ pub fn read_change(packet: &[u8]) -> Change
 // Puts a block and the hash behind it at the place at.
 fn put_pair(out: &mut [u8], at: usize, block: [u8; BLOCK_SIZE], verifier: [u8; HASH_SIZE])
     requires { ⌜ at < changeSize ⌝ }
-    ensures { λ _. ⌜ (now (out .exit) ≡ overAt at (block ++ verifier) (now (out .entry))) × (length (block ++ verifier) ≡ blockSize + hashSize) ⌝ }
+    ensures { λ _. ⌜ (now (out .exit) ≡ overAt at (block ++ verifier) (now (out .entry)))
+        × (length (block ++ verifier) ≡ blockSize + hashSize) ⌝ }
 {
     octets::copy_at(out, at, &block);
     octets::copy_at(out, at + BLOCK_SIZE, &verifier);
@@ -99,7 +101,9 @@ fn put_pair(out: &mut [u8], at: usize, block: [u8; BLOCK_SIZE], verifier: [u8; H
 
 // Puts the two responses and the flags at their place.
 fn put_rest(out: &mut [u8], lm: [u8; ANSWER_SIZE], nt: [u8; ANSWER_SIZE], flags: u16)
-    ensures { λ _. ⌜ (now (out .exit) ≡ overAt lmAnswerOffset (lm ++ (nt ++ toBe 2 flags)) (now (out .entry))) × (length (lm ++ (nt ++ toBe 2 flags)) ≡ 50) ⌝ }
+    ensures { λ _. ⌜ (now (out .exit)
+        ≡ overAt lmAnswerOffset (lm ++ (nt ++ toBe 2 flags)) (now (out .entry)))
+        × (length (lm ++ (nt ++ toBe 2 flags)) ≡ 50) ⌝ }
 {
     let last = octets::u16_to_be(flags);
     octets::copy_at(out, LM_ANSWER_OFFSET, &lm);
@@ -117,7 +121,8 @@ fn is_short(out: &[u8]) -> bool
 // Puts a change that is not refused at the front of out: how many octets it has.
 fn put_change(id: u8, fields: Change, out: &mut [u8]) -> usize
     requires { ⌜ changeSize ≤ length (now out) ⌝ }
-    ensures { λ r. ⌜ (r ≡ length (changePacket id fields)) × (now (out .exit) ≡ writtenOver (changePacket id fields) (now (out .entry))) ⌝ }
+    ensures { λ r. ⌜ (r ≡ length (changePacket id fields))
+        × (now (out .exit) ≡ writtenOver (changePacket id fields) (now (out .entry))) ⌝ }
 {
     let first = head(6, id, CHANGE_SIZE as u16);
     octets::copy_at(out, 0, &first);
@@ -135,7 +140,8 @@ fn put_change(id: u8, fields: Change, out: &mut [u8]) -> usize
 
 // Writes a change at the front of out. Refusal 9: too little room.
 pub fn write_change(id: u8, fields: Change, out: &mut [u8]) -> Written
-    ensures { λ r. ⌜ (r ≡ changeWritten id fields (now (out .entry))) × (now (out .exit) ≡ changeOut id fields (now (out .entry))) ⌝ }
+    ensures { λ r. ⌜ (r ≡ changeWritten id fields (now (out .entry)))
+        × (now (out .exit) ≡ changeOut id fields (now (out .entry))) ⌝ }
 {
     let refusal = refuse_if(is_short(out), 9, 0);
     if refusal != 0 {

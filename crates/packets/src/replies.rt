@@ -28,7 +28,8 @@ pub fn is_bad_reply_buffer(reply: &[u8]) -> bool
 // ---- writers: each answers how many octets of out it wrote, 0 where there is too little room
 
 pub fn write_challenge(id: u8, challenge: [u8; CHALLENGE_SIZE], out: &mut [u8]) -> usize
-    ensures { λ r. ⌜ (r ≡ writtenLength (challengePacket id challenge) (now (out .entry))) × (now (out .exit) ≡ writtenOver (challengePacket id challenge) (now (out .entry))) ⌝ }
+    ensures { λ r. ⌜ (r ≡ writtenLength (challengePacket id challenge) (now (out .entry)))
+        × (now (out .exit) ≡ writtenOver (challengePacket id challenge) (now (out .entry))) ⌝ }
 {
     if out.len() < CHALLENGE_LENGTH {
         return 0;
@@ -42,7 +43,8 @@ pub fn write_challenge(id: u8, challenge: [u8; CHALLENGE_SIZE], out: &mut [u8]) 
 }
 
 pub fn write_success(id: u8, out: &mut [u8]) -> usize
-    ensures { λ r. ⌜ (r ≡ writtenLength (successPacket id) (now (out .entry))) × (now (out .exit) ≡ writtenOver (successPacket id) (now (out .entry))) ⌝ }
+    ensures { λ r. ⌜ (r ≡ writtenLength (successPacket id) (now (out .entry)))
+        × (now (out .exit) ≡ writtenOver (successPacket id) (now (out .entry))) ⌝ }
 {
     if out.len() < HEAD_SIZE {
         return 0;
@@ -54,7 +56,8 @@ pub fn write_success(id: u8, out: &mut [u8]) -> usize
 
 // The message is `E=691 R=1 V=2` with the numbers set.
 pub fn write_failure(id: u8, e: u16, r: u8, v: u8, out: &mut [u8]) -> usize
-    ensures { λ n. ⌜ (n ≡ writtenLength (failurePacket id (textOf e r v)) (now (out .entry))) × (now (out .exit) ≡ writtenOver (failurePacket id (textOf e r v)) (now (out .entry))) ⌝ }
+    ensures { λ n. ⌜ (n ≡ writtenLength (failurePacket id (textOf e r v)) (now (out .entry)))
+        × (now (out .exit) ≡ writtenOver (failurePacket id (textOf e r v)) (now (out .entry))) ⌝ }
 {
     if out.len() < LONGEST_REPLY {
         return 0;
@@ -126,7 +129,9 @@ fn read_body(packet: &[u8]) -> Reading
 // A reply to the last packet, which had the identifier last. Refusal 3: the frame; 5: another
 // identifier; 11: another kind, or by the message.
 pub fn read_reply(last: u8, packet: &[u8]) -> Reading
-    ensures { λ r. ⌜ (r ≡ readReply last (now (packet .entry))) × (verdictRefusal (r .verdict) ≡ replyRefusal last (now (packet .entry))) × (verdictValues (r .verdict) ≡ replyValues last (now (packet .entry))) ⌝ }
+    ensures { λ r. ⌜ (r ≡ readReply last (now (packet .entry)))
+        × (verdictRefusal (r .verdict) ≡ replyRefusal last (now (packet .entry)))
+        × (verdictValues (r .verdict) ≡ replyValues last (now (packet .entry))) ⌝ }
 {
     let refusal = refuse_if(
         is_bad_frame(packet),

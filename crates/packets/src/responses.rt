@@ -96,8 +96,11 @@ fn write_refusal(name: &[u8], out: &[u8]) -> u8
 
 // Puts a Response that is not refused at the front of out: how many octets it has.
 fn put_response(id: u8, fields: Response, name: &[u8], out: &mut [u8]) -> usize
-    requires { ⌜ (length (now name) ≤ longestName) × (nameOffset + length (now name) ≤ length (now out)) ⌝ }
-    ensures { λ r. ⌜ (r ≡ length (responsePacket id fields (now (name .entry)))) × (now (out .exit) ≡ writtenOver (responsePacket id fields (now (name .entry))) (now (out .entry))) ⌝ }
+    requires { ⌜ (length (now name) ≤ longestName)
+        × (nameOffset + length (now name) ≤ length (now out)) ⌝ }
+    ensures { λ r. ⌜ (r ≡ length (responsePacket id fields (now (name .entry))))
+        × (now (out .exit) ≡ writtenOver (responsePacket id fields (now (name .entry)))
+        (now (out .entry))) ⌝ }
 {
     let n = NAME_OFFSET + name.len();
     let first = head(2, id, n as u16);
@@ -117,7 +120,8 @@ fn put_response(id: u8, fields: Response, name: &[u8], out: &mut [u8]) -> usize
 // Writes a Response at the front of out. Refusal 10: the name is empty or over 256 octets. 9: too
 // little room.
 pub fn write_response(id: u8, fields: Response, name: &[u8], out: &mut [u8]) -> Written
-    ensures { λ r. ⌜ (r ≡ responseWritten id fields (now (name .entry)) (now (out .entry))) × (now (out .exit) ≡ responseOut id fields (now (name .entry)) (now (out .entry))) ⌝ }
+    ensures { λ r. ⌜ (r ≡ responseWritten id fields (now (name .entry)) (now (out .entry)))
+        × (now (out .exit) ≡ responseOut id fields (now (name .entry)) (now (out .entry))) ⌝ }
 {
     let refusal = write_refusal(name, out);
     if refusal != 0 {

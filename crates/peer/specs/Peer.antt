@@ -38,7 +38,8 @@ afterWriting q w =
 -- before the first packet none does, and 5 is due where the frame is good.
 abbrev pub peerReads : Peer → List ℕ → Reading
 peerReads q reply =
-    cond (q .sent .present) (readReply (q .sent .id) reply) (refusedWith (cond (badFrame reply) 3 5))
+    cond (q .sent .present) (readReply (q .sent .id) reply)
+    (refusedWith (cond (badFrame reply) 3 5))
 
 -- the number with which it refuses one (0 is none), and the values E, R and V of a Failure
 abbrev pub peerReadsRefusal : Peer → List ℕ → ℕ

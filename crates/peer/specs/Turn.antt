@@ -29,7 +29,10 @@ sameTurn s = record { id = s .id; challenge = s .challenge }
 -- a retry takes C where given, else the 23 rule
 abbrev pub retryTurn : Sent → NewChallenge → Turn
 retryTurn s c =
-    record { id = nextId (s .id); challenge = cond (c .given) (c .octets) (incremented (s .challenge)) }
+    record {
+      id = nextId (s .id);
+      challenge = cond (c .given) (c .octets) (incremented (s .challenge));
+    }
 
 -- a change uses the last Response's challenge, whatever C says
 abbrev pub changeTurn : Sent → Turn

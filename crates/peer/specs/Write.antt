@@ -17,7 +17,8 @@ use Rattle.peer.specs.declared.Turn.{Turn}
 
 -- a Response from an NT hash: the LM response is zero-filled, the flag is 1
 abbrev pub responseFieldsOf : List ℕ → List ℕ → Response
-responseFieldsOf challenge hash = record { lm = replicate answerSize 0; nt = responseOf hash challenge; flag = 1 }
+responseFieldsOf challenge hash =
+    record { lm = replicate answerSize 0; nt = responseOf hash challenge; flag = 1 }
 
 -- a change from the old and the new NT hash and the sealed new password: both LM fields and the LM
 -- response are zero-filled, the flags are 1; the response is that of the new hash
@@ -49,7 +50,8 @@ changeFor t old new filler = changePacket (t .id) (changeFields (t .challenge) o
 
 -- 8, 10, 9
 unfoldable pub writeResponseRefusal : List ℕ → List ℕ → List ℕ → ℕ
-writeResponseRefusal password name out = cond (badNtPassword password) 8 (responseWriteRefusal name out)
+writeResponseRefusal password name out = cond (badNtPassword password) 8
+    (responseWriteRefusal name out)
 
 -- one of the two passwords of a change is refused
 abbrev pub badPasswords : List ℕ → List ℕ → Bool
@@ -72,7 +74,9 @@ abbrev pub wroteBy : ℕ → List ℕ → List ℕ → Wrote
 wroteBy n packet out = record { answer = answerBy n packet; out = outBy n packet out }
 
 unfoldable pub writeResponse : Turn → List ℕ → List ℕ → List ℕ → Wrote
-writeResponse t password name out = wroteBy (writeResponseRefusal password name out) (responseFor t password name) out
+writeResponse t password name out = wroteBy (writeResponseRefusal password name out)
+    (responseFor t password name) out
 
 unfoldable pub writeChange : Turn → List ℕ → List ℕ → List ℕ → List ℕ → Wrote
-writeChange t old new filler out = wroteBy (writeChangeRefusal old new filler out) (changeFor t old new filler) out
+writeChange t old new filler out = wroteBy (writeChangeRefusal old new filler out)
+    (changeFor t old new filler) out

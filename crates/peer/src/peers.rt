@@ -45,7 +45,13 @@ fn refusal_before(packet: &[u8]) -> u8
 // What a packet says as the reply to the last one that was sent; where none was, no packet has its
 // identifier.
 fn reading_after(sent: Sent, packet: &[u8]) -> Reading
-    ensures { λ r. ⌜ (r ≡ cond (sent .present) (readReply (sent .id) (now (packet .entry))) (refusedWith (cond (badFrame (now (packet .entry))) 3 5))) × (verdictRefusal (r .verdict) ≡ cond (sent .present) (replyRefusal (sent .id) (now (packet .entry))) (cond (badFrame (now (packet .entry))) 3 5)) × (verdictValues (r .verdict) ≡ cond (sent .present) (replyValues (sent .id) (now (packet .entry))) []) ⌝ }
+    ensures { λ r. ⌜ (r ≡ cond (sent .present) (readReply (sent .id) (now (packet .entry)))
+        (refusedWith (cond (badFrame (now (packet .entry))) 3 5)))
+        × (verdictRefusal (r .verdict)
+        ≡ cond (sent .present) (replyRefusal (sent .id) (now (packet .entry)))
+        (cond (badFrame (now (packet .entry))) 3 5))
+        × (verdictValues (r .verdict)
+        ≡ cond (sent .present) (replyValues (sent .id) (now (packet .entry))) []) ⌝ }
 {
     if sent.present {
         return packets::read_reply(sent.id, packet);

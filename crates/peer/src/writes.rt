@@ -46,7 +46,10 @@ fn response_from(challenge: [u8; CHALLENGE_SIZE], password: &[u8]) -> Response
 // Writes a Response from a password at the front of out. Refusal 8: the password; 10: the name; 9:
 // too little room.
 pub(crate) fn write_response(turn: Turn, password: &[u8], name: &[u8], out: &mut [u8]) -> Written
-    ensures { λ r. ⌜ (r ≡ writeResponse turn (now (password .entry)) (now (name .entry)) (now (out .entry)) .answer) × (now (out .exit) ≡ writeResponse turn (now (password .entry)) (now (name .entry)) (now (out .entry)) .out) ⌝ }
+    ensures { λ r. ⌜ (r ≡ writeResponse turn (now (password .entry)) (now (name .entry))
+        (now (out .entry)) .answer)
+        × (now (out .exit) ≡ writeResponse turn (now (password .entry)) (now (name .entry))
+        (now (out .entry)) .out) ⌝ }
 {
     if credentials::is_bad_nt_password(password) {
         return refused(8);
@@ -82,7 +85,8 @@ fn change_fields(
 // The change from passwords and a filler that are not refused.
 fn change_from(challenge: [u8; CHALLENGE_SIZE], old: &[u8], new: &[u8], filler: &[u8]) -> Change
     requires { ⌜ (badPasswords (now old) (now new) ≡ false) × (badFiller (now filler) ≡ false) ⌝ }
-    ensures { λ r. ⌜ r ≡ changeFields challenge (now (old .entry)) (now (new .entry)) (now (filler .entry)) ⌝ }
+    ensures { λ r. ⌜ r ≡ changeFields challenge (now (old .entry)) (now (new .entry))
+        (now (filler .entry)) ⌝ }
 {
     let before = credentials::nt_hash(old).hash;
     let after = credentials::nt_hash(new).hash;
@@ -106,7 +110,10 @@ pub(crate) fn write_change(
     filler: &[u8],
     out: &mut [u8],
 ) -> Written
-    ensures { λ r. ⌜ (r ≡ writeChange turn (now (old .entry)) (now (new .entry)) (now (filler .entry)) (now (out .entry)) .answer) × (now (out .exit) ≡ writeChange turn (now (old .entry)) (now (new .entry)) (now (filler .entry)) (now (out .entry)) .out) ⌝ }
+    ensures { λ r. ⌜ (r ≡ writeChange turn (now (old .entry)) (now (new .entry))
+        (now (filler .entry)) (now (out .entry)) .answer)
+        × (now (out .exit) ≡ writeChange turn (now (old .entry)) (now (new .entry))
+        (now (filler .entry)) (now (out .entry)) .out) ⌝ }
 {
     let bad = are_bad_passwords(old, new);
     let refusal = refuse_if(bad, 8, refuse_if(credentials::is_bad_filler(filler), 12, 0));

@@ -30,7 +30,8 @@ pub struct Keyed {
 // Exchanges the entries at i and j, where the one at i is a. Answers the one that was at j.
 fn put(s: &mut [u8; 256], i: u8, j: u8, a: u8) -> u8
     requires { ⌜ a ≡ getD (now s) i 0 ⌝ }
-    ensures { λ r. ⌜ (now (s .exit) ≡ swapped (now (s .entry)) i j) × (r ≡ getD (now (s .entry)) j 0) ⌝ }
+    ensures { λ r. ⌜ (now (s .exit) ≡ swapped (now (s .entry)) i j)
+        × (r ≡ getD (now (s .entry)) j 0) ⌝ }
 {
     let b = s[j as usize];
     s[i as usize] = b;
@@ -112,7 +113,8 @@ pub fn new(key: &[u8]) -> Keyed
 // Puts the data under the keystream, in place. Answers the state after it, from which the next data
 // go on.
 pub fn apply(state: State, data: &mut [u8]) -> State
-    ensures { λ r. ⌜ (r ≡ laterState (length (now («data» .entry))) state) × (now («data» .exit) ≡ ciphered state (now («data» .entry))) ⌝ }
+    ensures { λ r. ⌜ (r ≡ laterState (length (now («data» .entry))) state)
+        × (now («data» .exit) ≡ ciphered state (now («data» .entry))) ⌝ }
 {
     // a struct by value at each octet is slow: the fields are locals
     let mut s = state.s;
@@ -137,7 +139,8 @@ pub fn apply(state: State, data: &mut [u8]) -> State
 // The data under a key's keystream from its start, in place. Answers the refusal; where it is not
 // 0, the data are unchanged.
 pub fn rc4(key: &[u8], data: &mut [u8]) -> u8
-    ensures { λ r. ⌜ (r ≡ keyRefusal (now (key .entry))) × (now («data» .exit) ≡ crypted (now (key .entry)) (now («data» .entry))) ⌝ }
+    ensures { λ r. ⌜ (r ≡ keyRefusal (now (key .entry)))
+        × (now («data» .exit) ≡ crypted (now (key .entry)) (now («data» .entry))) ⌝ }
 {
     let keyed = new(key);
     let refusal = keyed.refusal;

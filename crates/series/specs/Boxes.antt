@@ -40,7 +40,11 @@ accepts c s = judgementFor c (s .account .account) noReason
 abbrev pub leavesRecord : Judge
 leavesRecord c s =
     let d = judge c (s .packet) (s .account) in
-    record { reply = d .reply; next = d .next; updated = cond (d .updated .found) (found (c .kept)) notFound }
+    record {
+      reply = d .reply;
+      next = d .next;
+      updated = cond (d .updated .found) (found (c .kept)) notFound;
+    }
 
 -- judges the first Response of a conversation that was opened with r retries, and pretends on
 -- retries
@@ -49,11 +53,25 @@ pretends r c s = cond (ltb (c .retries) r) (accepts c s) (judge c (s .packet) (s
 
 -- a conversation with another number of retries left
 abbrev pub withRetries : ℕ → Conversation → Conversation
-withRetries r c = record { terms = c .terms; id = c .id; challenge = c .challenge; retries = r; phase = c .phase; kept = c .kept }
+withRetries r c = record {
+  terms = c .terms;
+  id = c .id;
+  challenge = c .challenge;
+  retries = r;
+  phase = c .phase;
+  kept = c .kept;
+}
 
 -- and with another identifier awaited
 abbrev pub withId : ℕ → Conversation → Conversation
-withId id c = record { terms = c .terms; id = id; challenge = c .challenge; retries = c .retries; phase = c .phase; kept = c .kept }
+withId id c = record {
+  terms = c .terms;
+  id = id;
+  challenge = c .challenge;
+  retries = c .retries;
+  phase = c .phase;
+  kept = c .kept;
+}
 
 -- retries do not fall
 abbrev pub neverCounts : Judge
@@ -72,21 +90,34 @@ abbrev pub laysReply : Box
 laysReply c s =
     record {
       answer = refusedAs (refusalAt stepOn c s) c (s .buffer) .answer;
-      buffer = writtenOver (replyPacket (c .id) (judge c (s .packet) (s .account) .reply)) (s .buffer);
+      buffer = writtenOver (replyPacket (c .id) (judge c (s .packet) (s .account) .reply))
+          (s .buffer);
     }
 
 -- hands out the record that was passed
 abbrev pub handsOutRecord : Box
 handsOutRecord c s =
     record {
-      answer = record { kind = Refused (refusalAt stepOn c s); next = c; written = 0; updated = s .account };
+      answer = record {
+        kind = Refused (refusalAt stepOn c s);
+        next = c;
+        written = 0;
+        updated = s .account;
+      };
       buffer = s .buffer;
     }
 
 -- changes the conversation: from then on LM is allowed
 abbrev pub withLm : Conversation → Conversation
 withLm c =
-    record { terms = record { lm = true }; id = c .id; challenge = c .challenge; retries = c .retries; phase = c .phase; kept = c .kept }
+    record {
+      terms = record { lm = true };
+      id = c .id;
+      challenge = c .challenge;
+      retries = c .retries;
+      phase = c .phase;
+      kept = c .kept;
+    }
 
 abbrev pub allowsLm : Box
 allowsLm c s = refusedAs (refusalAt stepOn c s) (withLm c) (s .buffer)
@@ -94,7 +125,10 @@ allowsLm c s = refusedAs (refusalAt stepOn c s) (withLm c) (s .buffer)
 -- ends the conversation without a reply, and calls the packet judged
 abbrev pub endsUnseen : Box
 endsUnseen c s =
-    record { answer = record { kind = Judged 0; next = ended c; written = 0; updated = notFound }; buffer = s .buffer }
+    record {
+      answer = record { kind = Judged 0; next = ended c; written = 0; updated = notFound };
+      buffer = s .buffer;
+    }
 
 -- judges it after all, under the identifier that the packet has
 abbrev pub judgesStrays : Box

@@ -27,7 +27,8 @@ use Rattle.series.specs.Openers.{Opener}
 -- An opening gets what the one before it left in the list, or more: nobody took an entry out.
 -- Its challenge has eight octets.
 pub record PassedOn (i : Issued) (o : Opening) : Type 0 where
-  pub kept : (x : List ℕ) → contains (listed 8 i) x ≡ true → contains (listed 8 (o .issued)) x ≡ true
+  pub kept : (x : List ℕ) → contains (listed 8 i) x ≡ true
+      → contains (listed 8 (o .issued)) x ≡ true
   pub eight : length (o .challenge) ≡ 8
   pub octets : (k : ℕ) → getD (o .challenge) k 0 < 256
 
@@ -73,19 +74,23 @@ module _ (opener : Opener) where
   -- another: whatever packets, records and buffers the two conversations were passed.
   abbrev pub NoneTwice : Type 0
   NoneTwice =
-      (i : Issued) (first second : Opening) → Two i first second → (ss ts : List StepInput) → reached first ss .challenge ≢ reached second ts .challenge
+      (i : Issued) (first second : Opening) → Two i first second → (ss ts : List StepInput)
+      → reached first ss .challenge ≢ reached second ts .challenge
 
   -- So one recorded answer opens no second box: octets that are a hash's response in one
   -- conversation, NT or LM, are not in another.
   abbrev pub NoneAnsweredTwice : Type 0
   NoneAnsweredTwice =
-      (i : Issued) (first second : Opening) → Two i first second → (ss ts : List StepInput) (h : Hash) (response : List ℕ)
-      → answers h (reached first ss .challenge) response ≡ true → answers h (reached second ts .challenge) response ≡ false
+      (i : Issued) (first second : Opening) → Two i first second
+      → (ss ts : List StepInput) (h : Hash) (response : List ℕ)
+      → answers h (reached first ss .challenge) response ≡ true
+      → answers h (reached second ts .challenge) response ≡ false
 
   -- And a whole Response that is valid in one is not valid in another for the same account.
   abbrev pub NoneValidTwice : Type 0
   NoneValidTwice =
-      (i : Issued) (first second : Opening) → Two i first second → (ss ts : List StepInput) (a : Account) (f : Response)
+      (i : Issued) (first second : Opening) → Two i first second
+      → (ss ts : List StepInput) (a : Account) (f : Response)
       → validIn (reached first ss) a f ≡ true → validIn (reached second ts) a f ≡ false
 
   -- Nor does a recorded change: one that is accepted in one conversation gives that new hash in no
@@ -93,10 +98,12 @@ module _ (opener : Opener) where
   -- same NT hash.
   abbrev pub NoneChangedTwice : Type 0
   NoneChangedTwice =
-      (i : Issued) (first second : Opening) → Two i first second → (ss ts : List StepInput) (f : Change) (h : List ℕ)
+      (i : Issued) (first second : Opening) → Two i first second
+      → (ss ts : List StepInput) (f : Change) (h : List ℕ)
       → newHashIn (reached first ss) f ≡ some h
       → (newHashIn (reached second ts) f ≢ some h)
-      × (reached second ts .kept .nt .octets ≡ reached first ss .kept .nt .octets → newHashIn (reached second ts) f ≡ none)
+      × (reached second ts .kept .nt .octets ≡ reached first ss .kept .nt .octets
+      → newHashIn (reached second ts) f ≡ none)
 
   -- An opening that needs nothing more is not refused: it hands out the conversation, and writes
   -- the Challenge. Without it an opener that refuses everything would meet the rest.

@@ -21,7 +21,12 @@ pub record Opener : Type 0 where
 abbrev pub refusesToOpen : ℕ → Opener
 refusesToOpen n =
     record {
-      answer = λ o. record { refusal = n; conversation = closed; written = 0; used = o .issued .used };
+      answer = λ o. record {
+        refusal = n;
+        conversation = closed;
+        written = 0;
+        used = o .issued .used;
+      };
       leaves = λ o. o .issued;
       reply = λ o. o .buffer;
     }
@@ -31,7 +36,12 @@ abbrev pub opensRefused : Opener
 opensRefused =
     record {
       answer = λ o.
-          record { refusal = openRefusal o; conversation = firstConversation o; written = length (openingPacket o); used = openedIssued o .used };
+          record {
+            refusal = openRefusal o;
+            conversation = firstConversation o;
+            written = length (openingPacket o);
+            used = openedIssued o .used;
+          };
       leaves = openedIssued;
       reply = openedBuffer;
     }
@@ -43,7 +53,14 @@ leavesList = record { answer = opened; leaves = λ o. o .issued; reply = openedB
 -- the same opening with no retries
 abbrev pub noRetries : Opening → Opening
 noRetries o =
-    record { id = o .id; challenge = o .challenge; retries = Count 0; lm = o .lm; issued = o .issued; buffer = o .buffer }
+    record {
+      id = o .id;
+      challenge = o .challenge;
+      retries = Count 0;
+      lm = o .lm;
+      issued = o .issued;
+      buffer = o .buffer;
+    }
 
 -- the challenge alone is spent: none of its successors is looked for, and none is added
 abbrev pub spendsOne : Opener
@@ -51,7 +68,13 @@ spendsOne =
     record {
       answer = λ o.
           let a = opened (noRetries o) in
-          record { refusal = a .refusal; conversation = withRetries (retriesOf (o .retries)) (a .conversation); written = a .written; used = a .used };
+          record {
+            refusal = a .refusal;
+            conversation = withRetries (retriesOf (o .retries))
+                (a .conversation);
+            written = a .written;
+            used = a .used;
+          };
       leaves = λ o. openedIssued (noRetries o);
       reply = λ o. openedBuffer (noRetries o);
     }

@@ -81,7 +81,10 @@ abbrev pub challengeRead : Opening → List ℕ → ChallengeFields
 challengeRead o behind = readChallenge (take (opened o .written) (openedBuffer o) ++ behind)
 
 abbrev pub start : Opening → List ℕ → SeriesState
-start o behind = record { conversation = opened o .conversation; peer = afterChallenge (challengeRead o behind) }
+start o behind = record {
+  conversation = opened o .conversation;
+  peer = afterChallenge (challengeRead o behind);
+}
 
 -- our peer "writes its next packet from" its turn
 abbrev pub writes : Writer → Turn → Packet → List ℕ → Wrote
@@ -92,7 +95,11 @@ writes w t (passwordChange o n f) out = w .change t o n f out
 -- "it reaches the box as written": what the writer left in its output buffer, with padding behind
 -- it
 abbrev pub reaching : Wrote → ExchangeInput → StepInput
-reaching w l = record { packet = take (w .answer .length) (w .out) ++ l .packetPadding; account = l .account; buffer = l .buffer }
+reaching w l = record {
+  packet = take (w .answer .length) (w .out) ++ l .packetPadding;
+  account = l .account;
+  buffer = l .buffer;
+}
 
 -- A packet with what comes of it: what the writer left, the step that takes it, our peer once it
 -- wrote, and what reaches our peer.
@@ -134,7 +141,8 @@ Draws x reply reading = (replyOf (x .outcome) ≡ reply) × (peerReads (x .peer)
 
 -- a Failure that our box writes
 abbrev pub DrawsFailure : Exchange → ℕ → ℕ → ℕ → Type 0
-DrawsFailure x id e r = Draws x (failurePacket id (textOf e r version)) (failedWith e r version noChallenge)
+DrawsFailure x id e r = Draws x (failurePacket id (textOf e r version))
+    (failedWith e r version noChallenge)
 
 abbrev pub DrawsSuccess : Exchange → ℕ → Type 0
 DrawsSuccess x id = Draws x (successPacket id) succeeded
@@ -158,7 +166,10 @@ module _ (box : Box) (writer : Writer) where
   -- where a step leads
   abbrev pub next : SeriesState → Step → SeriesState
   next p (ours t l) =
-      record { conversation = exchange p t l .outcome .answer .next; peer = afterReply (exchange p t l .peer) (exchange p t l .reply) }
+      record {
+        conversation = exchange p t l .outcome .answer .next;
+        peer = afterReply (exchange p t l .peer) (exchange p t l .reply);
+      }
   next p (other s) = record { conversation = nextAfter box (p .conversation) s; peer = p .peer }
 
   -- a step's input, and whether its packet is judged
@@ -174,7 +185,8 @@ module _ (box : Box) (writer : Writer) where
   -- right password as the old one", and passed with any record or none.
   abbrev pub Meant : Account → SeriesState → Packet → ExchangeInput → Type 0
   Meant a p (invalid w n) l =
-      l .account .found ≡ true → validIn (p .conversation) (l .account .account) (readResponse (exchange p (invalid w n) l .input .packet)) ≡ false
+      l .account .found ≡ true → validIn (p .conversation) (l .account .account)
+      (readResponse (exchange p (invalid w n) l .input .packet)) ≡ false
   Meant a p (right w n) l = (ntHashOf w ≡ a .nt .octets) × (l .account ≡ found a)
   Meant a p (passwordChange o n f) l = ntHashOf o ≡ a .nt .octets
 
@@ -185,14 +197,19 @@ module _ (box : Box) (writer : Writer) where
 
   -- "after any opening not refused and any refused steps"
   abbrev pub later : Opening → List ℕ → List StepInput → SeriesState
-  later o behind ss = record { conversation = end (nextAfter box) (opened o .conversation) ss; peer = start o behind .peer }
+  later o behind ss = record {
+    conversation = end (nextAfter box) (opened o .conversation) ss;
+    peer = start o behind .peer;
+  }
 
   -- A record "lets a password in at the first Response of a later conversation", "under the same
   -- limits".
   abbrev pub LetsIn : Account → List ℕ → Type 0
   LetsIn a password =
-      (o : Opening) (behind name : List ℕ) (ss : List StepInput) (l : ExchangeInput) → opened o .refusal ≡ 0 → length (o .challenge) ≡ 8
-      → Along (nextAfter box) (Refused box) (opened o .conversation) ss → l .account ≡ found a → TryWithin password name l
+      (o : Opening) (behind name : List ℕ) (ss : List StepInput) (l : ExchangeInput)
+      → opened o .refusal ≡ 0 → length (o .challenge) ≡ 8
+      → Along (nextAfter box) (Refused box) (opened o .conversation) ss → l .account ≡ found a
+      → TryWithin password name l
       → DrawsSuccess (exchange (later o behind ss) (right password name) l) (o .id)
 
   -- An invalid try draws 691 with R=1; the right password Success or, expired, 648; the change
@@ -200,13 +217,16 @@ module _ (box : Box) (writer : Writer) where
   -- part of it: a retry, a version 2 change.)
   abbrev pub Answered : Account → ℕ → Packet → Exchange → Type 0
   Answered a id (invalid w n) x = DrawsFailure x id authenticationFailure 1
-  Answered a id (right w n) x = cond (a .expired) (DrawsFailure x id passwordExpired 0) (DrawsSuccess x id)
+  Answered a id (right w n) x = cond (a .expired) (DrawsFailure x id passwordExpired 0)
+      (DrawsSuccess x id)
   Answered a id (passwordChange o n f) x =
-      DrawsSuccess x id × (x .outcome .answer .updated .found ≡ true) × LetsIn (x .outcome .answer .updated .account) n
+      DrawsSuccess x id × (x .outcome .answer .updated .found ≡ true)
+      × LetsIn (x .outcome .answer .updated .account) n
 
   -- each packet of our peer is written, not refused, and is answered
   abbrev pub Claimed : Account → SeriesState → Step → Type 0
-  Claimed a p (ours t l) = Answered a (p .peer .turn .id) t (exchange p t l) × (exchange p t l .wrote .answer .refusal ≡ 0)
+  Claimed a p (ours t l) = Answered a (p .peer .turn .id) t (exchange p t l)
+      × (exchange p t l .wrote .answer .refusal ≡ 0)
   Claimed a p (other s) = Unit {0}
 
   -- "A single claim about the series from opening to end": the Challenge is read; each packet of
@@ -218,11 +238,14 @@ module _ (box : Box) (writer : Writer) where
   abbrev pub Demand3 : Type 0
   Demand3 =
       (o : Opening) → opened o .refusal ≡ 0 → length (o .challenge) ≡ 8
-      → ((behind : List ℕ) → challengeRead o behind ≡ record { refusal = 0; id = o .id; challenge = o .challenge })
+      → ((behind : List ℕ) → challengeRead o behind
+      ≡ record { refusal = 0; id = o .id; challenge = o .challenge })
       × ((a : Account) (k : ℕ) (behind : List ℕ) (ms : List Step)
-      → Rightful a → k ≤ retriesOf (o .retries) → collect packetKinds ms ≡ plan k (a .expired) → Along next (Allowed a) (start o behind) ms
+      → Rightful a → k ≤ retriesOf (o .retries) → collect packetKinds ms ≡ plan k (a .expired)
+      → Along next (Allowed a) (start o behind) ms
       → Along next (Claimed a) (start o behind) ms
       × (total next judgedAt (start o behind) ms ≡ k + cond (a .expired) 2 1)
       × (end next (start o behind) ms .conversation .phase ≡ Ended))
-      × ((ss : List StepInput) → (total (nextAfter box) (judged box) (opened o .conversation) ss ≤ retriesOf (o .retries) + 2)
+      × ((ss : List StepInput) → (total (nextAfter box) (judged box) (opened o .conversation) ss
+      ≤ retriesOf (o .retries) + 2)
       × Along (nextAfter box) (Leaves box) (opened o .conversation) ss)

@@ -48,7 +48,14 @@ pub data Output : Type 0 where
 -- on an empty list with a place for each of its three challenges
 abbrev openingOf : ℕ → List ℕ → Opening
 openingOf id c =
-    record { id = id; challenge = c; retries = Default; lm = Silent; issued = emptyList 8 3; buffer = replicate 17 0 }
+    record {
+      id = id;
+      challenge = c;
+      retries = Default;
+      lm = Silent;
+      issued = emptyList 8 3;
+      buffer = replicate 17 0;
+    }
 
 -- the refusal's number, or the reply
 abbrev drawnAs : kinds.Kind → Outcome → Output
@@ -76,8 +83,10 @@ unfoldable pub outputOf : Input → Output
 outputOf (identifier i) = number (nextId i)
 outputOf (challenge c) = octets (incremented c)
 outputOf (key k) = octets (expandKey k)
-outputOf (opening id c) = octets (take (opened (openingOf id c) .written) (openedBuffer (openingOf id c)))
-outputOf (response id p) = answered (step (firstConversation (openingOf id (replicate 8 0))) p notFound (replicate 17 0))
+outputOf (opening id c) = octets
+    (take (opened (openingOf id c) .written) (openedBuffer (openingOf id c)))
+outputOf (response id p) = answered
+    (step (firstConversation (openingOf id (replicate 8 0))) p notFound (replicate 17 0))
 outputOf (block b) = held (contentFor (lengthIn b))
 outputOf (message m) = readAs (readMessage m .verdict) (readMessage m .c)
 
@@ -94,8 +103,14 @@ rows =
     -- (a)
     record { input = identifier 255; output = number 0 }
     -- (b), (c)
-    ∷ record { input = challenge (0xE8 ∷ 2 ∷ 3 ∷ 4 ∷ 5 ∷ 6 ∷ 7 ∷ 8 ∷ []); output = octets (0xFF ∷ 2 ∷ 3 ∷ 4 ∷ 5 ∷ 6 ∷ 7 ∷ 8 ∷ []) }
-    ∷ record { input = challenge (0xE9 ∷ 2 ∷ 3 ∷ 4 ∷ 5 ∷ 6 ∷ 7 ∷ 8 ∷ []); output = octets (0 ∷ 2 ∷ 3 ∷ 4 ∷ 5 ∷ 6 ∷ 7 ∷ 8 ∷ []) }
+    ∷ record {
+      input = challenge (0xE8 ∷ 2 ∷ 3 ∷ 4 ∷ 5 ∷ 6 ∷ 7 ∷ 8 ∷ []);
+      output = octets (0xFF ∷ 2 ∷ 3 ∷ 4 ∷ 5 ∷ 6 ∷ 7 ∷ 8 ∷ []);
+    }
+    ∷ record {
+      input = challenge (0xE9 ∷ 2 ∷ 3 ∷ 4 ∷ 5 ∷ 6 ∷ 7 ∷ 8 ∷ []);
+      output = octets (0 ∷ 2 ∷ 3 ∷ 4 ∷ 5 ∷ 6 ∷ 7 ∷ 8 ∷ []);
+    }
     -- (d), (e)
     ∷ record { input = key (replicate 7 0xFF); output = octets (replicate 8 0xFE) }
     ∷ record { input = key (1 ∷ replicate 6 0); output = octets (0 ∷ 0x80 ∷ replicate 6 0) }

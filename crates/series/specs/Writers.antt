@@ -18,8 +18,10 @@ pub record Writer : Type 0 where
 abbrev pub refusingToWrite : ℕ → Writer
 refusingToWrite n =
     record {
-      response = λ turn password name out. record { answer = record { refusal = n; length = 0 }; out = out };
-      change = λ turn old new filler out. record { answer = record { refusal = n; length = 0 }; out = out };
+      response = λ turn password name out.
+          record { answer = record { refusal = n; length = 0 }; out = out };
+      change = λ turn old new filler out.
+          record { answer = record { refusal = n; length = 0 }; out = out };
     }
 
 -- writes ours, but asks for the LM response, which it zero-fills, to be judged: the flag is 0
@@ -31,7 +33,8 @@ asksForLm =
     record {
       response = λ turn password name out.
           wroteBy (writeResponseRefusal password name out)
-          (responsePacket (turn .id) (lmFields (responseFields (turn .challenge) password)) name) out;
+          (responsePacket (turn .id) (lmFields (responseFields (turn .challenge) password)) name)
+          out;
       change = writeChange;
     }
 

@@ -34,7 +34,8 @@ unsealedHash o = contentHash (o .content) o
 -- challenge in force
 abbrev pub proves : Account → List ℕ → Change → List ℕ → Bool
 proves kept challenge f h =
-    agrees (f .verifier) (oldUnderNew (kept .nt .octets) h) && agrees (f .nt) (responseOf h challenge)
+    agrees (f .verifier) (oldUnderNew (kept .nt .octets) h)
+    && agrees (f .nt) (responseOf h challenge)
 
 abbrev pub proven : Account → List ℕ → Change → Option (List ℕ) → Option (List ℕ)
 proven kept challenge f none = none
