@@ -6,7 +6,7 @@ mod slips;
 
 fn main() {
     loopback::say(
-        b"A box and a peer loopback. <- is a packet of the box (authenticator), -> one of the peer.",
+        b"A box and a peer talk. <- is a packet of the box (authenticator), -> one of the peer.",
     );
     loopback::say(
         b"Each opening is lent an empty list of issued challenges, but for the first slip, where two boxes share one.",

@@ -99,11 +99,9 @@ fn carry() {
 // ---- the Response
 
 fn disabled_account() -> Lookup {
-    let mut lookup = account(false);
-    let mut record = lookup.account;
-    record.disabled = true;
-    lookup.account = record;
-    lookup
+    let nt = accounts::hash_of(old_hash());
+    let lm = accounts::no_hash();
+    accounts::found(accounts::account_with(nt, lm, true, false, false, false))
 }
 
 // An opening with so many retries.
@@ -129,12 +127,9 @@ fn unknown() {
 
 // The account with an LM hash too.
 fn account_with_lm(octets: [u8; 16]) -> Lookup {
+    let nt = accounts::hash_of(old_hash());
     let lm = accounts::hash_of(octets);
-    let mut lookup = account(false);
-    let mut record = lookup.account;
-    record.lm = lm;
-    lookup.account = record;
-    lookup
+    accounts::found(accounts::account_with(nt, lm, false, false, false, false))
 }
 
 // A wrong password, with another LM response than the zeros that our peer writes.

@@ -12,7 +12,7 @@ use Rattle.issued.specs.Issued.{emptyList, badBuffer}
 use Rattle.credentials.specs.Credentials.{ntHashOf, badNtPassword}
 use Rattle.packets.specs.Response.{readResponse}
 use Rattle.packets.specs.declared.Response as fields
-use Rattle.accounts.specs.Account.{noHash, blankAccount, notFound, found, Rightful}
+use Rattle.accounts.specs.Account.{noHash, blankAccount, notFound, found, Rightful, hashOf, accountWith}
 use Rattle.verify.specs.Response.{answers, valid}
 use Rattle.authenticator.specs.Judge.{validIn}
 use Rattle.authenticator.specs.Opening.{Opening, opened}
@@ -68,15 +68,7 @@ user = 117 ∷ []
 
 -- a record whose password is "MyPw", expired or not
 abbrev pub account : Bool → Account
-account expired =
-    record {
-      nt = record { present = true; octets = ntHashOf old };
-      lm = noHash;
-      disabled = false;
-      «hours_denied» = false;
-      «dialin_denied» = false;
-      expired = expired;
-    }
+account expired = accountWith (hashOf (ntHashOf old)) noHash false false false expired
 
 pub rightful : (expired : Bool) → Rightful (account expired)
 rightful expired = record { nt = refl; enabled = refl; hours = refl; dialin = refl }
