@@ -1,6 +1,7 @@
-# !/bin/sh Compiles host/bench.c against the archive that `rt staticlib mschap` wrote, and runs it:
-# a table of times, next to OpenSSL's where its headers are installed. Exit status 1 where the two
-# differ in an octet, or a call is not answered as it should be.
+#!/bin/sh
+# Compiles host/bench.c against the archive that `rt staticlib mschap` wrote, and runs it: a table of
+# times, next to OpenSSL's where its headers are installed. Exit status 1 where the two differ in an
+# octet, or a call is not answered as it should be.
 set -eu
 cd "$(dirname "$0")/.."
 archive=${1:-target/staticlib/libmschap.a}
@@ -10,9 +11,9 @@ mkdir -p target/bench
 # What is asked of libcrypto is compiled and linked, since a build of it may have headers and yet
 # lack a cipher.
 cat > target/bench/probe.c <<'END'
-# include <openssl/des.h>
-# include <openssl/md4.h>
-# include <openssl/rc4.h>
+#include <openssl/des.h>
+#include <openssl/md4.h>
+#include <openssl/rc4.h>
 int main(void)
 {
     static unsigned char octets[16];

@@ -1,7 +1,8 @@
-# !/bin/sh The archive of `mschap` as others link it: it has no writable data, the example in C
-# prints what it should, and every function of the header answers bad lengths and null pointers as
-# it should, under valgrind where that is installed. Run in the repository, once `rt staticlib
-# mschap` has written the archive.
+#!/bin/sh
+# The archive of `mschap` as others link it: it has no writable data, the example in C prints what
+# it should, and every function of the header answers bad lengths and null pointers as it should,
+# under valgrind where that is installed. Run in the repository, once `rt staticlib mschap` has
+# written the archive.
 set -eu
 archive=target/staticlib/libmschap.a
 header=host/include/mschap.h

@@ -1,4 +1,4 @@
-# !/bin/sh
+#!/bin/sh
 # Runs showfail on messages and compares what it prints (document 01, "What the peer reads").
 # Usage: showfail.sh PROGRAM. Prints the first difference and exits 1, or one line with the count.
 program=$1

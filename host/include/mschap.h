@@ -254,7 +254,7 @@ uint32_t mschap_step(uint8_t *conversation, size_t conversation_size,
                      const uint8_t *packet, size_t packet_size,
                      const uint8_t *record, size_t record_size,
                      uint8_t *reply, size_t reply_size,
-                     uint8_t *updated, size_t handed_size);
+                     uint8_t *updated, size_t updated_size);
 
 /* Where the account is in a Response: what follows the first backslash of its name or, if there is
    none, the whole name. It ends at the packet's Length.

@@ -1,7 +1,9 @@
-// ! A second, independent implementation of MS-CHAP version 1 (RFC 2433), written from the !
-// standards (RFC 2433, RFC 1994, RFC 1320, FIPS 46-2), the project's scope document and its change
-// ! requests alone. ! It exists to be compared, line for line, with another program; clarity goes
-// before speed. ! ! Refusals are the numbers of the scope document; 0 stands for "not refused".
+//! A second, independent implementation of MS-CHAP version 1 (RFC 2433), written from the
+//! standards (RFC 2433, RFC 1994, RFC 1320, FIPS 46-2), the project's scope document and its change
+//! requests alone.
+//! It exists to be compared, line for line, with another program; clarity goes before speed.
+//!
+//! Refusals are the numbers of the scope document; 0 stands for "not refused".
 
 pub mod authenticator;
 pub mod des;
@@ -14,14 +16,14 @@ pub mod peer;
 pub mod rc4;
 pub mod script;
 
-// / The challenge's first octet grows by 23 modulo 256; the other seven stay.
+/// The challenge's first octet grows by 23 modulo 256; the other seven stay.
 pub fn grown(challenge: &[u8; 8]) -> [u8; 8] {
     let mut next = *challenge;
     next[0] = ((u16::from(next[0]) + 23) % 256) as u8;
     next
 }
 
-// / The identifier after this one, modulo 256.
+/// The identifier after this one, modulo 256.
 pub fn next_identifier(id: u8) -> u8 {
     ((u16::from(id) + 1) % 256) as u8
 }

@@ -1,6 +1,6 @@
-// ! Makes the cases file, and checks the results of its lines against the values that the rules
-// ! print. The text is compared with the stored file, which both programs run;
-// ! `WRITE_CASES=1 cargo test --release --offline --test cases` writes that file anew.
+//! Makes the cases file, and checks the results of its lines against the values that the rules
+//! print. The text is compared with the stored file, which both programs run;
+//! `WRITE_CASES=1 cargo test --release --offline --test cases` writes that file anew.
 
 use reference::authenticator::{Account, Phase};
 use reference::hashes;
@@ -9,10 +9,10 @@ use reference::peer::{self, Turn};
 use reference::rc4::rc4;
 use reference::script::{hex, Session};
 
-// / Fixed octets: the challenge, the password `MyPw` with its hash H and its response NR are those
-// / of RFC 2433 B.2; the others were computed by OpenSSL and by Nettle. Q is the new password /
-// `MyNewPw` with its hash HQ, L the LM hash of `MyPw`, ZR the response of a hash of octets 0, BAD /
-// that of the password `bad`; a name that ends in 23 is a response to the challenge after a retry.
+/// Fixed octets: the challenge, the password `MyPw` with its hash H and its response NR are those
+/// of RFC 2433 B.2; the others were computed by OpenSSL and by Nettle. Q is the new password
+/// `MyNewPw` with its hash HQ, L the LM hash of `MyPw`, ZR the response of a hash of octets 0, BAD
+/// that of the password `bad`; a name that ends in 23 is a response to the challenge after a retry.
 const CH: [u8; 8] = [0x10, 0x2D, 0xB5, 0xDF, 0x08, 0x5D, 0x30, 0x41];
 const CHX: &str = "102DB5DF085D3041";
 const CH23: &str = "272DB5DF085D3041";
@@ -59,7 +59,7 @@ fn resp(id: u8, lm: &str, nt: &str, flag: u8, name: &[u8]) -> Vec<u8> {
     packet::response(id, &array(lm), &array(nt), flag, name)
 }
 
-// / A change as our peer writes it.
+/// A change as our peer writes it.
 fn change(id: u8, challenge: &[u8; 8], old: &[u8], new: &[u8]) -> Vec<u8> {
     let mut out = vec![0; 1118];
     let turn = Turn {
@@ -73,7 +73,7 @@ fn change(id: u8, challenge: &[u8; 8], old: &[u8], new: &[u8]) -> Vec<u8> {
     out
 }
 
-// / A change whose opened block has any length, the other fields being those of `new`.
+/// A change whose opened block has any length, the other fields being those of `new`.
 fn change_with_length(length: u32, new: &[u8]) -> Vec<u8> {
     let h = hashes::nt_hash(P).unwrap();
     let mut packet = change(8, &CH, P, new);
@@ -91,7 +91,7 @@ fn with(packet: &[u8], edits: &[(usize, &[u8])]) -> Vec<u8> {
     out
 }
 
-// / What `places 8` lends, after an opening that was not refused: used, list and counts.
+/// What `places 8` lends, after an opening that was not refused: used, list and counts.
 fn spent(challenge: &str, r: u8) -> String {
     let challenge: [u8; 8] = array(challenge);
     let mut list = Vec::new();
@@ -103,7 +103,7 @@ fn spent(challenge: &str, r: u8) -> String {
     format!("{0} {1} {2:02X}:{0}", r + 1, hex(&list), challenge[7])
 }
 
-// / The same after one that was refused.
+/// The same after one that was refused.
 fn unspent() -> String {
     format!("0 {} -", "00".repeat(64))
 }
@@ -112,7 +112,7 @@ fn text(message: &str) -> String {
     hex(message.as_bytes())
 }
 
-// / The parts of a step's result.
+/// The parts of a step's result.
 struct Stepped {
     refusal: String,
     reason: String,
@@ -151,12 +151,12 @@ impl Sheet {
         self.copied(&format!("# {words}"));
     }
 
-    // / A vector line; what is computed must be what is written.
+    /// A vector line; what is computed must be what is written.
     fn vector(&mut self, line: &str) {
         self.copied(line);
     }
 
-    // / A command with its result.
+    /// A command with its result.
     fn ask(&mut self, command: &str) -> String {
         let out = self.session.line(command);
         self.text.push_str(command);
@@ -179,7 +179,7 @@ impl Sheet {
         self.is(&format!("account {nt} {lm} {marks}"), "");
     }
 
-    // / An empty list, long enough for any opening.
+    /// An empty list, long enough for any opening.
     fn places(&mut self) {
         self.is("places 8", "");
     }
@@ -203,7 +203,7 @@ impl Sheet {
         self.open(7, CHX, "-", "-");
     }
 
-    // / Opens and goes on to the awaited change.
+    /// Opens and goes on to the awaited change.
     fn expire(&mut self, nt: &str, lm: &str) {
         self.account(nt, lm, "0001");
         self.open7();
@@ -238,7 +238,7 @@ impl Sheet {
         }
     }
 
-    // / A step that draws Success.
+    /// A step that draws Success.
     fn success(&mut self, packet: &[u8]) -> Stepped {
         let answer = self.step(packet, B);
         let expected = format!("03{:02X}0004{}", packet[1], hex(&[0xAA; 16]));
@@ -253,7 +253,7 @@ impl Sheet {
         answer
     }
 
-    // / A step that draws a Failure.
+    /// A step that draws a Failure.
     fn failure(&mut self, packet: &[u8], reason: &str, r: u8) -> Stepped {
         let answer = self.step(packet, B);
         let message = text(&format!("E={reason} R={r} V=2"));
@@ -271,7 +271,7 @@ impl Sheet {
         answer
     }
 
-    // / A step that is refused, and changes nothing.
+    /// A step that is refused, and changes nothing.
     fn refused(&mut self, packet: &[u8], buffer: &str, refusal: &str) {
         let before = *self.session.conversation();
         let count: usize = buffer.strip_prefix("AA*").unwrap_or("0").parse().unwrap();
@@ -331,8 +331,8 @@ fn cases() {
     );
 }
 
-// / Vectors beside the published ones (`tests/published.rs`): their values were computed by OpenSSL
-// / 3.0.19 and by Nettle, which agree.
+/// Vectors beside the published ones (`tests/published.rs`): their values were computed by OpenSSL
+/// 3.0.19 and by Nettle, which agree.
 fn vectors(s: &mut Sheet) {
     s.copied("# Cases for both programs. Packets, blocks and responses stand as literal octets.");
     s.title("MD4: padding edges, and the most octets");
@@ -1709,14 +1709,14 @@ fn table_of_twelve(s: &mut Sheet) {
     s.is(&format!("failure {}", text("R=1 V=2")), "refused 11");
 }
 
-// / Our peer against our box, each packet taken from what was written before.
+/// Our peer against our box, each packet taken from what was written before.
 struct Peer {
     turn: String,
     last: String,
 }
 
 impl Peer {
-    // / Opens, and has the peer read the Challenge.
+    /// Opens, and has the peer read the Challenge.
     fn meet(s: &mut Sheet, id: u8, r: &str) -> Peer {
         s.places();
         let result = s.ask(&format!("open {id} {CHX} {r} - {B}"));
@@ -1729,7 +1729,7 @@ impl Peer {
         }
     }
 
-    // / Writes a packet, hands it to the box, reads the reply.
+    /// Writes a packet, hands it to the box, reads the reply.
     fn send(&mut self, s: &mut Sheet, command: &str, verdict: &str) -> Stepped {
         let result = s.ask(command);
         let words: Vec<&str> = result.split(' ').collect();
@@ -1917,8 +1917,8 @@ fn octet_strings(s: &mut Sheet) {
     s.is("rc4 01 00*1", "06");
 }
 
-// / Entries of a list: C1, its successors by the 23 rule as far as r = 7 goes, and another with its
-// / first two.
+/// Entries of a list: C1, its successors by the 23 rule as far as r = 7 goes, and another with its
+/// first two.
 const C1: &str = "0102030405060708";
 const C18: &str = "1802030405060708";
 const C2F: &str = "2F02030405060708";
@@ -1932,10 +1932,10 @@ const D28: &str = "2812131415161718";
 const D3F: &str = "3F12131415161718";
 const Z8: &str = "0000000000000000";
 
-// / 256 counts, all 0.
+/// 256 counts, all 0.
 const NO_COUNTS: &str = "00*512";
 
-// / As many counts, 0 but for those of the octets named.
+/// As many counts, 0 but for those of the octets named.
 fn counts(size: usize, named: &[(usize, u16)]) -> String {
     let mut counts = vec![0u16; size];
     for (octet, count) in named {
@@ -1949,7 +1949,7 @@ impl Sheet {
         self.is(&format!("list {buffer} {used} {counts}"), "");
     }
 
-    // / An opening that is not refused, and the list afterwards.
+    /// An opening that is not refused, and the list afterwards.
     fn spends(&mut self, challenge: &str, r: u8, list: &str) {
         self.is(
             &format!("open 7 {challenge} {r} - AA*17"),
@@ -1957,7 +1957,7 @@ impl Sheet {
         );
     }
 
-    // / An opening that is refused, and the list, which stays.
+    /// An opening that is refused, and the list, which stays.
     fn keeps(&mut self, challenge: &str, r: u8, refusal: u8, list: &str) {
         self.is(
             &format!("open 7 {challenge} {r} - AA*17"),
@@ -2324,7 +2324,7 @@ fn issued_challenges(s: &mut Sheet) {
     );
 }
 
-// / A line that is no command draws an error; the stored scripts have none.
+/// A line that is no command draws an error; the stored scripts have none.
 #[test]
 fn malformed_lines() {
     let mut sheet = Sheet {
@@ -2393,7 +2393,7 @@ fn malformed_lines() {
     }
 }
 
-// / R-CHANGE-7 and O-8, O-9: values that no opening makes.
+/// R-CHANGE-7 and O-8, O-9: values that no opening makes.
 #[test]
 fn conversations_made_by_hand() {
     use reference::authenticator::{step, Conversation};
@@ -2459,7 +2459,7 @@ fn conversations_made_by_hand() {
     );
 }
 
-// / SHA-256, for the one digest that the rules print.
+/// SHA-256, for the one digest that the rules print.
 fn sha256(input: &[u8]) -> String {
     let primes: Vec<u64> = (2..312)
         .filter(|n| (2..*n).all(|d| n % d != 0))

@@ -13,7 +13,7 @@ use lib.Dec.{eqb, ltb}
 use lib.ListN.{length, take, replicate}
 use Rattle.issued.specs.Issued.{Issued, places, listed, contains, Distinct, containsAny, countsOf, badBuffer, badCounts, spendRefusal, spent}
 use Rattle.issued.proofs.Listing.{Wide}
-use Rattle.issued.proofs.Spending.{accepted, accepts, empty-accepts, same-issued, spent-added, spent-listed, spent-contains, spent-keeps, spent-true, spent-sound}
+use Rattle.issued.proofs.Spending.{spendable, may-spend, may-spend-empty, same-issued, spent-added, spent-listed, spent-contains, spent-keeps, spent-true, spent-sound}
 use Rattle.packets.specs.Frame.{writtenOver}
 use Rattle.packets.specs.Reply.{challengePacket, badReplyBuffer}
 use Rattle.challenges.proofs.Laid.{length-challenges-from}
@@ -73,7 +73,7 @@ module _ (o : Opening) where
 
     -- none of what it spends stood in the list
     pub opened-fresh : containsAny (spends o) (listed 8 (o .issued)) ≡ false
-    opened-fresh = accepted 8 (spends o) (o .issued) (passed .2) .fresh
+    opened-fresh = spendable 8 (spends o) (o .issued) (passed .2) .fresh
 
     opened-spent : openedIssued o ≡ spent 8 (spends o) (o .issued)
     unfolding openedIssued
@@ -140,13 +140,13 @@ module _ (o : Opening) (few : retriesOf (o .retries) ≤ 7) (room : 17 ≤ lengt
       → containsAny (spends o) (listed 8 (o .issued)) ≡ false → o .issued .used + suc (retriesOf (o .retries)) ≤ places 8 (o .issued .buffer)
       → opened o .refusal ≡ 0
   may-open sound counts fresh left =
-      may-open-by (accepts 8 (spends o) (o .issued) sound counts fresh (omega (arith, length-challenges-from (suc (retriesOf (o .retries))) (o .challenge))))
+      may-open-by (may-spend 8 (spends o) (o .issued) sound counts fresh (omega (arith, length-challenges-from (suc (retriesOf (o .retries))) (o .challenge))))
 
   -- on an empty one, whatever lies in its places
   pub may-open-empty : badBuffer 8 (o .issued .buffer) (o .issued .used) ≡ false → o .issued .used ≡ 0 → o .issued .counts ≡ replicate 256 0
       → suc (retriesOf (o .retries)) ≤ places 8 (o .issued .buffer) → opened o .refusal ≡ 0
   may-open-empty sound none zeros left =
-      may-open-by (empty-accepts 8 (spends o) (o .issued) sound none zeros (omega (arith, length-challenges-from (suc (retriesOf (o .retries))) (o .challenge))))
+      may-open-by (may-spend-empty 8 (spends o) (o .issued) sound none zeros (omega (arith, length-challenges-from (suc (retriesOf (o .retries))) (o .challenge))))
 
 -- ---- how the code shows its promise at a return
 

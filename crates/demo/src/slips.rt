@@ -1,7 +1,7 @@
 // What students get wrong, and what the box does: the slips of docs/SLIPS.md.
 use accounts::Lookup;
 use authenticator::Retries;
-use loopback::Issued;
+use loopback::IssuedList;
 use loopback::Loopback;
 use loopback::account;
 use loopback::another_challenge;
@@ -29,7 +29,7 @@ use loopback::wrongly_for;
 
 // A second box, on the list that the first was passed: neither its challenge nor the next one,
 // which a retry would answer, can be had again. A refused opening leaves the list as it was.
-fn refused_twice(list: Issued) {
+fn refused_twice(list: IssuedList) {
     say(
         b"   A second box on the same list, with the same challenge, and with the one that a retry at the first would answer:",
     );
@@ -57,7 +57,7 @@ fn replay(loopback: Loopback, recorded: &[u8]) {
 }
 
 // With a challenge of its own it opens.
-fn with_its_own(list: Issued, recorded: &[u8]) {
+fn with_its_own(list: IssuedList, recorded: &[u8]) {
     say(
         b"   With a challenge of its own it opens, and the recorded Response is a wrong one there:",
     );
@@ -67,7 +67,7 @@ fn with_its_own(list: Issued, recorded: &[u8]) {
 }
 
 // The first box on the list: its Response is recorded in out. Answers the list.
-fn first_on_list(out: &mut [u8]) -> Issued {
+fn first_on_list(out: &mut [u8]) -> IssuedList {
     let loopback = usual_opening();
     say_list(loopback);
     let password = right();

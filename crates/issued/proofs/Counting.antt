@@ -13,7 +13,7 @@ use lib.Seq.{ext-getD, getD-set-same, getD-set-other, set-out, append-snoc}
 use Rattle.octets.specs.Parts.{agrees}
 use Rattle.octets.proofs.Parts.{agrees-equal}
 use Rattle.issued.specs.Issued.{entries, contains, lastOf, ending, endings, countsOf}
-use Rattle.issued.specs.Inner.{raisedAt, raised, Room}
+use Rattle.issued.specs.Inner.{raisedAt, raised, CountsFit}
 use Rattle.issued.proofs.Listing.{Lie, entries-next, rest-part, rest-lies, last-first}
 
 -- ---- how many end in an octet
@@ -119,15 +119,15 @@ counted cs e = e ∙ ap (λ (l : List ℕ). raised l cs) none-counted ∙ raised
 
 -- ---- room
 
-pub counts-room : (es : List (List ℕ)) (n : ℕ) → length es + n < 65536 → Room (countsOf es) n
+pub counts-room : (es : List (List ℕ)) (n : ℕ) → length es + n < 65536 → CountsFit (countsOf es) n
 counts-room es n h x = which (leb 256 x) refl
   where
     which : (t : Bool) → leb 256 x ≡ t → getD (countsOf es) x 0 + n < 65536
     which true p = omega (arith, List·getD-eq-default (countsOf es) 0 {n = x} (omega (arith, leb-true 256 x p, length-endings 0 256 es)))
     which false p = omega (arith, count-at es x (leb-false 256 x p), ending-most x es)
 
-pub zeros-room : (n : ℕ) → n < 65536 → Room (replicate 256 0) n
-zeros-room n h = subst (λ (l : List ℕ). Room l n) (sym none-counted) (counts-room [] n (omega arith))
+pub zeros-room : (n : ℕ) → n < 65536 → CountsFit (replicate 256 0) n
+zeros-room n h = subst (λ (l : List ℕ). CountsFit l n) (sym none-counted) (counts-room [] n (omega arith))
 
 raised-at-most : (counts : List ℕ) (x y : ℕ) → getD (raisedAt counts x) y 0 ≤ getD counts y 0 + 1
 raised-at-most counts x y = which (eqb y x) (leb (length counts) x) refl refl
@@ -140,7 +140,7 @@ raised-at-most counts x y = which (eqb y x) (leb (length counts) x) refl refl
         omega (arith, ap (λ (z : ℕ). getD (raisedAt counts x) z 0) e, ap (λ (z : ℕ). getD counts z 0) e, getD-set-same counts x (getD counts x 0 + 1) 0 (leb-false (length counts) x q))
     which false u p q = omega (arith, getD-set-other counts x y (getD counts x 0 + 1) 0 (eqb-false y x p))
 
-room-next : (counts : List ℕ) (x n : ℕ) → 0 < n → Room counts n → Room (raisedAt counts x) (n - 1)
+room-next : (counts : List ℕ) (x n : ℕ) → 0 < n → CountsFit counts n → CountsFit (raisedAt counts x) (n - 1)
 room-next counts x n h r y = omega (arith, r y, raised-at-most counts x y)
 
 -- ---- a loop that raises the counts
@@ -149,7 +149,7 @@ room-next counts x n h r y = omega (arith, r y, raised-at-most counts x y)
 pub record Uncounted (w : ℕ) (counts l : List ℕ) (n : ℕ) (all : List ℕ) : Type 0 where
   pub lie : Lie w l n
   pub size : length counts ≡ 256
-  pub room : Room counts n
+  pub room : CountsFit counts n
   pub same : raised counts (entries w n l) ≡ all
 
 module _ (w : ℕ) (counts l : List ℕ) (n : ℕ) (all : List ℕ) (more : 0 < n) (h : Uncounted w counts l n all) where
@@ -165,7 +165,7 @@ module _ (w : ℕ) (counts l : List ℕ) (n : ℕ) (all : List ℕ) (more : 0 < 
       record {
         lie = rest-lies w l n more (h .lie);
         size = ap length k ∙ length-raised-at counts (lastOf (take w l)) ∙ h .size;
-        room = subst (λ (m : List ℕ). Room m (n - 1)) (sym k) (room-next counts (lastOf (take w l)) n more (h .room));
+        room = subst (λ (m : List ℕ). CountsFit m (n - 1)) (sym k) (room-next counts (lastOf (take w l)) n more (h .room));
         same = ap₂ (λ (m r : List ℕ). raised m (entries w (n - 1) r)) k (rest-part w l) ∙ sym (ap (raised counts) (entries-next w n l more)) ∙ h .same;
       }
 

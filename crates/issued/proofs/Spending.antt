@@ -55,20 +55,20 @@ places-fit w n l h = omega (arith, mul-le-mul-left w h, mul-div-le (length l) w)
 
 -- ---- what is known of entries that are not refused
 
-pub record Accepted (w : ℕ) (cs : List (List ℕ)) (i : Issued) : Type 0 where
+pub record Spendable (w : ℕ) (cs : List (List ℕ)) (i : Issued) : Type 0 where
   pub passed : badBuffer w (i .buffer) (i .used) ≡ false
   pub buffer : GoodList w (i .buffer) (i .used)
   pub counts : i .counts ≡ countsOf (listed w i)
   pub fresh : containsAny cs (listed w i) ≡ false
   pub room : i .used + length cs ≤ places w (i .buffer)
 
-pub accepted : (w : ℕ) (cs : List (List ℕ)) (i : Issued) → spendRefusal w cs i ≡ 0 → Accepted w cs i
+pub spendable : (w : ℕ) (cs : List (List ℕ)) (i : Issued) → spendRefusal w cs i ≡ 0 → Spendable w cs i
 unfolding spendRefusal
-accepted w cs i h =
+spendable w cs i h =
     which (badBuffer w (i .buffer) (i .used)) (agrees (countsOf (listed w i)) (i .counts)) (containsAny cs (listed w i)) (full w cs i) refl refl refl refl h
   where
     which : (t₁ t₂ t₃ t₄ : Bool) → badBuffer w (i .buffer) (i .used) ≡ t₁ → agrees (countsOf (listed w i)) (i .counts) ≡ t₂ → containsAny cs (listed w i) ≡ t₃
-        → full w cs i ≡ t₄ → _≡_ {A = ℕ} (cond t₁ 24 (cond (not t₂) 24 (cond t₃ 16 (cond t₄ 17 0)))) 0 → Accepted w cs i
+        → full w cs i ≡ t₄ → _≡_ {A = ℕ} (cond t₁ 24 (cond (not t₂) 24 (cond t₃ 16 (cond t₄ 17 0)))) 0 → Spendable w cs i
     which true t₂ t₃ t₄ p₁ p₂ p₃ p₄ z = absurd (omega arith)
     which false false t₃ t₄ p₁ p₂ p₃ p₄ z = absurd (omega arith)
     which false true true t₄ p₁ p₂ p₃ p₄ z = absurd (omega arith)
@@ -79,19 +79,19 @@ accepted w cs i h =
         record { passed = p₁; buffer = g; counts = sym (agrees-equal (countsOf (listed w i)) (i .counts) p₂); fresh = p₃; room = omega (arith, g .fits) }
 
 -- and where that is so, they are not refused
-pub accepts : (w : ℕ) (cs : List (List ℕ)) (i : Issued) → badBuffer w (i .buffer) (i .used) ≡ false → i .counts ≡ countsOf (listed w i)
+pub may-spend : (w : ℕ) (cs : List (List ℕ)) (i : Issued) → badBuffer w (i .buffer) (i .used) ≡ false → i .counts ≡ countsOf (listed w i)
     → containsAny cs (listed w i) ≡ false → i .used + length cs ≤ places w (i .buffer) → spendRefusal w cs i ≡ 0
 unfolding spendRefusal
-accepts w cs i sound counts fresh room =
+may-spend w cs i sound counts fresh room =
     let told = ap (agrees (countsOf (listed w i))) counts ∙ agrees-refl (countsOf (listed w i)) in
     simp (sound, told, fresh, le-ltb (places w (i .buffer) - i .used) (length cs) (omega arith))
 
 -- an empty list, whatever lies in its places
-pub empty-accepts : (w : ℕ) (cs : List (List ℕ)) (i : Issued) → badBuffer w (i .buffer) (i .used) ≡ false → i .used ≡ 0 → i .counts ≡ replicate 256 0
+pub may-spend-empty : (w : ℕ) (cs : List (List ℕ)) (i : Issued) → badBuffer w (i .buffer) (i .used) ≡ false → i .used ≡ 0 → i .counts ≡ replicate 256 0
     → length cs ≤ places w (i .buffer) → spendRefusal w cs i ≡ 0
-empty-accepts w cs i sound none zeros room =
+may-spend-empty w cs i sound none zeros room =
     let empty : listed w i ≡ [] = ap (λ (n : ℕ). entries w n (i .buffer)) none in
-    accepts w cs i sound (zeros ∙ none-counted ∙ ap countsOf (sym empty)) (ap (containsAny cs) empty ∙ contains-any-none cs) (omega arith)
+    may-spend w cs i sound (zeros ∙ none-counted ∙ ap countsOf (sym empty)) (ap (containsAny cs) empty ∙ contains-any-none cs) (omega arith)
 
 -- ---- the list afterwards
 
@@ -111,7 +111,7 @@ module _ (w : ℕ) (cs : List (List ℕ)) (i : Issued) where
   -- entries that are not refused stand behind those that were there
   pub spent-listed : Wide w cs → spendRefusal w cs i ≡ 0 → listed w (spent w cs i) ≡ listed w i ++ cs
   spent-listed wide h =
-      let a = accepted w cs i h in
+      let a = spendable w cs i h in
       ap (listed w) (spent-added h)
       ∙ entries-laid w (i .used) cs (i .buffer) wide (places-fit w (i .used + length cs) (i .buffer) (a .room))
 
@@ -146,7 +146,7 @@ module _ (w : ℕ) (cs : List (List ℕ)) (i : Issued) where
   -- and leave a buffer, a number and counts that draw no 24
   pub spent-sound : Wide w cs → spendRefusal w cs i ≡ 0 → (badBuffer w (spent w cs i .buffer) (spent w cs i .used) ≡ false) × (badCounts w (spent w cs i) ≡ false)
   spent-sound wide h =
-      let a = accepted w cs i h in
+      let a = spendable w cs i h in
       let e = spent-added h in
       let long = ap (λ (x : Issued). length (x .buffer)) e ∙ length-over-at (w * i .used) (flatten cs) (i .buffer) in (
         ap (badBuffer w (spent w cs i .buffer)) (ap (λ (x : Issued). x .used) e) ∙ still-sound w (i .buffer) (spent w cs i .buffer) (i .used) (i .used + length cs) (sym long) (a .passed) (a .room),

@@ -17,8 +17,8 @@ raised counts [] = counts
 raised counts (e ∷ es) = raised (raisedAt counts (lastOf e)) es
 
 -- n more fit every count
-abbrev pub Room : List ℕ → ℕ → Type 0
-Room counts n = (x : ℕ) → getD counts x 0 + n < 65536
+abbrev pub CountsFit : List ℕ → ℕ → Type 0
+CountsFit counts n = (x : ℕ) → getD counts x 0 + n < 65536
 
 -- an octet that is not marked ends none of the entries
 abbrev pub Marked : List Bool → List (List ℕ) → Type 0

@@ -5,7 +5,7 @@ ghost use mathlib.Core.Bool.{false, _||_};
 ghost use Prim.Native.Nat.{_*_, _≤_, _<_};
 ghost use lib.ListN.{length, replicate};
 ghost use Rattle.issued.specs.Issued.{octetValues, entries, contains, containsAny};
-ghost use Rattle.issued.specs.Inner.{raised, Room, Marked};
+ghost use Rattle.issued.specs.Inner.{raised, CountsFit, Marked};
 use crate::counts::raise;
 
 // Whether entry is one of the first n entries of run.
@@ -47,7 +47,7 @@ pub(crate) fn mark(run: &[u8], n: usize, width: usize, marks: &mut [bool])
 // Raises, for each of the first n entries of run, the count of its last octet.
 pub(crate) fn count(run: &[u8], n: usize, width: usize, counts: &mut [u16])
     requires { ⌜ (0 < width) × (width * n ≤ length (now run)) × (length (now counts) ≡ octetValues)
-        × Room (now counts) n ⌝ }
+        × CountsFit (now counts) n ⌝ }
     ensures { λ _. ⌜ now (counts .exit)
         ≡ raised (now (counts .entry)) (entries width n (now (run .entry))) ⌝ }
 {
@@ -99,7 +99,7 @@ pub(crate) fn scan(
 ) -> bool
     requires { ⌜ (0 < width) × (width * used ≤ length (now buffer)) × (width * n ≤ length (now run))
         × (length (now marks) ≡ octetValues) × Marked (now marks) (entries width n (now run))
-        × (length (now counts) ≡ octetValues) × Room (now counts) used ⌝ }
+        × (length (now counts) ≡ octetValues) × CountsFit (now counts) used ⌝ }
     ensures { λ r. ⌜ (r ≡ containsAny (entries width n (now (run .entry)))
         (entries width used (now (buffer .entry))))
         × (now (counts .exit)

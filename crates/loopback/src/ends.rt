@@ -10,7 +10,7 @@ use peer::PacketWritten;
 use peer::Peer;
 
 // A list of issued challenges, of which so many places are used.
-pub struct Issued {
+pub struct IssuedList {
     pub octets: [u8; 64],
     pub used: usize,
     pub counts: [u16; 256],
@@ -21,7 +21,7 @@ pub struct Issued {
 pub struct Loopback {
     pub conversation: Conversation,
     pub peer: Peer,
-    pub list: Issued,
+    pub list: IssuedList,
     pub updated: Lookup,
 }
 
@@ -64,10 +64,10 @@ pub fn account(expired: bool) -> Lookup {
 
 // ---- the opening
 
-fn empty_list() -> Issued {
+fn empty_list() -> IssuedList {
     let octets = [0u8; 64];
     let counts = [0u16; 256];
-    Issued {
+    IssuedList {
         octets,
         used: 0,
         counts,
@@ -85,7 +85,7 @@ fn say_opening(opened: Opened, challenge: [u8; 8], sent: &[u8]) {
 
 // The opening, on a list of issued challenges: the box sends a Challenge, and the peer reads it; or
 // the box refuses to open.
-pub fn opening_on(list: Issued, id: u8, challenge: [u8; 8], retries: Retries) -> Loopback {
+pub fn opening_on(list: IssuedList, id: u8, challenge: [u8; 8], retries: Retries) -> Loopback {
     let mut octets = list.octets;
     let mut counts = list.counts;
     let mut reply = [0u8; 17];
@@ -107,7 +107,7 @@ pub fn opening_on(list: Issued, id: u8, challenge: [u8; 8], retries: Retries) ->
     Loopback {
         conversation,
         peer,
-        list: Issued {
+        list: IssuedList {
             octets,
             used: opened.used,
             counts,

@@ -3,7 +3,7 @@
 mod ends;
 mod lines;
 
-pub use ends::Issued;
+pub use ends::IssuedList;
 pub use ends::Loopback;
 pub use ends::account;
 pub use ends::another_challenge;

@@ -18,8 +18,9 @@ use Rattle.authenticator.specs.declared.LmChoice.{LmChoice}
 use Rattle.authenticator.specs.declared.Opened.{Opened}
 use Rattle.authenticator.specs.declared.Answer.{Answer}
 use Rattle.authenticator.specs.declared.Conversation.{Conversation}
+use Rattle.packets.specs.Sizes.{challengeSize}
 use Rattle.mschap.specs.Call.{Fills, sized, numbered, afterCall}
-use Rattle.mschap.specs.Layout.{challengeSize, conversationSize, recordSize}
+use Rattle.mschap.specs.Layout.{conversationSize, recordSize}
 use Rattle.mschap.specs.Layout.{encodeConversation, decodeConversation}
 use Rattle.mschap.specs.Layout.{encodeRecord, decodeRecord}
 use Rattle.mschap.specs.Layout.{isEncodedConversation, isEncodedRecord}

@@ -15,6 +15,7 @@ use Rattle.accounts.specs.declared.Account.{Account}
 use Rattle.authenticator.specs.declared.Conversation.{Conversation}
 use Rattle.authenticator.specs.declared.Phase.{Phase}
 use Rattle.authenticator.specs.declared.Phase.the-variants.{Response, Change, Ended}
+use Rattle.packets.specs.Sizes.{challengeSize}
 use Rattle.mschap.specs.Layout as layout
 use Rattle.mschap.proofs.Encodings.{encoding-fits, encoding-length}
 use Rattle.mschap.proofs.RecordLaws.{SizedAccount, decoded-account-sized, length-account}
@@ -48,7 +49,7 @@ conversation-pieces c e =
 -- ---- the sizes of a value's arrays, which the code's types fix
 
 pub record SizedConversation (c : Conversation) : Type 0 where
-  pub challenge : length (c .challenge) ≡ layout.challengeSize
+  pub challenge : length (c .challenge) ≡ challengeSize
   pub kept : SizedAccount (c .kept)
 
 pub decoded-conversation-sized : (bytes : List ℕ)

@@ -11,6 +11,7 @@ use Rattle.octets.specs.Parts.{part, fixed}
 use Rattle.octets.proofs.Parts.{fixed-same, fixed-whole, length-fixed}
 use Rattle.packets.proofs.Framing.{field}
 use Rattle.peer.specs.declared.Peer.{Peer}
+use Rattle.packets.specs.Sizes.{challengeSize}
 use Rattle.mschap.specs.Layout as layout
 use Rattle.mschap.proofs.Encodings.{encoding-fits, encoding-length}
 use Rattle.mschap.proofs.RecordLaws.{flag-back}
@@ -41,8 +42,8 @@ peer-pieces q =
 -- ---- the sizes of a value's arrays, which the code's types fix
 
 pub record SizedPeer (q : Peer) : Type 0 where
-  pub sent : length (q .sent .challenge) ≡ layout.challengeSize
-  pub turn : length (q .turn .challenge) ≡ layout.challengeSize
+  pub sent : length (q .sent .challenge) ≡ challengeSize
+  pub turn : length (q .turn .challenge) ≡ challengeSize
 
 pub decoded-peer-sized : (bytes : List ℕ) → SizedPeer (layout.decodePeer bytes)
 unfolding layout.decodePeer

@@ -15,6 +15,7 @@ use Rattle.packets.proofs.Framing.{field}
 use Rattle.accounts.specs.declared.Hash.{Hash}
 use Rattle.accounts.specs.declared.Account.{Account}
 use Rattle.accounts.specs.declared.Lookup.{Lookup}
+use Rattle.packets.specs.Sizes.{hashSize}
 use Rattle.mschap.specs.Layout as layout
 use Rattle.mschap.proofs.Encodings.{encoding-fits}
 
@@ -50,8 +51,8 @@ account-pieces a = simp append-assoc
 -- ---- the sizes of a value's arrays, which the code's types fix
 
 pub record SizedAccount (a : Account) : Type 0 where
-  pub nt : length (a .nt .octets) ≡ layout.hashSize
-  pub lm : length (a .lm .octets) ≡ layout.hashSize
+  pub nt : length (a .nt .octets) ≡ hashSize
+  pub lm : length (a .lm .octets) ≡ hashSize
 
 pub decoded-account-sized : (bytes : List ℕ) → SizedAccount (layout.decodeAccount bytes)
 unfolding layout.decodeAccount
@@ -82,7 +83,7 @@ pub flag-back : (b : Bool) → layout.isFlag (layout.flag b) ≡ b
 flag-back true = refl
 flag-back false = refl
 
-hash-back : (h : Hash) → length (h .octets) ≡ layout.hashSize
+hash-back : (h : Hash) → length (h .octets) ≡ hashSize
     → layout.decodeHash (layout.encodeHash h) ≡ h
 hash-back h e = hash-same (flag-back (h .present)) (fixed-whole 16 (h .octets) e)
 

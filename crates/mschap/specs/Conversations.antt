@@ -12,8 +12,9 @@ use Rattle.authenticator.specs.declared.Retries.{Retries}
 use Rattle.authenticator.specs.declared.Retries.the-variants.{Default, Count}
 use Rattle.authenticator.specs.declared.LmChoice.{LmChoice}
 use Rattle.authenticator.specs.declared.LmChoice.the-variants.{Silent, Allowed, Disallowed}
+use Rattle.packets.specs.Sizes.{challengeSize}
 use Rattle.mschap.specs.Call.{sized, numbered, afterCall}
-use Rattle.mschap.specs.Layout.{challengeSize, conversationSize, recordSize}
+use Rattle.mschap.specs.Layout.{conversationSize, recordSize}
 use Rattle.mschap.specs.Layout.{encodeRecord, decodeRecord, isEncodedRecord}
 use Rattle.mschap.specs.Layout.{encodeConversation, decodeConversation, isEncodedConversation}
 

@@ -6,6 +6,7 @@ use mathlib.Core.List.{List, [], _∷_, _++_}
 use Prim.Native.Nat.{ℕ}
 use lib.Dec.{eqb}
 use Rattle.octets.specs.Parts.{part, fixed, agrees}
+use Rattle.packets.specs.Sizes.{hashSize, challengeSize}
 use Rattle.packets.specs.Frame.{octet}
 use Rattle.authenticator.specs.Conversation.{awaitedCode}
 use Rattle.accounts.specs.declared.Hash.{Hash}
@@ -21,20 +22,11 @@ use Rattle.peer.specs.declared.Peer.{Peer}
 abbrev pub digestSize : ℕ
 digestSize = 16
 
-abbrev pub hashSize : ℕ
-hashSize = 16
-
 abbrev pub keySize : ℕ
 keySize = 7
 
-abbrev pub blockSize : ℕ
-blockSize = 8
-
-abbrev pub challengeSize : ℕ
-challengeSize = 8
-
-abbrev pub responseSize : ℕ
-responseSize = 24
+abbrev pub desBlockSize : ℕ
+desBlockSize = 8
 
 -- a hash, or none
 abbrev pub optionalHashSize : ℕ

@@ -3,6 +3,8 @@ use crate::buffers::BAD_ARGUMENT;
 use crate::buffers::are_sized;
 use crate::buffers::fill;
 use crate::buffers::wide;
+use packets::CHALLENGE_SIZE;
+use packets::HASH_SIZE;
 ghost use mathlib.Core.Path.{_≡_};
 ghost use mathlib.Core.Bool.{_&&_};
 ghost use Rattle.md4.specs.Md4.{md4Answer};
@@ -10,16 +12,12 @@ ghost use Rattle.rc4.specs.Rc4.{keyRefusal, crypted};
 ghost use Rattle.des.specs.Des.{desEncrypt, desDecrypt};
 ghost use Rattle.credentials.specs.Credentials.{responseOf, ntHashed, lmHashed};
 ghost use Rattle.mschap.specs.Call.{Fills, sized, bothSized};
-ghost use Rattle.mschap.specs.Layout.{digestSize, hashSize, keySize, blockSize};
-ghost use Rattle.mschap.specs.Layout.{challengeSize, responseSize};
-
-const HASH_SIZE: usize = 16;
+ghost use Rattle.mschap.specs.Layout.{digestSize, keySize, desBlockSize};
+ghost use Rattle.packets.specs.Sizes.{hashSize, challengeSize, answerSize};
 
 const KEY_SIZE: usize = 7;
 
-const BLOCK_SIZE: usize = 8;
-
-const CHALLENGE_SIZE: usize = 8;
+const DES_BLOCK_SIZE: usize = 8;
 
 // The MD4 digest of at most 4,096 bytes. 8: more bytes.
 #[no_mangle]
@@ -46,12 +44,12 @@ pub extern "C" fn mschap_rc4(key: &[u8], octets: &mut [u8]) -> u32
 #[no_mangle]
 pub extern "C" fn mschap_des_encrypt(key: &[u8], block: &[u8], out: &mut [u8]) -> u32
     ensures { λ r. ⌜ Fills
-        (bothSized keySize (now (key .entry)) blockSize (now (block .entry))
-        && sized blockSize (now (out .entry)))
+        (bothSized keySize (now (key .entry)) desBlockSize (now (block .entry))
+        && sized desBlockSize (now (out .entry)))
         0 (desEncrypt (now (key .entry)) (now (block .entry)))
         (now (out .entry)) r (now (out .exit)) ⌝ }
 {
-    if !are_sized(key, KEY_SIZE, block, BLOCK_SIZE) {
+    if !are_sized(key, KEY_SIZE, block, DES_BLOCK_SIZE) {
         return BAD_ARGUMENT;
     }
     let result = des::encrypt(octets::seven_at(key, 0), octets::eight_at(block, 0));
@@ -62,12 +60,12 @@ pub extern "C" fn mschap_des_encrypt(key: &[u8], block: &[u8], out: &mut [u8]) -
 #[no_mangle]
 pub extern "C" fn mschap_des_decrypt(key: &[u8], block: &[u8], out: &mut [u8]) -> u32
     ensures { λ r. ⌜ Fills
-        (bothSized keySize (now (key .entry)) blockSize (now (block .entry))
-        && sized blockSize (now (out .entry)))
+        (bothSized keySize (now (key .entry)) desBlockSize (now (block .entry))
+        && sized desBlockSize (now (out .entry)))
         0 (desDecrypt (now (key .entry)) (now (block .entry)))
         (now (out .entry)) r (now (out .exit)) ⌝ }
 {
-    if !are_sized(key, KEY_SIZE, block, BLOCK_SIZE) {
+    if !are_sized(key, KEY_SIZE, block, DES_BLOCK_SIZE) {
         return BAD_ARGUMENT;
     }
     let result = des::decrypt(octets::seven_at(key, 0), octets::eight_at(block, 0));
@@ -107,7 +105,7 @@ pub extern "C" fn mschap_challenge_response(
 ) -> u32
     ensures { λ r. ⌜ Fills
         (bothSized hashSize (now (hash .entry)) challengeSize (now (challenge .entry))
-        && sized responseSize (now (response .entry)))
+        && sized answerSize (now (response .entry)))
         0 (responseOf (now (hash .entry)) (now (challenge .entry)))
         (now (response .entry)) r (now (response .exit)) ⌝ }
 {

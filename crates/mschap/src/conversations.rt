@@ -13,6 +13,7 @@ use authenticator::Conversation;
 use authenticator::Kind;
 use authenticator::LmChoice;
 use authenticator::Retries;
+use packets::CHALLENGE_SIZE;
 ghost use mathlib.Core.Path.{_≡_};
 ghost use lib.ListN.{length};
 ghost use Rattle.authenticator.specs.Step.{refusalIn};
@@ -21,8 +22,6 @@ ghost use Rattle.mschap.specs.Conversations.{retriesFor, lmFor, isLmChoi
 ghost use Rattle.mschap.specs.Conversations.{openArguments, OpenCall};
 ghost use Rattle.mschap.specs.Conversations.{stepArguments, StepCall};
 ghost use Rattle.mschap.specs.Inner.{AnswerPut};
-
-const CHALLENGE_SIZE: usize = 8;
 
 // The number of retries, and the choice for LM, that stand for the default.
 const DEFAULT: u8 = 255;

@@ -33,8 +33,8 @@ block-given old new filler p q e = ap (λ (x : Sealed). x .block) (e ∙ sealed-
 
 -- ---- what a writer answers and leaves
 
-abbrev pub Leaves : Wrote → Written → List ℕ → Type 0
-Leaves w answer out = (answer ≡ w .answer) × (out ≡ w .out)
+abbrev pub LeavesBuffer : Wrote → Written → List ℕ → Type 0
+LeavesBuffer w answer out = (answer ≡ w .answer) × (out ≡ w .out)
 
 -- the packet's writer goes by its own refusal n, which is the whole one
 same-answer : {m n : ℕ} (packet : List ℕ) → n ≡ m → answerBy n packet ≡ answerBy m packet
@@ -46,13 +46,13 @@ same-out packet out e = ap (λ (k : ℕ). outBy k packet out) e
 -- ---- the Response
 
 module _ (t : Turn) (password name out : List ℕ) where
-  pub response-refused : badNtPassword password ≡ true → Leaves (writeResponse t password name out) (refusedBy 8) out
+  pub response-refused : badNtPassword password ≡ true → LeavesBuffer (writeResponse t password name out) (refusedBy 8) out
   unfolding writeResponse writeResponseRefusal
   response-refused e =
       nothing-written (responseFor t password name) out (cond (badNtPassword password) 8 (responseWriteRefusal name out)) (ap (λ (b : Bool). cond b 8 (responseWriteRefusal name out)) (sym e)) (λ z. omega (arith, z))
 
   pub response-written : badNtPassword password ≡ false → {f : Response} {answer : Written} {after : List ℕ} → f ≡ responseFields (t .challenge) password
-      → (answer ≡ responseWritten (t .id) f name out) × (after ≡ responseOut (t .id) f name out) → Leaves (writeResponse t password name out) answer after
+      → (answer ≡ responseWritten (t .id) f name out) × (after ≡ responseOut (t .id) f name out) → LeavesBuffer (writeResponse t password name out) answer after
   unfolding writeResponse writeResponseRefusal responseFor responseWritten responseOut
   response-written e s w =
       let n = ap (λ (b : Bool). cond b 8 (responseWriteRefusal name out)) (sym e) in
@@ -64,7 +64,7 @@ module _ (t : Turn) (password name out : List ℕ) where
 -- ---- the change, by the number k of its first two tests
 
 module _ (t : Turn) (old new filler out : List ℕ) {k : ℕ} (e : k ≡ cond (badPasswords old new) 8 (cond (badFiller filler) 12 0)) where
-  pub change-refused : k ≢ 0 → Leaves (writeChange t old new filler out) (refusedBy k) out
+  pub change-refused : k ≢ 0 → LeavesBuffer (writeChange t old new filler out) (refusedBy k) out
   unfolding writeChange writeChangeRefusal
   change-refused h =
       let n = refused-two (λ (x : ℕ). x) (changeWriteRefusal out) (badPasswords old new) 8 (badFiller filler) 12 e h in
@@ -74,7 +74,7 @@ module _ (t : Turn) (old new filler out : List ℕ) {k : ℕ} (e : k ≡ cond (b
   change-fits z = both-passed (badPasswords old new) 8 (badFiller filler) 12 (omega arith) (omega arith) (sym e ∙ z)
 
   pub change-written : k ≡ 0 → {f : Change} {answer : Written} {after : List ℕ} → f ≡ changeFields (t .challenge) old new filler
-      → (answer ≡ changeWritten (t .id) f out) × (after ≡ changeOut (t .id) f out) → Leaves (writeChange t old new filler out) answer after
+      → (answer ≡ changeWritten (t .id) f out) × (after ≡ changeOut (t .id) f out) → LeavesBuffer (writeChange t old new filler out) answer after
   unfolding writeChange writeChangeRefusal changeFor changeWritten changeOut
   change-written z s w =
       let n = passed-two (λ (x : ℕ). x) (changeWriteRefusal out) (badPasswords old new) 8 (badFiller filler) 12 e (omega arith) (omega arith) z in

@@ -1,41 +1,41 @@
-// ! The authenticator: a conversation, from its Challenge to its end.
+//! The authenticator: a conversation, from its Challenge to its end.
 
 use crate::account::flag;
 use crate::{length, part, sys, Account, Challenge, Issued, Refusal};
 
-// / What a conversation waits for.
+/// What a conversation waits for.
 #[derive(Clone, Copy, Debug, PartialEq, Eq)]
 pub enum Awaited {
-    // / A Response.
+    /// A Response.
     Response,
-    // / A change of the password.
+    /// A change of the password.
     Change,
-    // / Nothing: it has ended.
+    /// Nothing: it has ended.
     Nothing,
 }
 
-// / All that the authenticator keeps between two packets. It may be stored and continued later. It
-// / is continued once, since from two copies it would take two answers to one challenge.
+/// All that the authenticator keeps between two packets. It may be stored and continued later. It
+/// is continued once, since from two copies it would take two answers to one challenge.
 #[derive(Clone, Copy, Debug, PartialEq, Eq)]
 pub struct Conversation([u8; sys::CONVERSATION_SIZE]);
 
-// / A packet that was judged.
+/// A packet that was judged.
 #[derive(Clone, Copy, Debug, PartialEq, Eq)]
 pub struct Judged {
-    // / The size of the reply, which lies at the front of the buffer.
+    /// The size of the reply, which lies at the front of the buffer.
     pub size: usize,
-    // / The reply is a Success.
+    /// The reply is a Success.
     pub success: bool,
-    // / The account after an accepted change of the password, to be stored.
+    /// The account after an accepted change of the password, to be stored.
     pub changed: Option<Account>,
 }
 
 impl Conversation {
-    // / Opens a conversation, and writes its Challenge at the front of `reply` (17 bytes or more).
-    // / The challenge is to be one that nobody can foretell. With no number of retries there are 2;
-    // / with no choice for LM it is allowed. The challenge and a successor for each retry are added
-    // / to the list `issued`; where one of them was there, it is refused as [`Refusal::Spent`].
-    // / Gives the conversation and the size of the packet.
+    /// Opens a conversation, and writes its Challenge at the front of `reply` (17 bytes or more).
+    /// The challenge is to be one that nobody can foretell. With no number of retries there are 2;
+    /// with no choice for LM it is allowed. The challenge and a successor for each retry are added
+    /// to the list `issued`; where one of them was there, it is refused as [`Refusal::Spent`].
+    /// Gives the conversation and the size of the packet.
     pub fn open(
         identifier: u8,
         challenge: &Challenge,
@@ -64,9 +64,9 @@ impl Conversation {
         Ok((Conversation(octets), length(reply)))
     }
 
-    // / One step: a packet was received, and `record` is what the lookup of its name found (it is /
-    // ignored while a change is awaited). Writes the Success or Failure to be sent at the front of
-    // / `reply` (17 bytes or more). A refused packet gets no reply and changes nothing.
+    /// One step: a packet was received, and `record` is what the lookup of its name found (it is
+    /// ignored while a change is awaited). Writes the Success or Failure to be sent at the front of
+    /// `reply` (17 bytes or more). A refused packet gets no reply and changes nothing.
     pub fn step(
         &mut self,
         packet: &[u8],
@@ -88,7 +88,7 @@ impl Conversation {
         })
     }
 
-    // / What is awaited.
+    /// What is awaited.
     pub fn awaited(&self) -> Awaited {
         match self.0[0] {
             2 => Awaited::Response,
@@ -97,27 +97,27 @@ impl Conversation {
         }
     }
 
-    // / LM is allowed.
+    /// LM is allowed.
     pub fn lm_allowed(&self) -> bool {
         self.0[1] == 1
     }
 
-    // / The awaited identifier.
+    /// The awaited identifier.
     pub fn identifier(&self) -> u8 {
         self.0[2]
     }
 
-    // / The retries that are left.
+    /// The retries that are left.
     pub fn retries(&self) -> u8 {
         self.0[3]
     }
 
-    // / The challenge in force.
+    /// The challenge in force.
     pub fn challenge(&self) -> Challenge {
         part(&self.0, 4)
     }
 
-    // / The account that was kept, while a change is awaited.
+    /// The account that was kept, while a change is awaited.
     pub fn kept(&self) -> Option<Account> {
         match self.awaited() {
             Awaited::Change => Account::from_octets(&part(&self.0, 12)),
@@ -125,12 +125,12 @@ impl Conversation {
         }
     }
 
-    // / The bytes, to be stored. They hold secrets while a change is awaited.
+    /// The bytes, to be stored. They hold secrets while a change is awaited.
     pub fn octets(&self) -> &[u8; sys::CONVERSATION_SIZE] {
         &self.0
     }
 
-    // / The conversation of stored bytes; none where no conversation has them.
+    /// The conversation of stored bytes; none where no conversation has them.
     pub fn from_octets(octets: [u8; sys::CONVERSATION_SIZE]) -> Option<Conversation> {
         let awaited = matches!(octets[0], 0 | 2 | 6);
         flag(octets[1])?;
@@ -139,8 +139,8 @@ impl Conversation {
     }
 }
 
-// / The domain in the name of a Response: what stands before its first backslash, or `home` where
-// it / has none; nothing for a packet that is refused as a Response.
+/// The domain in the name of a Response: what stands before its first backslash, or `home` where it
+/// has none; nothing for a packet that is refused as a Response.
 pub fn domain_of<'a>(packet: &'a [u8], home: &'a [u8]) -> &'a [u8] {
     match sys::domain_offset(packet) {
         // Not in the packet. A packet that is refused has no account there either.
@@ -150,8 +150,8 @@ pub fn domain_of<'a>(packet: &'a [u8], home: &'a [u8]) -> &'a [u8] {
     }
 }
 
-// / The account in the name of a Response: what stands behind its first backslash, or the whole
-// / name; nothing for a packet that is refused as a Response.
+/// The account in the name of a Response: what stands behind its first backslash, or the whole
+/// name; nothing for a packet that is refused as a Response.
 pub fn account_of(packet: &[u8]) -> &[u8] {
     run(
         packet,
@@ -160,7 +160,7 @@ pub fn account_of(packet: &[u8]) -> &[u8] {
     )
 }
 
-// / The bytes of a packet from an offset on. They lie within the packet, so they are always there.
+/// The bytes of a packet from an offset on. They lie within the packet, so they are always there.
 fn run(packet: &[u8], offset: usize, length: usize) -> &[u8] {
     let end = offset.saturating_add(length);
     packet.get(offset..end).unwrap_or_default()

@@ -145,7 +145,7 @@ pub mod raw {
             reply: *mut u8,
             reply_size: usize,
             updated: *mut u8,
-            handed_size: usize,
+            updated_size: usize,
         ) -> u32;
         /// Where the account stands in a Response; 0 where the packet is refused as one.
         pub fn mschap_account_offset(packet: *const u8, packet_size: usize) -> usize;

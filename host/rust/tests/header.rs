@@ -1,11 +1,10 @@
-// ! The numbers of the C header are those of `sys` and of `Refusal`, and its functions are
-// declared.
+//! The numbers of the C header are those of `sys` and of `Refusal`, and its functions are declared.
 
 use mschap::{sys, Refusal};
 
 const HEADER: &str = include_str!("../../include/mschap.h");
 
-// / The number that the header defines for a name.
+/// The number that the header defines for a name.
 fn defined(name: &str) -> usize {
     let mut numbers = HEADER.lines().filter_map(|line| {
         let mut words = line.split_whitespace();

@@ -9,10 +9,10 @@ use borrow.Author.Needs.{needs}
 use lib.ListN.{length}
 use Rattle.octets.specs.Parts.{overAt}
 use Rattle.issued.specs.Issued.{Issued, entriesIn, listed, spendRefusal}
-use Rattle.issued.specs.Inner.{raised, Room}
+use Rattle.issued.specs.Inner.{raised, CountsFit}
 use Rattle.issued.proofs.Listing.{length-entries, flatten-entries}
 use Rattle.issued.proofs.Counting.{length-endings, raised-counts, counts-room}
-use Rattle.issued.proofs.Spending.{Accepted, accepted, places-fit, same-issued, spent-added, spent-refused}
+use Rattle.issued.proofs.Spending.{Spendable, spendable, places-fit, same-issued, spent-added, spent-refused}
 use Rattle.issued.proofs.spend.Statement.{statement}
 use Rattle.issued.proofs.spend.Tie as tie
 
@@ -38,8 +38,8 @@ returns c =
 none : (c : tie.Else1) → spendRefusal (width (c .before)) (entriesIn (width (c .before)) (run (c .before))) (given (c .before)) ≡ 0
 none c = sym (c .before .refusal .ensures) ∙ c .if1 .left
 
-known : (c : tie.Else1) → Accepted (width (c .before)) (entriesIn (width (c .before)) (run (c .before))) (given (c .before))
-known c = accepted (width (c .before)) (entriesIn (width (c .before)) (run (c .before))) (given (c .before)) (none c)
+known : (c : tie.Else1) → Spendable (width (c .before)) (entriesIn (width (c .before)) (run (c .before))) (given (c .before))
+known c = spendable (width (c .before)) (entriesIn (width (c .before)) (run (c .before))) (given (c .before)) (none c)
 
 div-n : tie.Need-div-n
 div-n c = known c .buffer .positive
@@ -60,7 +60,7 @@ count-requires c κs =
     let n = length (run k) / width k in
     let es = listed (width k) (given k) in
     let few : length es + n < 65536 = omega (arith, a .room, a .buffer .few, length-entries (width k) (given k .used) (given k .buffer), length-entries (width k) n (run k)) in
-    (a .buffer .positive, mul-div-le (length (run k)) (width k), ap length (a .counts) ∙ length-endings 0 256 es, subst (λ (l : List ℕ). Room l n) (sym (a .counts)) (counts-room es n few))
+    (a .buffer .positive, mul-div-le (length (run k)) (width k), ap length (a .counts) ∙ length-endings 0 256 es, subst (λ (l : List ℕ). CountsFit l n) (sym (a .counts)) (counts-room es n few))
 
 add-end : tie.Need-add-end
 add-end c =

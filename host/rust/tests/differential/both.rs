@@ -1,5 +1,5 @@
-// ! The two implementations side by side: values of one as values of the other, and the same call
-// ! to both.
+//! The two implementations side by side: values of one as values of the other, and the same call
+//! to both.
 
 use crate::random::Random;
 use mschap::{sys, Awaited, Call, Challenge, Conversation, Issued, Peer, Reading, Refusal};
@@ -15,7 +15,7 @@ pub fn number<T>(result: &Result<T, Refusal>) -> u32 {
         .map_or_else(|refusal| refusal.number(), |_| 0)
 }
 
-// / A result of ours with the number alone, to be compared with one of theirs.
+/// A result of ours with the number alone, to be compared with one of theirs.
 pub fn plain<T>(result: Result<T, Refusal>) -> Result<T, u8> {
     result.map_err(|refusal| u8::try_from(refusal.number()).expect("a number"))
 }
@@ -42,7 +42,7 @@ pub fn their_account(account: &mschap::Account) -> their::Account {
     }
 }
 
-// / A conversation of ours as one of theirs.
+/// A conversation of ours as one of theirs.
 pub fn their_conversation(ours: &Conversation) -> their::Conversation {
     their::Conversation {
         id: ours.identifier(),
@@ -57,7 +57,7 @@ pub fn their_conversation(ours: &Conversation) -> their::Conversation {
     }
 }
 
-// / A conversation of theirs as one of ours; bytes of no effect are drawn.
+/// A conversation of theirs as one of ours; bytes of no effect are drawn.
 pub fn our_conversation(theirs: &their::Conversation, random: &mut Random) -> Conversation {
     let mut octets: [u8; sys::CONVERSATION_SIZE] = random.array();
     for mark in [12, 29, 46, 47, 48, 49] {
@@ -78,7 +78,7 @@ pub fn our_conversation(theirs: &their::Conversation, random: &mut Random) -> Co
     Conversation::from_octets(octets).expect("a conversation")
 }
 
-// / An account of theirs in our bytes; a hash that is not there has drawn bytes.
+/// An account of theirs in our bytes; a hash that is not there has drawn bytes.
 pub fn account_octets(account: &their::Account, random: &mut Random) -> [u8; sys::ACCOUNT_SIZE] {
     let mut octets: [u8; sys::ACCOUNT_SIZE] = our_account(account).octets();
     if account.nt.is_none() {
@@ -90,7 +90,7 @@ pub fn account_octets(account: &their::Account, random: &mut Random) -> [u8; sys
     octets
 }
 
-// / A list of issued challenges as it is passed to either.
+/// A list of issued challenges as it is passed to either.
 #[derive(Clone, Debug, PartialEq, Eq)]
 pub struct Passed {
     pub list: Vec<u8>,
@@ -98,7 +98,7 @@ pub struct Passed {
     pub counts: Vec<u16>,
 }
 
-// / What an opening is passed beside its list and its buffers. 255 stands for the default.
+/// What an opening is passed beside its list and its buffers. 255 stands for the default.
 #[derive(Clone, Copy, Debug)]
 pub struct Terms {
     pub id: u8,
@@ -108,7 +108,7 @@ pub struct Terms {
 }
 
 impl Passed {
-    // / So many places of bytes 0, none of them used.
+    /// So many places of bytes 0, none of them used.
     pub fn empty(places: usize) -> Passed {
         Passed {
             list: vec![0; places * sys::CHALLENGE_SIZE],
@@ -117,12 +117,12 @@ impl Passed {
         }
     }
 
-    // / The used places, which must lie in the list.
+    /// The used places, which must lie in the list.
     pub fn octets(&self) -> &[u8] {
         &self.list[..self.used * sys::CHALLENGE_SIZE]
     }
 
-    // / An opening of ours over this list.
+    /// An opening of ours over this list.
     pub fn our_open(&mut self, terms: &Terms, conversation: &mut [u8], reply: &mut [u8]) -> u32 {
         sys::open(
             terms.id,
@@ -137,7 +137,7 @@ impl Passed {
         )
     }
 
-    // / An opening of theirs over this list.
+    /// An opening of theirs over this list.
     pub fn their_open(
         &mut self,
         id: u8,
@@ -156,7 +156,7 @@ impl Passed {
         opening
     }
 
-    // / A list of ours holds the same.
+    /// A list of ours holds the same.
     pub fn agrees(&self, ours: &Issued) {
         let places = self.list.len() / sys::CHALLENGE_SIZE;
         assert_eq!((ours.places(), ours.used()), (places, self.used));
@@ -165,13 +165,13 @@ impl Passed {
     }
 }
 
-// / A conversation in both implementations.
+/// A conversation in both implementations.
 pub struct Boxes {
     pub ours: Conversation,
     pub theirs: their::Conversation,
 }
 
-// / What a step gave, the same in both.
+/// What a step gave, the same in both.
 pub struct Outcome {
     pub refusal: u8,
     pub reason: u16,
@@ -180,8 +180,8 @@ pub struct Outcome {
 }
 
 impl Boxes {
-    // / One step in both, each with its own buffer of the same bytes. Answer, next conversation,
-    // / handed-out record and the whole buffers must agree.
+    /// One step in both, each with its own buffer of the same bytes. Answer, next conversation,
+    /// handed-out record and the whole buffers must agree.
     pub fn step(
         &mut self,
         packet: &[u8],
@@ -224,8 +224,8 @@ impl Boxes {
     }
 }
 
-// / A peer in both implementations. Theirs has no state: what document 01 says of it is put
-// together / here, by the last packet and the next one.
+/// A peer in both implementations. Theirs has no state: what document 01 says of it is put together
+/// here, by the last packet and the next one.
 #[derive(Clone)]
 pub struct Peers {
     ours: Peer,
@@ -233,14 +233,14 @@ pub struct Peers {
     turn: peer::Turn,
 }
 
-// / An identifier and a challenge of theirs, in our bytes.
+/// An identifier and a challenge of theirs, in our bytes.
 fn turn_octets(turn: &peer::Turn) -> [u8; 9] {
     let mut octets = [turn.id; 9];
     octets[1..].copy_from_slice(&turn.challenge);
     octets
 }
 
-// / The last packet, or none, and the next one, in our bytes.
+/// The last packet, or none, and the next one, in our bytes.
 fn peer_octets(sent: Option<&peer::Turn>, turn: &peer::Turn) -> [u8; sys::PEER_SIZE] {
     let mut octets = [0; sys::PEER_SIZE];
     octets[0] = sent.is_some().into();
@@ -259,7 +259,7 @@ fn drawn_turn(random: &mut Random) -> peer::Turn {
 }
 
 impl Peers {
-    // / The peers after a Challenge; each reads its own copy. Nothing is sent yet.
+    /// The peers after a Challenge; each reads its own copy. Nothing is sent yet.
     pub fn read_challenge(ours: &[u8], theirs: &[u8]) -> Result<Peers, u8> {
         let read = peer::read_challenge(theirs);
         let ours = plain(Peer::read_challenge(ours));
@@ -273,7 +273,7 @@ impl Peers {
         Ok(peers)
     }
 
-    // / Peers that sent something and may have read something since.
+    /// Peers that sent something and may have read something since.
     pub fn drawn(random: &mut Random) -> Peers {
         let (sent, turn) = (drawn_turn(random), drawn_turn(random));
         let octets = peer_octets(Some(&sent), &turn);
@@ -284,12 +284,12 @@ impl Peers {
         }
     }
 
-    // / The identifier of the last packet, which there is.
+    /// The identifier of the last packet, which there is.
     pub fn last(&self) -> u8 {
         self.sent.expect("a packet was sent").id
     }
 
-    // / Identifier and challenge of the next packet.
+    /// Identifier and challenge of the next packet.
     pub fn turn(&self) -> peer::Turn {
         self.turn
     }
@@ -301,8 +301,8 @@ impl Peers {
         assert_eq!(turn, (self.turn.id, self.turn.challenge), "the turns");
     }
 
-    // / A packet was written into two buffers that held the same bytes, `passed`; a refusal left
-    // / buffer and peer as they were. `before` is our peer before it.
+    /// A packet was written into two buffers that held the same bytes, `passed`; a refusal left
+    /// buffer and peer as they were. `before` is our peer before it.
     fn wrote(
         &mut self,
         before: Peer,
@@ -329,7 +329,7 @@ impl Peers {
         answer
     }
 
-    // / The Response of both, into a buffer that holds the packet afterwards.
+    /// The Response of both, into a buffer that holds the packet afterwards.
     pub fn write_response(
         &mut self,
         password: &[u8],
@@ -342,7 +342,7 @@ impl Peers {
         self.wrote(before, answer, written, [out, &theirs, &passed])
     }
 
-    // / The change of both, into a buffer that holds the packet afterwards.
+    /// The change of both, into a buffer that holds the packet afterwards.
     pub fn write_change(
         &mut self,
         old: &[u8],
@@ -356,8 +356,8 @@ impl Peers {
         self.wrote(before, answer, written, [out, &theirs, &passed])
     }
 
-    // / Both read a reply, each its own copy, and ours reads it twice, which must give the same. A
-    // / refused packet leaves the peer, and the fields that were passed, as they were.
+    /// Both read a reply, each its own copy, and ours reads it twice, which must give the same. A
+    /// refused packet leaves the peer, and the fields that were passed, as they were.
     pub fn read_reply(&mut self, ours: &[u8], theirs: &[u8]) -> Result<Verdict, u8> {
         let before = self.ours;
         let reading = match self.sent {
@@ -387,7 +387,7 @@ impl Peers {
     }
 }
 
-// / A verdict of theirs as a reading of ours.
+/// A verdict of theirs as a reading of ours.
 pub fn our_reading(verdict: &Verdict) -> Reading {
     match verdict {
         Verdict::Success => Reading::Success,

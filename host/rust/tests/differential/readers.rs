@@ -1,4 +1,4 @@
-// ! The readers: Challenge, reply, Failure message, and the parts of a name.
+//! The readers: Challenge, reply, Failure message, and the parts of a name.
 
 use crate::both::{our_reading, plain, Peers};
 use crate::packets;
@@ -37,15 +37,15 @@ fn reply(random: &mut Random, seen: &mut Seen) {
     reply_to(peers, &packet, seen);
 }
 
-// / The message alone: its packet is never damaged.
+/// The message alone: its packet is never damaged.
 fn message(random: &mut Random, seen: &mut Seen) {
     let peers = Peers::drawn(random);
     let packet = packets::failure(random, peers.last());
     reply_to(peers, &packet, seen);
 }
 
-// / A reply to a peer that sent nothing. The bytes that stand for its last packet are drawn, and
-// the / reply has their identifier: they have no effect, and stay.
+/// A reply to a peer that sent nothing. The bytes that stand for its last packet are drawn, and the
+/// reply has their identifier: they have no effect, and stay.
 fn early(random: &mut Random, seen: &mut Seen) {
     let mut octets: [u8; sys::PEER_SIZE] = random.array();
     octets[0] = 0;
@@ -93,7 +93,7 @@ fn name(random: &mut Random, seen: &mut Seen) {
     });
 }
 
-// / Offset and length of what `reference` gave, by where it lies; 0 and 0 for the home domain.
+/// Offset and length of what `reference` gave, by where it lies; 0 and 0 for the home domain.
 fn place(packet: &[u8], home: &[u8], part: &[u8]) -> (usize, usize) {
     if std::ptr::eq(part, home) {
         return (0, 0);

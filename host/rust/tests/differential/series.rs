@@ -1,4 +1,4 @@
-// ! Whole series from opening to end: our peer against their box, their peer against our box.
+//! Whole series from opening to end: our peer against their box, their peer against our box.
 
 use crate::both::{plain, their_conversation, Boxes, Passed, Peers};
 use crate::packets;
@@ -10,7 +10,7 @@ use reference::message::Call;
 use reference::peer::Verdict;
 use reference::{hashes, packet};
 
-// / The Response of both peers.
+/// The Response of both peers.
 fn response(peers: &mut Peers, password: &[u8], name: &[u8], random: &mut Random) -> Vec<u8> {
     let least = 54 + name.len();
     if random.chance(20) {
@@ -25,7 +25,7 @@ fn response(peers: &mut Peers, password: &[u8], name: &[u8], random: &mut Random
     out
 }
 
-// / The change of both peers.
+/// The change of both peers.
 fn change(peers: &mut Peers, old: &[u8], new: &[u8], random: &mut Random) -> Vec<u8> {
     let filler: [u8; sys::FILLER_SIZE] = random.array();
     let mut out = vec![0; sys::CHANGE_PACKET];
@@ -34,8 +34,8 @@ fn change(peers: &mut Peers, old: &[u8], new: &[u8], random: &mut Random) -> Vec
     out
 }
 
-// / Each peer reads what the other implementation's box wrote. Gives what it calls for; none after
-// / Success.
+/// Each peer reads what the other implementation's box wrote. Gives what it calls for; none after
+/// Success.
 fn read(peers: &mut Peers, our_reply: &[u8], their_reply: &[u8]) -> Option<Call> {
     match peers.read_reply(their_reply, our_reply) {
         Ok(Verdict::Failure(fields)) => Some(fields.call()),
@@ -46,8 +46,8 @@ fn read(peers: &mut Peers, our_reply: &[u8], their_reply: &[u8]) -> Option<Call>
     }
 }
 
-// / Packets that reach the peers beside the reply that they wait for: one from before, or noise, or
-// / that reply with damage. Each is read before it and, where it is refused, behind it.
+/// Packets that reach the peers beside the reply that they wait for: one from before, or noise, or
+/// that reply with damage. Each is read before it and, where it is refused, behind it.
 fn strays(random: &mut Random, reply: &[u8], earlier: &[Vec<u8>]) -> Vec<Vec<u8>> {
     let mut strays = Vec::new();
     for _ in 0..random.pick(&[0, 0, 1, 2]) {
@@ -64,7 +64,7 @@ fn strays(random: &mut Random, reply: &[u8], earlier: &[Vec<u8>]) -> Vec<Vec<u8>
     strays
 }
 
-// / Both peers read the reply, with strays around it.
+/// Both peers read the reply, with strays around it.
 fn read_among(
     peers: &mut Peers,
     replies: [&[u8]; 2],
@@ -90,7 +90,7 @@ fn read_among(
     call
 }
 
-// / Opens in both, with the same bytes in both buffers, and a list with room for the one opening.
+/// Opens in both, with the same bytes in both buffers, and a list with room for the one opening.
 fn open(random: &mut Random) -> (Boxes, Peers) {
     let id = random.octet();
     let challenge = random.array();
@@ -132,7 +132,7 @@ fn open(random: &mut Random) -> (Boxes, Peers) {
     (boxes, peers)
 }
 
-// / The passwords behind a record.
+/// The passwords behind a record.
 struct User {
     password: Vec<u8>,
     lm_password: Vec<u8>,
@@ -163,8 +163,8 @@ fn user(random: &mut Random) -> User {
     }
 }
 
-// / A Response by LM, which neither peer writes: by hand, from the hashes of both, and sent in
-// place / of one that they wrote.
+/// A Response by LM, which neither peer writes: by hand, from the hashes of both, and sent in place
+/// of one that they wrote.
 fn lm_response(peers: &mut Peers, password: &[u8], name: &[u8], random: &mut Random) -> Vec<u8> {
     let hash = hashes::lm_hash(password).expect("a password");
     let challenge = peers.turn().challenge;
@@ -176,7 +176,7 @@ fn lm_response(peers: &mut Peers, password: &[u8], name: &[u8], random: &mut Ran
     packet::response(peers.last(), &lm, &random.array(), flag, name)
 }
 
-// / A packet that the box is to refuse, as a rule; the boxes must agree even where it is judged.
+/// A packet that the box is to refuse, as a rule; the boxes must agree even where it is judged.
 fn noise(random: &mut Random, next: &[u8], earlier: Option<&Vec<u8>>) -> Vec<u8> {
     let mut packet = next.to_vec();
     match (random.below(6), earlier) {
@@ -279,7 +279,7 @@ fn series(random: &mut Random, seen: &mut Seen) {
     }
 }
 
-// / The record that was handed out lets the new password in at the first Response.
+/// The record that was handed out lets the new password in at the first Response.
 fn later(random: &mut Random, account: &Account, password: &[u8]) {
     let (mut boxes, mut peers) = open(random);
     let packet = response(&mut peers, password, b"DOM\\User", random);
@@ -303,8 +303,8 @@ fn series_agree() {
     seen.expect(&["stray refused 11", "stray refused behind the reply"]);
 }
 
-// / Openings over one list, with retries over the limit, buffers that are too small, challenges
-// that / were issued before and too few places. Now and then the list is stored and restored.
+/// Openings over one list, with retries over the limit, buffers that are too small, challenges that
+/// were issued before and too few places. Now and then the list is stored and restored.
 #[test]
 fn openings_agree() {
     let seen = run("openings", 100_000, |random, seen| {
