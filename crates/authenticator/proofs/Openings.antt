@@ -11,6 +11,8 @@ use native.Mathlib.Omega.{arith}
 use borrow.Author.Tests.{eqb-true, eqb-false, ne-eqb, le-ltb, ltb-false}
 use lib.Dec.{eqb, ltb}
 use lib.ListN.{length, take, replicate}
+use Rattle.refusals.proofs.Laws.{none-refused}
+use Rattle.refusals.proofs.Answers.{both-passed}
 use Rattle.issued.specs.Issued.{Issued, places, listed, contains, Distinct, containsAny, countsOf, badBuffer, badCounts, spendRefusal, spent}
 use Rattle.issued.proofs.Listing.{Wide}
 use Rattle.issued.proofs.Spending.{spendable, may-spend, may-spend-empty, same-issued, spent-added, spent-listed, spent-contains, spent-keeps, spent-true, spent-sound}
@@ -19,7 +21,7 @@ use Rattle.packets.specs.Reply.{challengePacket, badReplyBuffer}
 use Rattle.challenges.proofs.Laid.{length-challenges-from}
 use Rattle.packets.proofs.Writing.{taken}
 use Rattle.authenticator.specs.Conversation.{closed}
-use Rattle.authenticator.specs.Opening.{Opening, retriesOf, spends, openRefusal, openedIssued, firstConversation, openingPacket, openedBy, opened, openedBuffer, OpenedAs}
+use Rattle.authenticator.specs.Opening.{Opening, retriesOf, spends, tooManyRetries, openRefusal, openedIssued, firstConversation, openingPacket, openedBy, opened, openedBuffer, OpenedAs}
 use Rattle.authenticator.specs.declared.Opened.{Opened}
 use Rattle.authenticator.proofs.Spends.{challenges-wide, challenges-distinct}
 
@@ -32,11 +34,34 @@ opened-number o = which (eqb (openRefusal o) 0) refl
     which true e = let z = eqb-true (openRefusal o) 0 e in ap (λ (n : ℕ). openedBy n o .refusal) z ∙ sym z
     which false e = rw e
 
--- none of the tests
-none : (t₁ t₂ : Bool) (n : ℕ) → cond t₁ 13 (cond t₂ 2 n) ≡ 0 → (t₁ ≡ false) × (t₂ ≡ false) × (n ≡ 0)
-none true t₂ n h = absurd (omega arith)
-none false true n h = absurd (omega arith)
-none false false n h = (refl, refl, h)
+-- ---- 13 and 2, which are tested before the list is looked at
+
+abbrev pub argumentRefusal : Opening → ℕ
+argumentRefusal o = cond (tooManyRetries o) 13 (cond (badReplyBuffer (o .buffer)) 2 0)
+
+pub record GoodArguments (o : Opening) : Type 0 where
+  pub few : tooManyRetries o ≡ false
+  pub roomy : badReplyBuffer (o .buffer) ≡ false
+
+pub arguments-good : (o : Opening) → argumentRefusal o ≡ 0 → GoodArguments o
+arguments-good o e =
+    let good = both-passed (tooManyRetries o) 13 (badReplyBuffer (o .buffer)) 2 (omega arith) (omega arith) e in
+    record { few = good .0; roomy = good .1 }
+
+pub list-refusal : (o : Opening) → GoodArguments o
+    → openRefusal o ≡ spendRefusal 8 (spends o) (o .issued)
+unfolding openRefusal
+list-refusal o good = simp (good .few, good .roomy)
+
+pub argument-refusal : (o : Opening) → argumentRefusal o ≢ 0 → openRefusal o ≡ argumentRefusal o
+unfolding openRefusal
+argument-refusal o some = which (tooManyRetries o) (badReplyBuffer (o .buffer)) some
+  where
+    which : (t u : Bool) → _≢_ {A = ℕ} (cond t 13 (cond u 2 0)) 0
+        → _≡_ {A = ℕ} (cond t 13 (cond u 2 (spendRefusal 8 (spends o) (o .issued)))) (cond t 13 (cond u 2 0))
+    which true u h = refl
+    which false true h = refl
+    which false false h = absurd (h refl)
 
 module _ (o : Opening) where
   module _ (ok : opened o .refusal ≡ 0) where
@@ -50,9 +75,12 @@ module _ (o : Opening) where
     pub opened-first : opened o .conversation ≡ firstConversation o
     opened-first = ap (λ (x : Opened). x .conversation) good
 
-    passed : (ltb 7 (retriesOf (o .retries)) ≡ false) × (badReplyBuffer (o .buffer) ≡ false) × (spendRefusal 8 (spends o) (o .issued) ≡ 0)
+    passed : (tooManyRetries o ≡ false) × (badReplyBuffer (o .buffer) ≡ false) × (spendRefusal 8 (spends o) (o .issued) ≡ 0)
     unfolding openRefusal
-    passed = none (ltb 7 (retriesOf (o .retries))) (badReplyBuffer (o .buffer)) (spendRefusal 8 (spends o) (o .issued)) not-refused
+    passed =
+        let first = none-refused (tooManyRetries o) (omega arith) not-refused in
+        let second = none-refused (badReplyBuffer (o .buffer)) (omega arith) (first .1) in
+        (first .0, second .0, second .1)
 
     roomy : 17 ≤ length (o .buffer)
     roomy = ltb-false (length (o .buffer)) 17 (passed .1)

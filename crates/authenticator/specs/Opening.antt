@@ -30,9 +30,15 @@ pub record Opening : Type 0 where
   pub issued : Issued
   pub buffer : List ℕ
 
--- document 01's r: silence means 2
+-- document 01's r: silence means 2, and 7 is the most
+abbrev pub defaultRetries : ℕ
+defaultRetries = 2
+
+abbrev pub mostRetries : ℕ
+mostRetries = 7
+
 abbrev pub retriesOf : Retries → ℕ
-retriesOf Default = 2
+retriesOf Default = defaultRetries
 retriesOf (Count r) = r
 
 -- LM is allowed unless the opening says no
@@ -45,10 +51,15 @@ lmAllowed Disallowed = false
 abbrev pub spends : Opening → List (List ℕ)
 spends o = challengesFrom (suc (retriesOf (o .retries))) (o .challenge)
 
+abbrev pub tooManyRetries : Opening → Bool
+tooManyRetries o = ltb mostRetries (retriesOf (o .retries))
+
 -- 13, 2, and then 24, 16, 17 of the list, whose entries have 8 octets; 0 is none
 unfoldable pub openRefusal : Opening → ℕ
-openRefusal o = cond (ltb 7 (retriesOf (o .retries))) 13
-    (cond (badReplyBuffer (o .buffer)) 2 (spendRefusal 8 (spends o) (o .issued)))
+openRefusal o =
+    cond (tooManyRetries o) 13
+    (cond (badReplyBuffer (o .buffer)) 2
+    (spendRefusal 8 (spends o) (o .issued)))
 
 -- the list afterwards: "all are added", or it is as it was
 unfoldable pub openedIssued : Opening → Issued

@@ -1,10 +1,13 @@
 // The opening of a conversation.
 ghost use mathlib.Core.Path.{_≡_};
+ghost use mathlib.Core.Bool.{cond};
+ghost use lib.Dec.{ltb};
+ghost use Rattle.packets.specs.Reply.{badReplyBuffer};
 ghost use Prim.Native.Nat.{suc, _≤_};
 ghost use Rattle.issued.specs.Issued.{spendRefusal, spent};
 ghost use Rattle.challenges.specs.Challenges.{challengesFrom};
 ghost use Rattle.authenticator.specs.Conversation.{closed};
-ghost use Rattle.authenticator.specs.Opening.{retriesOf, lmAllowed, OpenedAs};
+ghost use Rattle.authenticator.specs.Opening.{mostRetries, retriesOf, lmAllowed, OpenedAs};
 use crate::Conversation;
 use crate::LmChoice;
 use crate::Opened;
@@ -13,13 +16,18 @@ use crate::Retries;
 use crate::successors::closed_conversation;
 use accounts::blank_account;
 use issued::Spent;
+use refusals::refuse_if;
 use verify::Terms;
+
+const DEFAULT_RETRIES: u8 = 2;
+
+const MOST_RETRIES: u8 = 7;
 
 fn retries_of(retries: Retries) -> u8
     ensures { λ r. ⌜ r ≡ retriesOf retries ⌝ }
 {
     match retries {
-        Retries::Default => 2,
+        Retries::Default => DEFAULT_RETRIES,
         Retries::Count(r) => r,
     }
 }
@@ -32,6 +40,15 @@ fn is_lm_allowed(lm: LmChoice) -> bool
         LmChoice::Allowed => true,
         LmChoice::Disallowed => false,
     }
+}
+
+// 13, then 2; 0 is none.
+fn argument_refusal(r: u8, reply: &[u8]) -> u8
+    ensures { λ n. ⌜ n
+        ≡ cond (ltb mostRetries r) 13 (cond (badReplyBuffer (now (reply .entry))) 2 0) ⌝ }
+{
+    let buffer = refuse_if(packets::is_bad_reply_buffer(reply), 2, 0);
+    refuse_if(MOST_RETRIES < r, 13, buffer)
 }
 
 fn refused_opening(refusal: u8, used: usize) -> Opened
@@ -97,11 +114,9 @@ impl Conversation {
             (now (reply .exit)) ⌝ }
     {
         let r = retries_of(retries);
-        if 7 < r {
-            return refused_opening(13, used);
-        }
-        if packets::is_bad_reply_buffer(reply) {
-            return refused_opening(2, used);
+        let refusal = argument_refusal(r, reply);
+        if refusal != 0 {
+            return refused_opening(refusal, used);
         }
         let spent = spend(challenge, r, list, used, counts);
         if spent.refusal != 0 {

@@ -1,20 +1,30 @@
--- `authenticator::Conversation::open` meets its contract.
+-- `authenticator::Conversation::open` meets its contract: refused by its arguments, refused by the
+-- list, or opened.
 -- Assumes nothing.
-use mathlib.Core.Bool.{false}
+use mathlib.Core.Bool.{cond}
 use mathlib.Core.List.{List}
+use mathlib.Core.Logic.{_≢_}
 use mathlib.Core.Path.{_≡_, refl, sym, ap, _∙_}
-use Prim.Native.Nat.{ℕ, suc}
+use Prim.Native.Nat.{ℕ, suc, _≤_}
 use native.Mathlib.Omega.{arith}
 use borrow.Author.Needs.{needs}
-use borrow.Author.Tests.{lt-ltb, le-ltb, ltb-false}
+use borrow.Author.Tests.{ltb-false}
 use lib.Dec.{ltb}
 use lib.ListN.{length}
 use Rattle.issued.specs.Issued.{Issued, spendRefusal, spent}
 use Rattle.issued.proofs.Spending.{spent-refused}
 use Rattle.challenges.specs.Challenges.{challengesFrom}
-use Rattle.packets.specs.Reply.{challengePacket, badReplyBuffer}
-use Rattle.authenticator.specs.Opening.{Opening, retriesOf, spends, openRefusal}
-use Rattle.authenticator.proofs.Openings.{refused-promise, accepted-promise}
+use Rattle.packets.specs.Reply.{challengePacket, longestReply, badReplyBuffer}
+use Rattle.authenticator.specs.Opening.{Opening, mostRetries, retriesOf, spends, openRefusal}
+use Rattle.authenticator.proofs.Openings.{
+  argumentRefusal,
+  GoodArguments,
+  arguments-good,
+  list-refusal,
+  argument-refusal,
+  refused-promise,
+  accepted-promise,
+}
 use Rattle.authenticator.proofs.Written.{written-whole, challenge-fits}
 use Rattle.authenticator.proofs.Conversation.open.Statement.{statement}
 use Rattle.authenticator.proofs.Conversation.open.Tie as tie
@@ -22,11 +32,16 @@ use Rattle.authenticator.proofs.Conversation.open.Tie as tie
 eight : (c : tie.Start) → length (c .args .challenge) ≡ 8
 eight c = search needs
 
-abbrev start : tie.After-retries-of → tie.Start
-start c = c .before .before .before .before
+-- ---- behind the test of the arguments
 
-abbrev given : tie.After-retries-of → Opening
-given c =
+abbrev retries : tie.After-argument-refusal → tie.After-retries-of
+retries c = c .before .before
+
+abbrev start : tie.After-argument-refusal → tie.Start
+start c = retries c .before .before .before .before
+
+abbrev opening : tie.After-argument-refusal → Opening
+opening c =
     let a = start c .args in
     record {
       id = a .id;
@@ -37,79 +52,96 @@ given c =
       buffer = a .reply .now;
     }
 
--- 13
+told : (c : tie.After-argument-refusal)
+    → c .argument-refusal .result ≡ argumentRefusal (opening c)
+told c =
+    c .argument-refusal .ensures
+    ∙ ap (λ (r : ℕ). cond {A = ℕ} (ltb mostRetries r) 13 (cond (badReplyBuffer (opening c .buffer)) 2 0))
+    (retries c .retries-of .ensures)
+
+-- 13, 2
 returns : tie.Need-returns
-unfolding openRefusal
 returns c =
     let k = c .before .before in
-    let e = lt-ltb 7 _ (rw (k .retries-of .ensures) at (c .before .if1 .taken)) in
-    refused-promise (given k) 13 (simp e) (λ f. omega arith) (c .refused-opening .ensures) refl refl refl
+    let some : argumentRefusal (opening k) ≢ 0 = λ e. c .before .if1 .taken (told k ∙ e) in
+    refused-promise (opening k) _ (argument-refusal (opening k) some ∙ sym (told k))
+    (c .before .if1 .taken) (c .refused-opening .ensures) refl refl refl
 
--- ---- behind the first test
+good : (c : tie.Else1) → GoodArguments (opening (c .before))
+good c = arguments-good (opening (c .before)) (sym (told (c .before)) ∙ c .if1 .left)
 
-few : (c : tie.Else1) → ltb 7 (retriesOf (given (c .before) .retries)) ≡ false
-few c = le-ltb 7 _ (rw (c .before .retries-of .ensures) at (c .if1 .left))
+spend-requires : tie.Need-spend-requires
+spend-requires c κs =
+    let e = c .before .before in
+    let r = retries (e .before) .retries-of in
+    omega (arith, r .ensures, ltb-false mostRetries (retriesOf (opening (e .before) .retries)) (good e .few))
 
--- 2
-returns-2 : tie.Need-returns-2
-unfolding openRefusal
-returns-2 c =
-    let k = c .before .before in
-    let e = k .before .before in
-    refused-promise (given (e .before)) 2 (simp (few e, sym (k .is-bad-reply-buffer .ensures) ∙ c .before .if2 .taken)) (λ f. omega arith) (c .refused-opening2 .ensures) refl refl refl
+-- ---- behind the list
 
--- ---- behind the second
+abbrev else : tie.After-spend → tie.Else1
+else c = c .before .before .before
 
-abbrev first : tie.Else2 → tie.Else1
-first c = c .before .before .before
+abbrev given : tie.After-spend → Opening
+given c = opening (else c .before)
 
-roomy : (c : tie.Else2) → badReplyBuffer (given (first c .before) .buffer) ≡ false
-roomy c = sym (c .before .is-bad-reply-buffer .ensures) ∙ c .if2 .left
+-- what `spend` took for the entries are those that the opening spends
+entries-told : (c : tie.After-spend)
+    → challengesFrom (suc (retries (else c .before) .retries-of .result)) (given c .challenge)
+    ≡ spends (given c)
+entries-told c =
+    ap (λ (r : ℕ). challengesFrom (suc r) (given c .challenge))
+    (retries (else c .before) .retries-of .ensures)
 
--- ---- behind the third: what was told of the list
+list-told : (c : tie.After-spend)
+    → c .spend .result .refusal ≡ spendRefusal 8 (spends (given c)) (given c .issued)
+list-told c =
+    c .spend .ensures .0
+    ∙ ap (λ (es : List (List ℕ)). spendRefusal 8 es (given c .issued)) (entries-told c)
 
-abbrev second : tie.After-spend → tie.Else2
-second c = c .before .before .before
+refusal-told : (c : tie.After-spend) → openRefusal (given c) ≡ c .spend .result .refusal
+refusal-told c = list-refusal (given c) (good (else c)) ∙ sym (list-told c)
 
-abbrev opening : tie.After-spend → Opening
-opening c = given (first (second c) .before)
-
-entries-told : (c : tie.After-spend) → challengesFrom (suc (first (second c) .before .retries-of .result)) (opening c .challenge) ≡ spends (opening c)
-entries-told c = ap (λ (r : ℕ). challengesFrom (suc r) (opening c .challenge)) (first (second c) .before .retries-of .ensures)
-
-refusal-told : (c : tie.After-spend) → openRefusal (opening c) ≡ c .spend .result .refusal
-unfolding openRefusal
-refusal-told c =
-    simp (few (first (second c)), roomy (second c))
-    (sym (c .spend .ensures .0 ∙ ap (λ (es : List (List ℕ)). spendRefusal 8 es (opening c .issued)) (entries-told c)))
+after-told : (c : tie.After-spend) {list : List ℕ} {used : ℕ} {counts : List ℕ}
+    → record { buffer = list; used = used; counts = counts }
+    ≡ spent 8 (challengesFrom (suc (retries (else c .before) .retries-of .result)) (given c .challenge)) (given c .issued)
+    → record { buffer = list; used = used; counts = counts } ≡ spent 8 (spends (given c)) (given c .issued)
+after-told c e =
+    e ∙ ap (λ (es : List (List ℕ)). spent 8 es (given c .issued)) (entries-told c)
 
 -- 24, 16, 17
-returns-3 : tie.Need-returns-3
-returns-3 c =
+returns-2 : tie.Need-returns-2
+returns-2 c =
     let t = c .before in
     let k = t .before .before .before .before .before .before in
-    let o = opening k in
+    let o = given k in
     let after =
-    k .spend .ensures .1 ∙ ap (λ (es : List (List ℕ)). spent 8 es (o .issued)) (entries-told k)
-    ∙ spent-refused 8 (spends o) (o .issued) (λ e. t .if3 .taken (k .spend .ensures .0 ∙ ap (λ (es : List (List ℕ)). spendRefusal 8 es (o .issued)) (entries-told k) ∙ e)) in
-    refused-promise o (k .spend .result .refusal) (refusal-told k) (t .if3 .taken) (c .refused-opening3 .ensures) (ap (λ (i : Issued). i .buffer) after)
+    after-told k (k .spend .ensures .1)
+    ∙ spent-refused 8 (spends o) (o .issued) (λ e. t .if2 .taken (list-told k ∙ e)) in
+    refused-promise o (k .spend .result .refusal) (refusal-told k) (t .if2 .taken)
+    (c .refused-opening2 .ensures) (ap (λ (i : Issued). i .buffer) after)
     (ap (λ (i : Issued). i .counts) after) refl
 
-returns-4 : tie.Need-returns-4
-returns-4 c =
+-- opened
+returns-3 : tie.Need-returns-3
+returns-3 c =
     let w = c .before .before .before .before in
     let e = w .before .before in
     let k = e .before .before .before .before .before .before in
-    let o = opening k in
+    let o = given k in
+    let room : longestReply ≤ length (o .buffer) =
+    ltb-false (length (o .buffer)) longestReply (good (else k) .roomy) in
     let written : w .write-challenge .result ≡ length (challengePacket (o .id) (o .challenge)) =
-    w .write-challenge .ensures .0 ∙ written-whole _ _ (challenge-fits (o .id) (o .challenge) (eight (start (first (second k) .before)))) (ltb-false _ _ (roomy (second k))) in
-    let retries = first (second k) .before .retries-of .ensures in
-    accepted-promise o (refusal-told k ∙ e .if3 .left) (k .spend .ensures .1 ∙ ap (λ (es : List (List ℕ)). spent 8 es (o .issued)) (entries-told k)) (cc) (w .write-challenge .ensures .1)
+    w .write-challenge .ensures .0
+    ∙ written-whole _ _ (challenge-fits (o .id) (o .challenge) (eight (start (else k .before)))) room in
+    let retried = retries (else k .before) .retries-of .ensures in
+    accepted-promise o (refusal-told k ∙ e .if2 .left) (after-told k (k .spend .ensures .1)) (cc)
+    (w .write-challenge .ensures .1)
 
 pub open-spec : {M : Type 1} → statement M
 open-spec =
     tie.close
     (tie.spec
-    (λ c κs. search needs) (λ c κs. search needs) returns (λ c κs. search needs) (λ c κs. search needs) (λ c. search needs) returns-2 (λ c κs. omega arith)
-    (λ c κs. search needs) (λ c. search needs) (λ c. search needs) (λ c. search needs) returns-3 (λ c κs. search needs) (λ c κs. search needs)
-    (λ c κs. search needs) (λ c. search needs) (λ c. search needs) (λ c. search needs) returns-4)
+    (λ c κs. search needs) (λ c κs. search needs) (λ c κs. search needs) (λ c. search needs) returns
+    spend-requires (λ c κs. search needs) (λ c. search needs) (λ c. search needs)
+    (λ c. search needs) returns-2 (λ c κs. search needs) (λ c κs. search needs)
+    (λ c κs. search needs) (λ c. search needs) (λ c. search needs) (λ c. search needs) returns-3)
