@@ -19,7 +19,15 @@ use Rattle.issued.specs.Issued.{entries, entriesIn, contains, Distinct}
 use Rattle.issued.proofs.Listing.{Wide, length-flatten, entries-flatten}
 use Rattle.challenges.specs.Challenges.{incremented, challengesFrom}
 use Rattle.challenges.proofs.Laid.{length-challenges-from}
-use Rattle.challenges.proofs.Laws.{length-incremented, incremented-octets}
+
+pub length-incremented : (c : List ℕ) → length (incremented c) ≡ length c
+length-incremented [] = refl
+length-incremented (x ∷ c) = refl
+
+incremented-octets : (c : List ℕ) → Octets c → Octets (incremented c)
+incremented-octets [] h i = h i
+incremented-octets (x ∷ c) h zero = omega arith
+incremented-octets (x ∷ c) h (suc i) = h (suc i)
 
 pub challenges-wide : (n : ℕ) (c : List ℕ) → length c ≡ 8 → Wide 8 (challengesFrom n c)
 unfolding challengesFrom

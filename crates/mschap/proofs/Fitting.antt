@@ -17,7 +17,7 @@ use Rattle.message.specs.Reasons.{passwordExpired}
 use Rattle.packets.specs.Response.{readResponse}
 use Rattle.packets.specs.Change.{readChange}
 use Rattle.packets.specs.declared.Change as changes
-use Rattle.challenges.proofs.Laws.{length-incremented}
+use Rattle.authenticator.proofs.Spends.{length-incremented}
 use Rattle.accounts.specs.Account.{blankAccount}
 use Rattle.authenticator.specs.Conversation.{ended, retried, closed}
 use Rattle.authenticator.specs.Opening.{Opening, openRefusal, openedIssued, firstConversation, openingPacket, opened}

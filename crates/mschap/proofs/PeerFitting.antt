@@ -26,7 +26,7 @@ use Rattle.challenges.specs.Challenges.{incremented}
 use Rattle.packets.specs.Reply.{refusedChallenge, badChallenge, readChallenge, readReply}
 use Rattle.packets.specs.declared.ChallengeFields.{ChallengeFields}
 use Rattle.packets.specs.declared.Written.{Written}
-use Rattle.challenges.proofs.Laws.{length-incremented}
+use Rattle.authenticator.proofs.Spends.{length-incremented}
 use Rattle.peer.specs.Turn.{sentFor, turnFor, turnAfter, nextTurn}
 use Rattle.peer.specs.Peer.{afterChallenge, afterWriting, peerReads, afterReply}
 use Rattle.peer.specs.declared.Peer.{Peer}

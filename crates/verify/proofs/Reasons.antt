@@ -64,7 +64,7 @@ module _ (t : Terms) (challenge : List ℕ) (f : Response) where
   pub reason-invalid : (l : Lookup) → foundValid t challenge l f ≡ false
       → responseReason t challenge l f ≡ authenticationFailure
   unfolding responseReason firstReason
-  reason-invalid l v = rw v
+  reason-invalid l v = simp v
 
   -- a valid one of a rightful user
   pub rightful-reason : (a : Account) → Rightful a → valid t challenge a f ≡ true
