@@ -5,6 +5,7 @@ use mathlib.Core.List.{List}
 use Prim.Native.Nat.{ℕ, _-_}
 use lib.ListN.{replicate}
 use Rattle.challenges.specs.Challenges.{nextId, incremented}
+use Rattle.packets.specs.Codes.{responseCode, changeCode}
 use Rattle.accounts.specs.Account.{blankAccount}
 use Rattle.accounts.specs.declared.Account.{Account}
 use Rattle.authenticator.specs.declared.Conversation.{Conversation}
@@ -13,8 +14,8 @@ use Rattle.authenticator.specs.declared.Phase.the-variants.{Response, Ch
 
 -- the code of the packet that each phase awaits; 0 is none
 abbrev pub awaitedCode : Phase → ℕ
-awaitedCode Response = 2
-awaitedCode Change = 6
+awaitedCode Response = responseCode
+awaitedCode Change = changeCode
 awaitedCode Ended = 0
 
 abbrev pub isEnded : Phase → Bool

@@ -13,8 +13,8 @@ pub fn awaited_code(phase: Phase) -> u8
     ensures { λ r. ⌜ r ≡ awaitedCode phase ⌝ }
 {
     match phase {
-        Phase::Response => 2,
-        Phase::Change => 6,
+        Phase::Response => packets::RESPONSE_CODE,
+        Phase::Change => packets::CHANGE_CODE,
         Phase::Ended => 0,
     }
 }

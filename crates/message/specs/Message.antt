@@ -148,9 +148,12 @@ readFields ws none = refusedWith 11
 readFields ws (some e) = failedWith (numberFrom 10 0 e) (valueR ws) (valueV ws)
     (newChallengeFrom (firstField fieldC ws))
 
+abbrev pub longestMessage : ℕ
+longestMessage = 256
+
 -- what the message m says; over 256 octets, refusal 11
 unfoldable pub readMessage : List ℕ → Reading
-readMessage m = cond (ltb 256 (length m)) (refusedWith 11)
+readMessage m = cond (ltb longestMessage (length m)) (refusedWith 11)
     (readFields (words m) (firstField fieldE (words m)))
 
 abbrev pub isNone : Option (List ℕ) → Bool
@@ -159,7 +162,7 @@ isNone (some ds) = false
 
 -- the number with which a message is refused: over 256 octets or without E, 11
 unfoldable pub messageRefusal : List ℕ → ℕ
-messageRefusal m = cond (ltb 256 (length m) || isNone (firstField fieldE (words m))) 11 0
+messageRefusal m = cond (ltb longestMessage (length m) || isNone (firstField fieldE (words m))) 11 0
 
 -- E, R and V of a message that is not refused
 abbrev pub fieldValues : List (List ℕ) → Option (List ℕ) → List ℕ
@@ -167,7 +170,7 @@ fieldValues ws none = []
 fieldValues ws (some e) = numberFrom 10 0 e ∷ valueR ws ∷ valueV ws ∷ []
 
 unfoldable pub messageValues : List ℕ → List ℕ
-messageValues m = cond (ltb 256 (length m)) [] (fieldValues (words m) (firstField fieldE (words m)))
+messageValues m = cond (ltb longestMessage (length m)) [] (fieldValues (words m) (firstField fieldE (words m)))
 
 -- ---- the text that is written: `E=691 R=1 V=2` with the numbers set, of which the three, one and
 -- one last decimal digits count

@@ -8,7 +8,7 @@ ghost use mathlib.Core.List.{map};
 ghost use Prim.Native.Nat.{_%_, _≤_, _<_};
 ghost use lib.ListN.{length, drop};
 ghost use Rattle.octets.specs.Digits.{digitOf, hexOf};
-ghost use Rattle.message.specs.Message.{words, allBelow, isField, firstField, fieldE, numberFrom, numberOr, pairs, calledFor, verdictRefusal, verdictValues, noChallenge, newChallengeFrom, succeeded, refusedWith, readFields, readMessage, messageRefusal, messageValues, textOf};
+ghost use Rattle.message.specs.Message.{longestMessage, words, allBelow, isField, firstField, fieldE, numberFrom, numberOr, pairs, calledFor, verdictRefusal, verdictValues, noChallenge, newChallengeFrom, succeeded, refusedWith, readFields, readMessage, messageRefusal, messageValues, textOf};
 ghost use Rattle.message.specs.Inner.{wordKindOf, isNowhere, lacks, isNew, withPlace, Noted};
 ghost use Rattle.message.specs.Inner.{digitsAt, parsedAt, parsedIn, completed, wordAt};
 ghost use Rattle.message.specs.Inner.{IfSome, Small, Eight};
@@ -78,6 +78,8 @@ struct Fields {
     v: Place,
     c: Place,
 }
+
+pub const LONGEST_MESSAGE: usize = 256;
 
 // ---- digits
 
@@ -261,7 +263,7 @@ fn word_at(message: &[u8], from: usize) -> &[u8]
 
 // Inside a field: the word at `from` is the first field of its kind. Behind it there is text again.
 fn in_field(message: &[u8], from: usize, f: Fields) -> Fields
-    requires { ⌜ (length (now message) ≤ 256) × (isNew f (wordAt (now message) from) ≡ true) ⌝ }
+    requires { ⌜ (length (now message) ≤ longestMessage) × (isNew f (wordAt (now message) from) ≡ true) ⌝ }
     ensures { λ g. ⌜ parsedAt (now (message .entry)) g ≡ completed (now (message .entry)) from f ⌝ }
 {
     let word = word_at(message, from);
@@ -271,7 +273,7 @@ fn in_field(message: &[u8], from: usize, f: Fields) -> Fields
 
 // Inside text to be skipped: it goes on to a word that is the first field of its kind.
 fn in_text(message: &[u8], at: usize, f: Fields) -> Fields
-    requires { ⌜ length (now message) ≤ 256 ⌝ }
+    requires { ⌜ length (now message) ≤ longestMessage ⌝ }
     ensures { λ g. ⌜ parsedAt (now (message .entry)) g ≡ completed (now (message .entry)) at f ⌝ }
 {
     let mut from = at;
@@ -398,7 +400,7 @@ pub fn read(message: &[u8]) -> Reading
         × (verdictRefusal (r .verdict) ≡ messageRefusal (now (message .entry)))
         × (verdictValues (r .verdict) ≡ messageValues (now (message .entry))) ⌝ }
 {
-    if 256 < message.len() {
+    if LONGEST_MESSAGE < message.len() {
         return refused_with(11);
     }
     let none = Fields {

@@ -6,6 +6,7 @@ use mathlib.Core.List.{List, [], _∷_, _++_}
 use Prim.Native.Nat.{ℕ}
 use lib.Dec.{eqb}
 use Rattle.octets.specs.Parts.{part, fixed, agrees}
+use Rattle.packets.specs.Codes.{responseCode, changeCode}
 use Rattle.packets.specs.Sizes.{hashSize, challengeSize}
 use Rattle.packets.specs.Frame.{octet}
 use Rattle.authenticator.specs.Conversation.{awaitedCode}
@@ -120,7 +121,7 @@ decodeRecord bytes =
 
 -- the phase that awaits a code: 2 is a Response, 6 a change; else the conversation has ended
 abbrev pub phaseOf : ℕ → Phase
-phaseOf n = cond (eqb n 2) Response (cond (eqb n 6) Change Ended)
+phaseOf n = cond (eqb n responseCode) Response (cond (eqb n changeCode) Change Ended)
 
 abbrev pub awaitedAt : ℕ
 awaitedAt = 0

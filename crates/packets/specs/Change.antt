@@ -7,6 +7,7 @@ use lib.Dec.{eqb, ltb}
 use lib.ListN.{length}
 use Rattle.octets.specs.Parts.{part, fixed}
 use Rattle.octets.specs.Numbers.{fromBe, toBe}
+use Rattle.packets.specs.Codes.{changeCode}
 use Rattle.packets.specs.Frame.{octet, lengthOf, framed, answerBy, outBy}
 use Rattle.packets.specs.Sizes.{headSize, answerSize, hashSize, blockSize, verifierOffset, lmBlockOffset, lmVerifierOffset, lmAnswerOffset, ntAnswerOffset, flagsOffset, changeSize}
 use Rattle.packets.specs.declared.Change.{Change}
@@ -15,7 +16,7 @@ use Rattle.packets.specs.declared.Written.{Written}
 -- the flags go most significant octet first (decided by document 01)
 unfoldable pub changePacket : ℕ → Change → List ℕ
 changePacket id f =
-    framed 6 id (f .block ++ (f .verifier
+    framed changeCode id (f .block ++ (f .verifier
     ++ (f .lmblock ++ (f .lmverifier ++ (f .lm ++ (f .nt ++ toBe 2 (f .flags)))))))
 
 -- octets that the packet does not reach are 0

@@ -1,3 +1,4 @@
+pub mod Codes
 pub mod Sizes
 pub mod Frame
 pub mod Response

@@ -6,6 +6,7 @@ use mathlib.Core.List.{List, [], _∷_}
 use Prim.Native.Nat.{ℕ, _+_, _-_}
 use lib.Dec.{eqb}
 use lib.ListN.{length}
+use Rattle.packets.specs.Codes.{responseCode}
 use Rattle.packets.specs.Frame.{octet, lengthOf, badFrame}
 use Rattle.packets.specs.Sizes.{nameOffset}
 use Rattle.packets.specs.Response.{readName, badResponseSize, badResponseFlag}
@@ -27,7 +28,7 @@ afterSplit (x ∷ n) = cond (eqb x 92) n (afterSplit n)
 
 -- the packet by itself fails the check of 3, 4 (code 2 awaited), 6 or 7
 abbrev pub isBadResponse : List ℕ → Bool
-isBadResponse p = badFrame p || (not (eqb (octet 0 p) 2)
+isBadResponse p = badFrame p || (not (eqb (octet 0 p) responseCode)
     || (badResponseSize p || badResponseFlag p))
 
 -- the domain: the part of the name before the backslash (empty before a leading one) or, where

@@ -9,19 +9,20 @@ use lib.ListN.{length, replicate}
 use Rattle.octets.specs.Parts.{part, fixed}
 use Rattle.message.specs.Message.{readMessage, messageRefusal, messageValues, refusedWith, succeeded}
 use Rattle.message.specs.declared.Reading.{Reading}
+use Rattle.packets.specs.Codes.{challengeCode, successCode, failureCode}
 use Rattle.packets.specs.Frame.{octet, lengthOf, framed, badFrame, badId, dataOf}
 use Rattle.packets.specs.Sizes.{headSize, challengeSize, challengeOffset, challengeLength, messageSize}
 use Rattle.packets.specs.declared.ChallengeFields.{ChallengeFields}
 
 -- a Challenge with no name, a Success with no message, a Failure with its message
 unfoldable pub challengePacket : ℕ → List ℕ → List ℕ
-challengePacket id challenge = framed 1 id (length challenge ∷ challenge)
+challengePacket id challenge = framed challengeCode id (length challenge ∷ challenge)
 
 unfoldable pub successPacket : ℕ → List ℕ
-successPacket id = framed 3 id []
+successPacket id = framed successCode id []
 
 unfoldable pub failurePacket : ℕ → List ℕ → List ℕ
-failurePacket id message = framed 4 id message
+failurePacket id message = framed failureCode id message
 
 -- the longest of them is a Failure with its message
 abbrev pub longestReply : ℕ
@@ -40,7 +41,7 @@ refusedChallenge n = record { refusal = n; id = 0; challenge = replicate challen
 -- refusal 11: of another kind, cut short, or of a size other than 8. A name may follow and is
 -- ignored.
 abbrev pub badChallenge : List ℕ → Bool
-badChallenge p = not (eqb (octet 0 p) 1)
+badChallenge p = not (eqb (octet 0 p) challengeCode)
     || (ltb (lengthOf p) challengeLength || not (eqb (octet headSize p) challengeSize))
 
 -- 3, then 11
@@ -56,8 +57,8 @@ readChallenge p =
 
 -- what a packet says, by its code
 abbrev pub bodyRead : List ℕ → Reading
-bodyRead p = cond (eqb (octet 0 p) 3) succeeded
-    (cond (eqb (octet 0 p) 4) (readMessage (dataOf p)) (refusedWith 11))
+bodyRead p = cond (eqb (octet 0 p) successCode) succeeded
+    (cond (eqb (octet 0 p) failureCode) (readMessage (dataOf p)) (refusedWith 11))
 
 -- a reply to the last packet, which had the identifier last: 3, then 5, then 11 for another kind or
 -- by the message
@@ -71,11 +72,11 @@ unfoldable pub replyRefusal : ℕ → List ℕ → ℕ
 replyRefusal last p =
     cond (badFrame p) 3
     (cond (badId last p) 5
-    (cond (eqb (octet 0 p) 3) 0
-    (cond (eqb (octet 0 p) 4) (messageRefusal (dataOf p))
+    (cond (eqb (octet 0 p) successCode) 0
+    (cond (eqb (octet 0 p) failureCode) (messageRefusal (dataOf p))
     11)))
 
 -- E, R and V of a Failure that is not refused
 unfoldable pub replyValues : ℕ → List ℕ → List ℕ
-replyValues last p = cond (badFrame p || (badId last p || not (eqb (octet 0 p) 4))) []
+replyValues last p = cond (badFrame p || (badId last p || not (eqb (octet 0 p) failureCode))) []
     (messageValues (dataOf p))

@@ -7,13 +7,14 @@ use Prim.Native.Nat.{ℕ, _+_, _-_}
 use lib.Dec.{eqb, ltb}
 use lib.ListN.{length}
 use Rattle.octets.specs.Parts.{part, fixed}
+use Rattle.packets.specs.Codes.{responseCode}
 use Rattle.packets.specs.Frame.{octet, lengthOf, framed, answerBy, outBy}
 use Rattle.packets.specs.Sizes.{headSize, answerSize, valueSize, lmOffset, ntOffset, flagOffset, nameOffset, longestName, shortestResponse, longestResponse}
 use Rattle.packets.specs.declared.Response.{Response}
 use Rattle.packets.specs.declared.Written.{Written}
 
 unfoldable pub responsePacket : ℕ → Response → List ℕ → List ℕ
-responsePacket id f name = framed 2 id (valueSize ∷ (f .lm ++ (f .nt ++ (f .flag ∷ name))))
+responsePacket id f name = framed responseCode id (valueSize ∷ (f .lm ++ (f .nt ++ (f .flag ∷ name))))
 
 -- the fields but the name; octets that the packet does not reach are 0
 abbrev pub readResponse : List ℕ → Response

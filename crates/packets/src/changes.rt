@@ -1,6 +1,7 @@
 // The Change Password packet, version 2, of 1,118 octets.
 use crate::Change;
 use crate::Written;
+use crate::codes::CHANGE_CODE;
 use crate::frames::head;
 use crate::frames::length;
 use crate::frames::octet;
@@ -124,7 +125,7 @@ fn put_change(id: u8, fields: Change, out: &mut [u8]) -> usize
     ensures { λ r. ⌜ (r ≡ length (changePacket id fields))
         × (now (out .exit) ≡ writtenOver (changePacket id fields) (now (out .entry))) ⌝ }
 {
-    let first = head(6, id, CHANGE_SIZE as u16);
+    let first = head(CHANGE_CODE, id, CHANGE_SIZE as u16);
     octets::copy_at(out, 0, &first);
     let block = fields.block;
     let verifier = fields.verifier;

@@ -1,5 +1,6 @@
 // The packets of MS-CHAP as records of their fields, read and written. Every function is total.
 mod changes;
+mod codes;
 mod frames;
 mod names;
 mod replies;
@@ -9,6 +10,8 @@ mod sizes;
 pub use changes::change_refusal;
 pub use changes::read_change;
 pub use changes::write_change;
+pub use codes::CHANGE_CODE;
+pub use codes::RESPONSE_CODE;
 pub use frames::is_bad_frame;
 pub use frames::is_bad_id;
 pub use frames::length;

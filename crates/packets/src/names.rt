@@ -1,5 +1,6 @@
 // The two parts of a Response's name, for the lookup.
 use crate::Part;
+use crate::codes::RESPONSE_CODE;
 use crate::frames::behind;
 use crate::frames::is_bad_frame;
 use crate::frames::octet;
@@ -16,7 +17,7 @@ fn is_bad_response(packet: &[u8]) -> bool
     ensures { λ r. ⌜ r ≡ isBadResponse (now (packet .entry)) ⌝ }
 {
     let code = octet(packet, 0);
-    is_bad_frame(packet) || (code != 2 || (is_bad_size(packet) || is_bad_flag(packet)))
+    is_bad_frame(packet) || (code != RESPONSE_CODE || (is_bad_size(packet) || is_bad_flag(packet)))
 }
 
 // How many octets stand before the first backslash, or in all where there is none.

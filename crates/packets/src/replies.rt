@@ -1,5 +1,8 @@
 // What the authenticator sends: Challenge, Success and Failure; and what the peer reads in them.
 use crate::ChallengeFields;
+use crate::codes::CHALLENGE_CODE;
+use crate::codes::FAILURE_CODE;
+use crate::codes::SUCCESS_CODE;
 use crate::frames::behind;
 use crate::frames::head;
 use crate::frames::is_bad_frame;
@@ -34,7 +37,7 @@ pub fn write_challenge(id: u8, challenge: [u8; CHALLENGE_SIZE], out: &mut [u8]) 
     if out.len() < CHALLENGE_LENGTH {
         return 0;
     }
-    let first = head(1, id, CHALLENGE_LENGTH as u16);
+    let first = head(CHALLENGE_CODE, id, CHALLENGE_LENGTH as u16);
     let size = [CHALLENGE_SIZE as u8];
     octets::copy_at(out, 0, &first);
     octets::copy_at(out, HEAD_SIZE, &size);
@@ -49,7 +52,7 @@ pub fn write_success(id: u8, out: &mut [u8]) -> usize
     if out.len() < HEAD_SIZE {
         return 0;
     }
-    let first = head(3, id, HEAD_SIZE as u16);
+    let first = head(SUCCESS_CODE, id, HEAD_SIZE as u16);
     octets::copy_at(out, 0, &first);
     HEAD_SIZE
 }
@@ -62,7 +65,7 @@ pub fn write_failure(id: u8, e: u16, r: u8, v: u8, out: &mut [u8]) -> usize
     if out.len() < LONGEST_REPLY {
         return 0;
     }
-    let first = head(4, id, LONGEST_REPLY as u16);
+    let first = head(FAILURE_CODE, id, LONGEST_REPLY as u16);
     let text = message::text(e, r, v);
     octets::copy_at(out, 0, &first);
     octets::copy_at(out, HEAD_SIZE, &text);
@@ -88,7 +91,7 @@ fn is_bad_challenge(packet: &[u8]) -> bool
     let code = octet(packet, 0);
     let n = length(packet);
     let size = octet(packet, HEAD_SIZE);
-    code != 1 || (n < CHALLENGE_LENGTH || size != CHALLENGE_SIZE as u8)
+    code != CHALLENGE_CODE || (n < CHALLENGE_LENGTH || size != CHALLENGE_SIZE as u8)
 }
 
 // A Challenge. Refusal 3: the frame; 11: another kind, cut short, or of a size other than 8.
@@ -117,10 +120,10 @@ fn read_body(packet: &[u8]) -> Reading
     ensures { λ r. ⌜ r ≡ bodyRead (now (packet .entry)) ⌝ }
 {
     let code = octet(packet, 0);
-    if code == 3 {
+    if code == SUCCESS_CODE {
         return message::succeeded();
     }
-    if code == 4 {
+    if code == FAILURE_CODE {
         return message::read(octets::part_of(packet, HEAD_SIZE, behind(packet, HEAD_SIZE)));
     }
     message::refused_with(11)

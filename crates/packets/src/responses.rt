@@ -1,6 +1,7 @@
 // The Response packet: size of the value, LM response, NT response, flag, name.
 use crate::Response;
 use crate::Written;
+use crate::codes::RESPONSE_CODE;
 use crate::frames::behind;
 use crate::frames::head;
 use crate::frames::length;
@@ -103,7 +104,7 @@ fn put_response(id: u8, fields: Response, name: &[u8], out: &mut [u8]) -> usize
         (now (out .entry))) ⌝ }
 {
     let n = NAME_OFFSET + name.len();
-    let first = head(2, id, n as u16);
+    let first = head(RESPONSE_CODE, id, n as u16);
     let size = [VALUE_SIZE as u8];
     let lm = fields.lm;
     let nt = fields.nt;

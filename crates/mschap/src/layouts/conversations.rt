@@ -36,10 +36,10 @@ const KEPT_AT: usize = 12;
 fn phase_of(code: u8) -> Phase
     ensures { λ r. ⌜ r ≡ phaseOf code ⌝ }
 {
-    if code == 2 {
+    if code == packets::RESPONSE_CODE {
         return Phase::Response;
     }
-    if code == 6 {
+    if code == packets::CHANGE_CODE {
         return Phase::Change;
     }
     Phase::Ended
