@@ -195,10 +195,10 @@ fn anew() {
     slipped(516, &length);
 }
 
-fn grown() {
+fn incremented() {
     title(b"Slip: the challenge grown after 648. A change answers the last Response's challenge.");
-    let grown = challenges::incremented(challenge());
-    let response = credentials::challenge_response(new_hash(), grown);
+    let next = challenges::incremented(challenge());
+    let response = credentials::challenge_response(new_hash(), next);
     slipped(1092, &response);
 }
 
@@ -211,5 +211,5 @@ pub(crate) fn all() {
     by_old_hash();
     second_key();
     anew();
-    grown();
+    incremented();
 }

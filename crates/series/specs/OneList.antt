@@ -10,6 +10,7 @@ use mathlib.Core.Path.{_≡_}
 use Prim.Native.Nat.{ℕ, suc, _+_, _≤_, _<_}
 use lib.ListN.{length, getD, take}
 use Rattle.issued.specs.Issued.{Issued, places, listed, contains, containsAny, countsOf, badBuffer}
+use Rattle.packets.specs.Reply.{longestReply}
 use Rattle.packets.specs.declared.Change.{Change}
 use Rattle.packets.specs.declared.Response.{Response}
 use Rattle.verify.specs.Response.{answers}
@@ -36,7 +37,7 @@ pub record PassedOn (i : Issued) (o : Opening) : Type 0 where
 pub record Openable (o : Opening) : Type 0 where
   pub eight : length (o .challenge) ≡ 8
   pub not13 : retriesOf (o .retries) ≤ 7
-  pub not2 : 17 ≤ length (o .buffer)
+  pub not2 : longestReply ≤ length (o .buffer)
   pub buffer24 : badBuffer 8 (o .issued .buffer) (o .issued .used) ≡ false
   pub counts24 : o .issued .counts ≡ countsOf (listed 8 (o .issued))
   pub not16 : containsAny (spends o) (listed 8 (o .issued)) ≡ false

@@ -10,7 +10,8 @@ use Rattle.message.specs.Reasons.{authenticationFailure, passwordExpired}
 use Rattle.message.specs.Message.{textOf, failedWith, noChallenge, succeeded}
 use Rattle.message.specs.declared.Reading.{Reading}
 use Rattle.packets.specs.Response.{badName, readResponse}
-use Rattle.packets.specs.Reply.{successPacket, failurePacket, readChallenge}
+use Rattle.packets.specs.Reply.{successPacket, failurePacket, readChallenge, longestReply}
+use Rattle.packets.specs.Sizes.{nameOffset, changeSize}
 use Rattle.packets.specs.declared.ChallengeFields.{ChallengeFields}
 use Rattle.accounts.specs.Account.{found, Rightful}
 use Rattle.authenticator.specs.Judge.{validIn}
@@ -118,15 +119,15 @@ pub record Exchange : Type 0 where
 pub record TryWithin (password name : List ℕ) (l : ExchangeInput) : Type 0 where
   pub not8 : badNtPassword password ≡ false
   pub not10 : badName name ≡ false
-  pub not9 : 54 + length name ≤ length (l .out)
-  pub not2 : 17 ≤ length (l .buffer)
+  pub not9 : nameOffset + length name ≤ length (l .out)
+  pub not2 : longestReply ≤ length (l .buffer)
 
 pub record ChangeWithin (old new filler : List ℕ) (l : ExchangeInput) : Type 0 where
   pub oldNot8 : badNtPassword old ≡ false
   pub newNot8 : badNtPassword new ≡ false
   pub not12 : badFiller filler ≡ false
-  pub not9 : 1118 ≤ length (l .out)
-  pub not2 : 17 ≤ length (l .buffer)
+  pub not9 : changeSize ≤ length (l .out)
+  pub not2 : longestReply ≤ length (l .buffer)
 
 abbrev pub Within : Packet → ExchangeInput → Type 0
 Within (invalid w n) l = TryWithin w n l

@@ -7,7 +7,7 @@ ghost use mathlib.Core.Bool.{cond, _&&_};
 ghost use lib.Dec.{eqb};
 ghost use Prim.Native.Nat.{_-_, _%_, _≤_};
 ghost use Rattle.octets.specs.Parts.{part, agrees};
-ghost use Rattle.credentials.specs.Credentials.{ntHashOf, ValidLength};
+ghost use Rattle.credentials.specs.Credentials.{longestNt, ntHashOf, ValidLength};
 ghost use Rattle.accounts.specs.Account.{noHash, hashOf, hashFrom};
 ghost use Rattle.verify.specs.Change.{unsealedHash, proves, newHash};
 use accounts::Account;
@@ -15,14 +15,15 @@ use accounts::Hash;
 use accounts::hash_of;
 use accounts::no_hash;
 use credentials::Content;
+use credentials::LONGEST_NT;
 use credentials::Unsealed;
 
 // The hash of the password of n octets at the end of an unsealed block.
-fn hash_of_last(octets: [u8; 512], n: usize) -> Hash
-    requires { ⌜ (n ≤ 512) × (n % 2 ≡ 0) ⌝ }
-    ensures { λ r. ⌜ r ≡ hashOf (ntHashOf (part (512 - n) n octets)) ⌝ }
+fn hash_of_last(octets: [u8; LONGEST_NT], n: usize) -> Hash
+    requires { ⌜ (n ≤ longestNt) × (n % 2 ≡ 0) ⌝ }
+    ensures { λ r. ⌜ r ≡ hashOf (ntHashOf (part (longestNt - n) n octets)) ⌝ }
 {
-    let hashed = credentials::nt_hash(octets::part_of(&octets, 512 - n, n));
+    let hashed = credentials::nt_hash(octets::part_of(&octets, LONGEST_NT - n, n));
     let hash = hashed.hash;
     hash_of(hash)
 }

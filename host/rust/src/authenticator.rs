@@ -32,7 +32,7 @@ pub struct Judged {
 
 impl Conversation {
     /// Opens a conversation, and writes its Challenge at the front of `reply` (17 bytes or more).
-    /// The challenge is to be one that nobody can foretell. With no number of retries there are 2;
+    /// The challenge has to be unpredictable: from a CSPRNG. With no number of retries there are 2;
     /// with no choice for LM it is allowed. The challenge and a successor for each retry are added
     /// to the list `issued`; where one of them was there, it is refused as [`Refusal::Spent`].
     /// Gives the conversation and the size of the packet.

@@ -14,7 +14,7 @@
 //!
 //! // The list of issued challenges, for all boxes: 3 places for each opening with 2 retries.
 //! let mut issued = Issued::new(300);
-//! // An example only: a real challenge is one that nobody can foretell.
+//! // An example only: a real challenge is unpredictable: from a CSPRNG.
 //! let challenge = [0; 8];
 //! let opening = Conversation::open(1, &challenge, None, None, &mut issued, &mut reply);
 //! let (mut conversation, size) = opening?;
