@@ -21,7 +21,11 @@ use Rattle.issued.proofs.pass_refusal.Tie as tie
 -- ---- what is passed
 
 abbrev given : tie.Start → Issued
-given c = record { buffer = c .args .buffer .now; used = c .args .used; counts = c .args .counts .now }
+given c = record {
+  buffer = c .args .buffer .now;
+  used = c .args .used;
+  counts = c .args .counts .now;
+}
 
 abbrev width : tie.Start → ℕ
 width c = c .args .width
@@ -55,7 +59,8 @@ div-n : tie.Need-div-n
 div-n c = fine (c .before .before .before) .positive
 
 mark-requires : tie.Need-mark-requires
-mark-requires c κs = let s = c .before .before .before .before in (fine s .positive, mul-div-le (length (run s)) (width s), refl)
+mark-requires c κs = let s = c .before .before .before .before in
+    (fine s .positive, mul-div-le (length (run s)) (width s), refl)
 
 scan-requires : tie.Need-scan-requires
 scan-requires c κs =
@@ -77,20 +82,27 @@ is-full-requires c κs = let s = start (marked (c .before)) in (fine s .positive
 -- ---- the three tests
 
 met-told : (c : tie.After-agree)
-    → scanned (filled c) .scan .result ≡ containsAny (entriesIn (width (first c)) (run (first c))) (listed (width (first c)) (given (first c)))
+    → scanned (filled c) .scan .result
+    ≡ containsAny (entriesIn (width (first c)) (run (first c)))
+    (listed (width (first c)) (given (first c)))
 met-told c = scanned (filled c) .scan .ensures .0
 
-bad-counts-told : (c : tie.After-agree) → not (c .agree .result) ≡ badCounts (width (first c)) (given (first c))
+bad-counts-told : (c : tie.After-agree)
+    → not (c .agree .result) ≡ badCounts (width (first c)) (given (first c))
 bad-counts-told c =
     let s = first c in
     let l = listed (width s) (given s) in
-    ap not (c .agree .ensures ∙ ap (λ (x : List ℕ). agrees x (given s .counts)) (counted l (scanned (filled c) .scan .ensures .1)))
+    ap not (c .agree .ensures ∙ ap (λ (x : List ℕ). agrees x (given s .counts))
+    (counted l (scanned (filled c) .scan .ensures .1)))
 
-full-told : (c : tie.After-agree) → filled c .is-full .result ≡ full (width (first c)) (entriesIn (width (first c)) (run (first c))) (given (first c))
+full-told : (c : tie.After-agree)
+    → filled c .is-full .result
+    ≡ full (width (first c)) (entriesIn (width (first c)) (run (first c))) (given (first c))
 full-told c =
     let s = first c in
     filled c .is-full .ensures
-    ∙ ap (ltb (places (width s) (given s .buffer) - given s .used)) (sym (length-entries (width s) (places (width s) (run s)) (run s)))
+    ∙ ap (ltb (places (width s) (given s .buffer) - given s .used))
+    (sym (length-entries (width s) (places (width s) (run s)) (run s)))
 
 returns : tie.Need-returns
 returns c =
@@ -105,4 +117,6 @@ pub pass-refusal-spec : {M : Type 1} → statement M
 pass-refusal-spec =
     tie.close
     (tie.spec
-    div-n (λ c. search needs) mark-requires (λ c. search needs) (λ c. search needs) scan-requires is-full-requires (λ c. search needs) (λ c κs. search needs) (λ c κs. search needs) (λ c κs. search needs) (λ c κs. search needs) returns)
+    div-n (λ c. search needs) mark-requires (λ c. search needs)
+    (λ c. search needs) scan-requires is-full-requires (λ c. search needs) (λ c κs. search needs)
+    (λ c κs. search needs) (λ c κs. search needs) (λ c κs. search needs) returns)

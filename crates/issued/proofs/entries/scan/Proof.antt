@@ -20,7 +20,8 @@ use Rattle.issued.proofs.entries.scan.Tie as tie
 abbrev Inv-loop : tie.InvT-loop
 Inv-loop buffer used width run n marks counts₀ met₀ rest₀ left₀ counts met rest left =
     Uncounted width counts rest left (raised counts₀ (entries width used buffer))
-    × ((met || containsAny (entries width n run) (entries width left rest)) ≡ containsAny (entries width n run) (entries width used buffer))
+    × ((met || containsAny (entries width n run) (entries width left rest))
+    ≡ containsAny (entries width n run) (entries width used buffer))
 
 abbrev μ-loop : tie.MeasureT-loop
 μ-loop buffer used width run n marks counts₀ met₀ rest₀ left₀ counts met rest left = left
@@ -57,11 +58,19 @@ first-length c = length-take-le (width c) (rest c) (fits c)
 
 loop-holds : tie.Need-loop-holds Inv-loop μ-loop
 loop-holds c =
-    let p = c .before .before .before .before .pre in
-    (record { lie = record { positive = p .0; fits = p .1 }; size = p .5; room = p .6; same = refl }, refl)
+    let p = c .before .before .before .before .pre in (
+      record {
+        lie = record { positive = p .0; fits = p .1 };
+        size = p .5;
+        room = p .6;
+        same = refl;
+      },
+      refl,
+    )
 
 shared-slice-read-raise : tie.Need-shared-slice-read-raise Inv-loop μ-loop
-shared-slice-read-raise c = let l = c .before .before in omega (arith, fits l, l .before .loop .inv .0 .lie .positive)
+shared-slice-read-raise c = let l = c .before .before in omega
+    (arith, fits l, l .before .loop .inv .0 .lie .positive)
 
 raise-requires : tie.Need-raise-requires Inv-loop μ-loop
 raise-requires c κs = raise-fits _ _ _ _ _ (omega arith) (c .before .before .before .loop .inv .0) _
@@ -74,7 +83,8 @@ is-sought-requires c κs =
     let l = raised-in (c .before .before .before) in
     let s = start (l .before) in
     subst
-    (λ (k : ℕ). (0 < k) × (k * s .args .n ≤ length (s .args .run .now)) × (length (s .args .marks .now) ≡ 256)
+    (λ (k : ℕ). (0 < k) × (k * s .args .n ≤ length (s .args .run .now))
+    × (length (s .args .marks .now) ≡ 256)
     × Marked (s .args .marks .now) (entries k (s .args .n) (s .args .run .now)))
     (sym (first-length l)) (s .pre .0, s .pre .2, s .pre .3, s .pre .4)
 
@@ -93,9 +103,12 @@ loop-again c =
     let h = l .before .loop in
     let s = start (l .before) in
     let run = s .args .run .now in
-    let one = o .is-sought .ensures ∙ ap (λ (n : ℕ). contains (entries n (s .args .n) run) (take (width l) (rest l))) (first-length l) in (
+    let one = o .is-sought .ensures
+    ∙ ap (λ (n : ℕ). contains (entries n (s .args .n) run) (take (width l) (rest l)))
+    (first-length l) in (
       raise-next _ _ _ _ _ (omega arith) (h .inv .0) (k .raise .ensures),
-      met-next (width l) (h .left) (rest l) (entries (width l) (s .args .n) run) (h .met) (omega arith) (e .either .ensures) one ∙ h .inv .1,
+      met-next (width l) (h .left) (rest l) (entries (width l) (s .args .n) run) (h .met)
+          (omega arith) (e .either .ensures) one ∙ h .inv .1,
     )
 
 -- ---- behind the loop
@@ -107,7 +120,8 @@ returns : tie.Need-returns Inv-loop μ-loop
 returns c =
     let h = c .before .loop in
     let a = start (c .before) .args in (
-      met-all (a .width) (h .left) (h .rest .now) (entries (a .width) (a .n) (a .run .now)) (h .met) (omega arith) ∙ h .inv .1,
+      met-all (a .width) (h .left) (h .rest .now) (entries (a .width) (a .n) (a .run .now)) (h .met)
+          (omega arith) ∙ h .inv .1,
       all-counted _ _ _ _ _ (omega arith) (h .inv .0),
     )
 
@@ -115,5 +129,7 @@ pub scan-spec : {M : Type 1} → statement M
 scan-spec =
     tie.close
     (tie.spec
-    Inv-loop μ-loop loop-holds (λ c. search needs) shared-slice-read-raise raise-requires slice-aggregate-is-sought is-sought-requires (λ c κs. search needs)
-    sub-rest part-rest-start (λ c. search needs) (λ c. search needs) (λ c. search needs) loop-again same-length returns)
+    Inv-loop μ-loop loop-holds (λ c. search needs) shared-slice-read-raise raise-requires
+    slice-aggregate-is-sought is-sought-requires (λ c κs. search needs)
+    sub-rest part-rest-start (λ c. search needs) (λ c. search needs)
+    (λ c. search needs) loop-again same-length returns)

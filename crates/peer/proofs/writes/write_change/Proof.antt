@@ -15,14 +15,17 @@ abbrev start : tie.After-refuse-if2 → tie.Start
 start c = c .before .before .before .before .before .before .before .before
 
 told : (c : tie.After-refuse-if2)
-    → c .refuse-if2 .result ≡ cond (badPasswords (start c .args .old .now) (start c .args .new .now)) 8 (cond (badFiller (start c .args .filler .now)) 12 0)
+    → c .refuse-if2 .result ≡ cond
+    (badPasswords (start c .args .old .now) (start c .args .new .now)) 8
+    (cond (badFiller (start c .args .filler .now)) 12 0)
 told c = cc
 
 change-from-requires : tie.Need-change-from-requires
 change-from-requires c κs =
     let t = c .before .before in
     let a = start t .args in
-    change-fits (a .turn) (a .old .now) (a .new .now) (a .filler .now) (a .out .now) (told t) (c .before .if1 .left)
+    change-fits (a .turn) (a .old .now) (a .new .now) (a .filler .now) (a .out .now) (told t)
+    (c .before .if1 .left)
 
 -- ---- the answers
 
@@ -30,7 +33,8 @@ returns : tie.Need-returns
 returns c =
     let t = c .before .before in
     let a = start t .args in
-    let done = change-refused (a .turn) (a .old .now) (a .new .now) (a .filler .now) (a .out .now) (told t) (c .before .if1 .taken) in
+    let done = change-refused (a .turn) (a .old .now) (a .new .now) (a .filler .now) (a .out .now)
+    (told t) (c .before .if1 .taken) in
     (c .refused .ensures ∙ done .0, done .1)
 
 returns-2 : tie.Need-returns-2
@@ -40,9 +44,12 @@ returns-2 c =
     let passed = made .before .before in
     let t = passed .before in
     let a = start t .args in
-    change-written (a .turn) (a .old .now) (a .new .now) (a .filler .now) (a .out .now) (told t) (passed .if1 .left) (made .change-from .ensures) (wrote .write-change .ensures)
+    change-written (a .turn) (a .old .now) (a .new .now) (a .filler .now) (a .out .now) (told t)
+    (passed .if1 .left) (made .change-from .ensures) (wrote .write-change .ensures)
 
 pub write-change-spec : {M : Type 1} → statement M
 write-change-spec =
     tie.close
-    (tie.spec (λ c κs. search needs) (λ c κs. search needs) (λ c κs. search needs) (λ c κs. search needs) (λ c κs. search needs) returns change-from-requires (λ c κs. search needs) (λ c. search needs) returns-2)
+    (tie.spec (λ c κs. search needs) (λ c κs. search needs) (λ c κs. search needs)
+    (λ c κs. search needs) (λ c κs. search needs) returns change-from-requires
+    (λ c κs. search needs) (λ c. search needs) returns-2)

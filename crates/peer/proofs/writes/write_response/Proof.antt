@@ -22,7 +22,8 @@ returns : tie.Need-returns
 returns c =
     let t = c .before .before in
     let a = start t .args in
-    let done = response-refused (a .turn) (a .password .now) (a .name .now) (a .out .now) (sym (t .is-bad-nt-password .ensures) ∙ c .before .if1 .taken) in
+    let done = response-refused (a .turn) (a .password .now) (a .name .now) (a .out .now)
+    (sym (t .is-bad-nt-password .ensures) ∙ c .before .if1 .taken) in
     (c .refused .ensures ∙ done .0, done .1)
 
 returns-2 : tie.Need-returns-2
@@ -31,8 +32,10 @@ returns-2 c =
     let made = wrote .before .before in
     let passed = made .before .before in
     let a = start (passed .before) .args in
-    response-written (a .turn) (a .password .now) (a .name .now) (a .out .now) (good passed) (made .response-from .ensures) (wrote .write-response .ensures)
+    response-written (a .turn) (a .password .now) (a .name .now) (a .out .now) (good passed)
+    (made .response-from .ensures) (wrote .write-response .ensures)
 
 pub write-response-spec : {M : Type 1} → statement M
 write-response-spec =
-    tie.close (tie.spec (λ c κs. search needs) (λ c κs. search needs) returns response-from-requires (λ c κs. search needs) (λ c. search needs) returns-2)
+    tie.close (tie.spec (λ c κs. search needs) (λ c κs. search needs) returns response-from-requires
+    (λ c κs. search needs) (λ c. search needs) returns-2)
