@@ -6,7 +6,6 @@ use mathlib.Core.Path.{_≡_, ap}
 use Prim.Native.Nat.{ℕ, _≤_}
 use native.Mathlib.Omega.{arith}
 use borrow.Author.Tests.{le-ltb, ltb-false, eq-eqb, eqb-true, not-false}
-use lib.Dec.{eqb}
 use lib.ListN.{length}
 use Rattle.refusals.proofs.Laws.{none-refused}
 use Rattle.packets.specs.Frame.{octet, badFrame, badId}

@@ -23,17 +23,7 @@ use Rattle.verify.specs.Response.{responseReason}
 use Rattle.verify.specs.Change.{newHash}
 use Rattle.verify.proofs.Reasons.{Reason, success, change, three-digits, response-reason}
 use Rattle.authenticator.specs.Admit.{stepRefusal}
-use Rattle.authenticator.specs.Judge.{
-  reasonOf,
-  mayRetry,
-  replyFor,
-  judgementFor,
-  judgeResponse,
-  changeJudgement,
-  judgeChange,
-  judgeIn,
-  judge,
-}
+use Rattle.authenticator.specs.Judge.{reasonOf, mayRetry, replyFor, judgeResponse, changeJudgement, judgeChange, judgeIn, judge}
 use Rattle.authenticator.specs.Encode.{version, retryDigit, replyPacket}
 use Rattle.authenticator.specs.Step.{reasonIn, Outcome, judgedAs}
 use Rattle.authenticator.specs.Steps.{StepInput, stepOn, refusalAt, replyOf}

@@ -8,7 +8,7 @@ use lib.ListN.{length}
 use Rattle.message.specs.Message.{textOf}
 use Rattle.message.proofs.Laws.{length-text}
 use Rattle.packets.specs.Frame.{writtenLength}
-use Rattle.packets.specs.Reply.{challengePacket, successPacket, failurePacket, longestReply}
+use Rattle.packets.specs.Reply.{challengePacket, longestReply}
 use Rattle.packets.proofs.Writing.{fits, length-challenge, length-success, length-failure}
 use Rattle.authenticator.specs.Encode.{version, retryDigit, replyPacket}
 use Rattle.authenticator.specs.declared.Reply.{Reply}

@@ -30,7 +30,6 @@ use Rattle.authenticator.specs.Steps.{StepInput, stepOn, replyOf, refusalAt, ju
 use Rattle.accounts.specs.declared.Account.{Account}
 use Rattle.accounts.specs.declared.Lookup.{Lookup}
 use Rattle.authenticator.proofs.Steps.{refused-whole, reply-of}
-use Rattle.authenticator.proofs.Written.{Fits, reply-fits}
 use Rattle.authenticator.specs.declared.Conversation.{Conversation}
 use Rattle.authenticator.specs.declared.Retries.the-variants.{Default, Count}
 use Rattle.authenticator.proofs.Openings.{opened-first}

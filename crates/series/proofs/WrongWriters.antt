@@ -1,7 +1,7 @@
 -- Demand 3 holds of no writer that refuses everything, and of none that asks for the LM response to
 -- be judged.
 -- Assumes nothing.
-use mathlib.Core.Bool.{Bool, true, false, cond, _&&_}
+use mathlib.Core.Bool.{Bool, true, false, _&&_}
 use mathlib.Core.List.{List, [], _∷_, _++_}
 use mathlib.Core.Path.{_≡_, refl, sym, ap, _∙_}
 use Prim.Native.Nat.{ℕ, _≤_}
@@ -11,10 +11,8 @@ use lib.Dec.{eqb}
 use lib.ListN.{length, replicate}
 use Rattle.credentials.specs.Credentials.{ntHashOf}
 use Rattle.credentials.proofs.Laws.{length-response}
-use Rattle.message.specs.Message.{textOf}
 use Rattle.packets.specs.Frame.{octet}
 use Rattle.packets.specs.Response.{responsePacket, readResponse, responseWriteRefusal}
-use Rattle.packets.specs.Reply.{failurePacket}
 use Rattle.packets.specs.declared.Response as fields
 use Rattle.packets.proofs.ReadBack.{response-back}
 use Rattle.packets.proofs.Writing as writing
@@ -23,13 +21,12 @@ use Rattle.authenticator.specs.declared.Reply.the-variants.{Failure}
 use Rattle.message.specs.Reasons.{authenticationFailure}
 use Rattle.authenticator.specs.Opening.{firstConversation}
 use Rattle.authenticator.specs.Admit.{stepRefusal}
-use Rattle.authenticator.specs.Encode.{version, replyPacket}
+use Rattle.authenticator.specs.Encode.{replyPacket}
 use Rattle.verify.specs.Response.{valid, firstReason, responseReason}
 use Rattle.authenticator.specs.Judge.{mayRetry, replyFor, judgeResponse, judgeIn, judge, validIn}
 use Rattle.authenticator.specs.Step.{Outcome, step}
 use Rattle.authenticator.specs.Steps.{StepInput, stepOn, replyOf, refusalAt}
 use Rattle.authenticator.proofs.Steps.{number-step, judged-step, refused-whole, reply-of}
-use Rattle.authenticator.proofs.Written.{reply-fits}
 use Rattle.authenticator.specs.declared.Conversation.{Conversation}
 use Rattle.authenticator.specs.declared.Phase.{Phase}
 use Rattle.authenticator.specs.declared.Phase.the-variants.{Response}

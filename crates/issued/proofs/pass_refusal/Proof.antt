@@ -11,7 +11,7 @@ use borrow.Author.Needs.{needs}
 use lib.Dec.{ltb}
 use lib.ListN.{length, length-replicate}
 use Rattle.octets.specs.Parts.{agrees}
-use Rattle.issued.specs.Issued.{Issued, places, entriesIn, listed, containsAny, countsOf, badCounts, full}
+use Rattle.issued.specs.Issued.{Issued, places, entriesIn, listed, containsAny, badCounts, full}
 use Rattle.issued.proofs.Listing.{length-entries}
 use Rattle.issued.proofs.Counting.{counted, zeros-room}
 use Rattle.issued.proofs.Spending.{GoodList, sound, places-fit}

@@ -3,7 +3,6 @@
 use borrow.Author.Needs.{needs}
 use mathlib.Core.Path.{ap}
 use Rattle.message.specs.declared.NewChallenge.{NewChallenge}
-use Rattle.message.specs.declared.Reading.{Reading}
 use Rattle.message.specs.declared.Verdict.the-variants.{Success}
 use Rattle.message.proofs.succeeded.Statement.{statement}
 use Rattle.message.proofs.succeeded.Tie as tie

@@ -2,14 +2,9 @@
 -- Assumes nothing.
 use borrow.Author.Needs.{needs}
 use mathlib.Core.Path.{_≡_, ap, _∙_}
-use Prim.Native.Nat.{ℕ}
-use Rattle.accounts.specs.declared.Lookup.{Lookup}
 use Rattle.packets.specs.declared.Response.{Response}
-use Rattle.packets.specs.Response.{readResponse}
 use Rattle.verify.specs.Response.{responseReason}
 use Rattle.authenticator.specs.Judge.{judgementFor, judgeResponse}
-use Rattle.authenticator.specs.declared.Conversation.{Conversation}
-use Rattle.authenticator.specs.declared.Reply.{Reply}
 use Rattle.authenticator.proofs.Judgements.{judgement-same}
 use Rattle.authenticator.proofs.Conversation.response.Statement.{statement}
 use Rattle.authenticator.proofs.Conversation.response.Tie as tie

@@ -11,7 +11,7 @@ use Rattle.packets.specs.Frame.{writtenOver}
 use Rattle.authenticator.specs.Admit.{stepRefusal}
 use Rattle.authenticator.specs.Judge.{reasonOf, judge}
 use Rattle.authenticator.specs.Encode.{replyPacket}
-use Rattle.authenticator.specs.Step.{Outcome, judgedAs}
+use Rattle.authenticator.specs.Step.{Outcome}
 use Rattle.authenticator.specs.declared.Answer.{Answer}
 use Rattle.authenticator.specs.declared.Judgement.{Judgement}
 use Rattle.authenticator.specs.declared.Kind.the-variants.{Refused, Judged}

@@ -4,12 +4,10 @@ use borrow.Author.Needs.{needs}
 use mathlib.Core.List.{List}
 use mathlib.Core.Path.{_≡_, sym, ap, _∙_}
 use Prim.Native.Nat.{ℕ}
-use lib.ListN.{length}
 use Rattle.message.specs.Message.{textOf}
 use Rattle.packets.specs.Frame.{writtenOver, writtenLength}
 use Rattle.packets.specs.Reply.{failurePacket}
 use Rattle.authenticator.specs.Encode.{version, replyPacket}
-use Rattle.authenticator.specs.declared.Reply.{Reply}
 use Rattle.authenticator.proofs.encode.write_reply.Statement.{statement}
 use Rattle.authenticator.proofs.encode.write_reply.Tie as tie
 

@@ -1,7 +1,7 @@
 -- `peer::writes::write_response` meets its contract.
 -- Assumes nothing.
 use mathlib.Core.Bool.{false}
-use mathlib.Core.Path.{_≡_, sym, ap, _∙_}
+use mathlib.Core.Path.{_≡_, sym, _∙_}
 use borrow.Author.Needs.{needs}
 use Rattle.credentials.specs.Credentials.{badNtPassword}
 use Rattle.peer.proofs.Written.{response-refused, response-written}

@@ -2,15 +2,7 @@
 -- are the definition's.
 -- Assumes nothing.
 use borrow.Author.Needs.{needs}
-use mathlib.Core.Bool.{cond, not}
-use mathlib.Core.Path.{ap, _∙_}
-use Prim.Native.Nat.{ℕ}
-use Rattle.message.specs.Reasons.{
-  authenticationFailure,
-  accountDisabled,
-  restrictedLogonHours,
-  noDialinPermission,
-}
+use mathlib.Core.Path.{_∙_}
 use Rattle.verify.specs.Response.{firstReason}
 use Rattle.verify.proofs.responses.first_reason.Statement.{statement}
 use Rattle.verify.proofs.responses.first_reason.Tie as tie
