@@ -41,8 +41,9 @@ fn attacked() {
 // A conversation with the record that the change handed out.
 fn with_new_password(record: Lookup) {
     let new = new_one();
+    let made = b"The peer answers from the new password, and says who it is: BENCH\\user.";
     let loopback = opening(8, another_challenge(), Retries::Default);
-    response(loopback, &new, record);
+    response(loopback, &new, made, record);
 }
 
 fn changed() {

@@ -4,13 +4,24 @@
 mod exchanges;
 mod slips;
 
+use loopback::say;
+
+// What a student needs to read the rest.
+fn key() {
+    say(b"A box (the authenticator) and a peer talk MS-CHAP version 1: the six exchanges of");
+    say(b"RFC 2433, B.1, and then nine slips, each with what to look at. The account is");
+    say(b"BENCH\\user; its password is 'MyPw', a wrong one is 'bad', and the new one 'MyNewPw'.");
+    say(b"<- is a packet of the box, -> one of the peer, with its first 64 octets in hexadecimal.");
+    say(b"Octets are counted from 0. Behind code, identifier and Length (two octets) a packet has");
+    say(b"   Challenge        08, and from octet 5 on the challenge: eight octets to be answered");
+    say(b"   Response         31, the LM response, from octet 29 on the NT response, 01, the name");
+    say(b"   Failure          a message: E why, R=1 if a retry is allowed, V the change's version");
+    say(b"   Change Password  the sealed new password and, from octet 1092 on, the NT response");
+    say(b"Each box is passed an empty list of issued challenges; in the first slip two share one.");
+}
+
 fn main() {
-    loopback::say(
-        b"A box and a peer talk. <- is a packet of the box (authenticator), -> one of the peer.",
-    );
-    loopback::say(
-        b"Each opening is lent an empty list of issued challenges, but for the first slip, where two boxes share one.",
-    );
+    key();
     exchanges::all();
     slips::all();
 }

@@ -9,6 +9,7 @@ use loopback::answered;
 use loopback::challenge;
 use loopback::issued;
 use loopback::new_one;
+use loopback::next_challenge;
 use loopback::old_hash;
 use loopback::opening;
 use loopback::opening_on;
@@ -31,8 +32,9 @@ use loopback::wrongly_for;
 // which a retry would answer, can be had again. A refused opening leaves the list as it was.
 fn refused_twice(list: IssuedList) {
     say(
-        b"   A second box on the same list, with the same challenge, and with the one that a retry at the first would answer:",
+        b"   A second box on the same list, with the same challenge, and with the one that a retry",
     );
+    say(b"   at the first would answer:");
     opening_on(list, 7, challenge(), Retries::Default);
     opening_on(
         list,
@@ -53,7 +55,8 @@ fn replay(loopback: Loopback, recorded: &[u8]) {
     let guess = wrong();
     let mut out = [0u8; 310];
     let wrote = write_response(loopback, &guess, &mut out);
-    answered(loopback, wrote, recorded, account(false));
+    let made = b"The recorded Response: from the right password, to the first box's challenge.";
+    answered(loopback, wrote, recorded, made, account(false));
 }
 
 // With a challenge of its own it opens.
@@ -72,28 +75,50 @@ fn first_on_list(out: &mut [u8]) -> IssuedList {
     say_list(loopback);
     let password = right();
     let wrote = write_response(loopback, &password, out);
-    answered(loopback, wrote, out, account(false));
+    let made = b"The peer answers from the right password. Somebody on the line records this.";
+    answered(loopback, wrote, out, made, account(false));
     loopback.list
 }
 
 // Boxes on one list, as a controller passes it.
 fn shared() {
-    title(
-        b"Slip: one challenge shared by two boxes, so that a Response recorded at the first would open the second. It is refused there.",
-    );
+    title(b"Slip: one challenge shared by two boxes.");
+    say(b"   A Response recorded at the first is accepted by the second. Look at the challenges:");
+    say(b"   here the second box does not open with any that stands in the list.");
     let mut recorded = [0u8; 310];
     let list = first_on_list(&mut recorded);
     refused_twice(list);
     with_its_own(list, &recorded);
 }
 
-fn carry() {
-    title(
-        b"Slip: a carry out of the challenge's first octet. E9 grows by 23 to 00, and the second octet stays.",
+// A retry from the right password, to the challenge that a carry makes.
+fn carried(loopback: Loopback, slip: [u8; 8]) {
+    say(
+        b"   The same retry by a peer that carries: it has the right password, and is turned away.",
     );
-    let mut loopback = opening(9, [0xe9, 2, 3, 4, 5, 6, 7, 8], Retries::Count(1));
+    let password = right();
+    let mut out = [0u8; 310];
+    let wrote = write_response(loopback, &password, &mut out);
+    let response = credentials::challenge_response(old_hash(), slip);
+    octets::copy_at(&mut out, 29, &response);
+    let made = b"The peer answers from the right password, to the slip's challenge.";
+    answered(loopback, wrote, &out, made, account(false));
+}
+
+fn carry() {
+    title(b"Slip: a carry out of the challenge's first octet.");
+    say(b"   A retry answers the challenge with its first octet incremented by 23 modulo 256: E9");
+    say(
+        b"   becomes 00, and the other seven stay. Look at the second octet of the next challenge.",
+    );
+    let first = [0xe9, 2, 3, 4, 5, 6, 7, 8];
+    let slip = [0, 3, 3, 4, 5, 6, 7, 8];
+    let mut loopback = opening(9, first, Retries::Count(1));
     loopback = wrongly(loopback, false);
+    next_challenge(b"right,", challenges::incremented(first));
+    next_challenge(b"slip, ", slip);
     rightly(loopback, false);
+    carried(loopback, slip);
 }
 
 // ---- the Response
@@ -110,9 +135,11 @@ fn opening_with(retries: u8) -> Loopback {
 }
 
 fn disabled() {
-    title(
-        b"Slip: a disabled account reported before the password was checked. A wrong password draws 691, the right one 647.",
+    title(b"Slip: a disabled account reported before the password was checked.");
+    say(
+        b"   Look at the messages: a wrong password draws E=691 R=1 V=2, only the right one E=647.",
     );
+    say(b"   With the slip a wrong one draws E=647 R=0 V=2, and a guesser learns of the account.");
     let lookup = disabled_account();
     let mut loopback = opening_with(1);
     loopback = wrongly_for(loopback, lookup);
@@ -120,8 +147,10 @@ fn disabled() {
 }
 
 fn unknown() {
-    title(b"Slip: an unknown account told apart from a wrong password. Both draw the same octets.");
+    title(b"Slip: an unknown account told apart from a wrong password.");
+    say(b"   Look at the two Failures: octet for octet the same. No account has the name:");
     wrongly_for(opening_with(0), accounts::not_found());
+    say(b"   The account is there, and the password is wrong:");
     wrongly_for(opening_with(0), account(false));
 }
 
@@ -139,14 +168,15 @@ fn wrongly_with_lm(loopback: Loopback, lm: [u8; 24], lookup: Lookup) {
     let wrote = write_response(loopback, &guess, &mut out);
     octets::copy_at(&mut out, 5, &lm);
     place(b"the right LM response", 5, &lm);
-    answered(loopback, wrote, &out, lookup);
+    let made = b"The peer answers from a wrong password, with the right LM response beside it.";
+    answered(loopback, wrote, &out, made, lookup);
 }
 
 // The Response has a wrong NT response and the right LM response.
 fn fallback() {
-    title(
-        b"Slip: falling back to LM when the NT response is wrong. With flag 1 the LM response is not looked at.",
-    );
+    title(b"Slip: falling back to LM when the NT response is wrong.");
+    say(b"   With flag 1 the LM response is not looked at. Look at the reply: the slip would send");
+    say(b"   Success, 03070004.");
     let hash = credentials::lm_hash(b"MyPw").hash;
     let loopback = opening(7, challenge(), Retries::Count(0));
     let lm = credentials::challenge_response(hash, challenge());
@@ -163,7 +193,8 @@ fn slipped(at: usize, slip: &[u8]) {
     place(b"right,", at, octets::part_of(&out, at, slip.len()));
     place(b"slip, ", at, slip);
     octets::copy_at(&mut out, at, slip);
-    answered(loopback, wrote, &out, accounts::not_found());
+    let made = b"The peer sends the change of B.1.5, but for the slip's octets.";
+    answered(loopback, wrote, &out, made, accounts::not_found());
 }
 
 fn new_hash() -> [u8; 16] {
@@ -172,15 +203,15 @@ fn new_hash() -> [u8; 16] {
 }
 
 fn by_old_hash() {
-    title(b"Slip: a change's response made from the old password. It is the new one's.");
+    title(b"Slip: a change's response made from the old password.");
+    say(b"   It is the new one's. Look at the 24 octets: the slip's are those of the Response.");
     let response = credentials::challenge_response(old_hash(), challenge());
     slipped(1092, &response);
 }
 
 fn second_key() {
-    title(
-        b"Slip: A.17's second key taken as the new hash's first seven octets again. It is the next seven.",
-    );
+    title(b"Slip: A.17's second key taken as the new hash's first seven octets again.");
+    say(b"   It is the next seven. Look at the second half of the old hash under the new one.");
     let old = old_hash();
     let new = new_hash();
     let half = des::encrypt(octets::seven_at(&new, 0), octets::eight_at(&old, 8));
@@ -188,7 +219,8 @@ fn second_key() {
 }
 
 fn anew() {
-    title(b"Slip: RC4 started anew for the four length octets. One run goes over all 516.");
+    title(b"Slip: RC4 started anew for the four length octets.");
+    say(b"   One run goes over all 516. Look at the last four octets of the sealed password.");
     let old = old_hash();
     let mut length = [14u8, 0, 0, 0];
     rc4::rc4(&old, &mut length);
@@ -196,7 +228,8 @@ fn anew() {
 }
 
 fn incremented() {
-    title(b"Slip: the challenge grown after 648. A change answers the last Response's challenge.");
+    title(b"Slip: the challenge incremented after 648.");
+    say(b"   A change answers the challenge of the last Response. Look at the change's response.");
     let next = challenges::incremented(challenge());
     let response = credentials::challenge_response(new_hash(), next);
     slipped(1092, &response);

@@ -1,7 +1,6 @@
 // Both ends of a conversation, and what passes between them: each step prints its packets.
 use super::lines;
 use accounts::Lookup;
-use authenticator::Answer;
 use authenticator::Conversation;
 use authenticator::LmChoice;
 use authenticator::Opened;
@@ -128,12 +127,6 @@ pub fn usual_opening() -> Loopback {
 
 // ---- a packet of the peer, and the box's answer
 
-// The box takes a packet of the peer, and writes its answer.
-fn step(conversation: Conversation, packet: &[u8], lookup: Lookup, reply: &mut [u8]) -> Answer {
-    lines::from_peer(packet);
-    conversation.step(packet, lookup, reply)
-}
-
 // The peer reads the answer.
 fn read(peer: Peer, answer: &[u8]) -> Peer {
     lines::from_box(answer);
@@ -145,22 +138,20 @@ fn read(peer: Peer, answer: &[u8]) -> Peer {
 }
 
 // The box takes the packet that the peer wrote, the first octets of out, and answers, and the peer
-// reads the answer.
+// reads the answer. A packet does not show what it was made from: made says it.
 pub fn answered(
     mut loopback: Loopback,
     wrote: PacketWritten,
     out: &[u8],
+    made: &[u8],
     lookup: Lookup,
 ) -> Loopback {
     let written = wrote.written;
     let mut reply = [0u8; 17];
     let before = loopback.conversation;
-    let answer = step(
-        before,
-        octets::part_of(out, 0, written.length),
-        lookup,
-        &mut reply,
-    );
+    let packet = octets::part_of(out, 0, written.length);
+    lines::from_peer(packet, made);
+    let answer = before.step(packet, lookup, &mut reply);
     let conversation = answer.next;
     let updated = answer.updated;
     let waiting = wrote.peer;
@@ -179,22 +170,25 @@ pub fn write_response(loopback: Loopback, password: &[u8], out: &mut [u8]) -> Pa
     peer.write_response(password, b"BENCH\\user", out)
 }
 
-pub fn response(loopback: Loopback, password: &[u8], lookup: Lookup) -> Loopback {
+// A Response from a password, and in words from which.
+pub fn response(loopback: Loopback, password: &[u8], made: &[u8], lookup: Lookup) -> Loopback {
     let mut out = [0u8; 310];
     let wrote = write_response(loopback, password, &mut out);
-    answered(loopback, wrote, &out, lookup)
+    answered(loopback, wrote, &out, made, lookup)
 }
 
 // A Response from the right password, with a record.
 pub fn rightly_for(loopback: Loopback, lookup: Lookup) -> Loopback {
     let password = right();
-    response(loopback, &password, lookup)
+    let made = b"The peer answers from the right password, and says who it is: BENCH\\user.";
+    response(loopback, &password, made, lookup)
 }
 
 // A Response from a wrong one.
 pub fn wrongly_for(loopback: Loopback, lookup: Lookup) -> Loopback {
     let password = wrong();
-    response(loopback, &password, lookup)
+    let made = b"The peer answers from a wrong password, and says who it is: BENCH\\user.";
+    response(loopback, &password, made, lookup)
 }
 
 // The same with the record of the account.
@@ -222,5 +216,6 @@ pub fn write_change(loopback: Loopback, out: &mut [u8]) -> PacketWritten {
 pub fn change(loopback: Loopback) -> Loopback {
     let mut out = [0u8; 1118];
     let wrote = write_change(loopback, &mut out);
-    answered(loopback, wrote, &out, accounts::not_found())
+    let made = b"The peer sends the new password sealed under the old one's hash: it knows both.";
+    answered(loopback, wrote, &out, made, accounts::not_found())
 }

@@ -25,6 +25,7 @@ pub use ends::wrong;
 pub use ends::wrongly;
 pub use ends::wrongly_for;
 pub use lines::issued;
+pub use lines::next_challenge;
 pub use lines::place;
 pub use lines::say;
 pub use lines::title;

@@ -38,6 +38,14 @@ fn say_octets(octets: &[u8]) {
     put(b"\n");
 }
 
+// The challenge that a retry answers, as the rule makes it or as a slip does.
+pub fn next_challenge(whose: &[u8], challenge: [u8; 8]) {
+    put(b"      ");
+    put(whose);
+    put(b" the next challenge: ");
+    say_octets(&challenge);
+}
+
 // The octets of a packet from a place on, as a rule has them or as a slip does.
 pub fn place(whose: &[u8], at: usize, octets: &[u8]) {
     put(b"      ");
@@ -85,28 +93,9 @@ fn kind(code: u8) -> [u8; 15] {
     }
 }
 
-// What a packet means; of a Failure the message itself.
-fn meaning(code: u8, octets: &[u8]) {
-    put(b"      ");
-    match code {
-        1 => say(
-            b"The box asks: show that you know the password, by answering these eight octets.",
-        ),
-        2 => say(b"The peer answers from a password, and says who it is: BENCH\\user."),
-        3 => say(b"The box lets the peer in."),
-        4 => say(octets::part_of(octets, 4, 256)),
-        6 => say(
-            b"The peer sends a new password, sealed under the old one's hash, to show that it knows both.",
-        ),
-        _ => say(b"This is no packet of MS-CHAP."),
-    }
-}
-
-// One packet: the way it goes, its kind, its identifier, its Length and its octets, and a line for
-// what it means.
+// One packet: the way it goes, its kind, its identifier, its Length and its octets.
 fn packet(way: &[u8], octets: &[u8]) {
-    let code = packets::octet(octets, 0);
-    let name = kind(code);
+    let name = kind(packets::octet(octets, 0));
     put(way);
     put(&name);
     put(b" id ");
@@ -115,15 +104,31 @@ fn packet(way: &[u8], octets: &[u8]) {
     io::print_decimal(STDOUT_FILENO, packets::length(octets) as u64);
     put(b" octets: ");
     say_octets(octets);
-    meaning(code, octets);
+}
+
+// What a packet of the box means; of a Failure the message itself.
+fn meaning(octets: &[u8]) {
+    put(b"      ");
+    match packets::octet(octets, 0) {
+        1 => say(
+            b"The box asks: show that you know the password, by answering these eight octets.",
+        ),
+        3 => say(b"The box lets the peer in."),
+        4 => say(octets::part_of(octets, 4, 256)),
+        _ => say(b"This is no packet of the box."),
+    }
 }
 
 pub(crate) fn from_box(octets: &[u8]) {
     packet(b"   <- ", octets);
+    meaning(octets);
 }
 
-pub(crate) fn from_peer(octets: &[u8]) {
+// A packet of the peer, and what it was made from.
+pub(crate) fn from_peer(octets: &[u8], made: &[u8]) {
     packet(b"   -> ", octets);
+    put(b"      ");
+    say(made);
 }
 
 // Document 01's reasons.
@@ -142,7 +147,7 @@ fn reason(e: u64) {
 fn call(c: Call) {
     match c {
         Call::Retry => say(
-            b"; try again, to the challenge grown by 23, under the next identifier.",
+            b"; try again, to the challenge incremented by 23, under the next identifier.",
         ),
         Call::ChangeTwo => say(b"; change it, to the same challenge, under the next identifier."),
         Call::ChangeOne => say(b"; a version 1 change is wanted, and nothing is sent."),
