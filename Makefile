@@ -8,10 +8,17 @@
 test: layout reference
 	sh tests/gate.sh
 
-# The first run proves the crates beneath, which takes some minutes.
+# Run at once, with no proof: `rt try` runs the program four ways, each of which must write what its
+# file 'stdout' has, and that is shown. Then the proof, which takes some minutes the first time: rt's
+# own lines are shown as they come (-u), and where one says FAILED, make does too.
 demo:
-	@rt check demo | tail -n 1
-	@target/bin/demo
+	@rt try demo
+	@echo
+	@cat crates/demo/stdout
+	@echo
+	@echo 'That was the demonstration. Now the proof of this program and of the crates beneath it,'
+	@echo 'a line for each crate: some minutes the first time. It changes nothing above.'
+	@rt check demo | sed -un '/^rt: /p; /^rt: FAILED/q1'
 
 layout:
 	rt fmt --check
