@@ -90,7 +90,10 @@ fn every_response_is_from_the_password_that_is_named() {
 fn shown(page: &str) -> Vec<&str> {
     page.split(|c: char| !c.is_ascii_alphanumeric())
         .filter(|word| word.len() >= 8 && word.chars().any(|c| c.is_ascii_digit()))
-        .filter(|word| word.chars().all(|c| c.is_ascii_digit() || ('A'..='F').contains(&c)))
+        .filter(|word| {
+            word.chars()
+                .all(|c| c.is_ascii_digit() || ('A'..='F').contains(&c))
+        })
         .collect()
 }
 
@@ -118,7 +121,10 @@ fn slips_show_messages_that_are_named() {
         .filter(|name| name.starts_with("E="))
         .collect();
     for message in &messages {
-        assert!(demonstration.contains(message), "docs/SLIPS.md shows {message}");
+        assert!(
+            demonstration.contains(message),
+            "docs/SLIPS.md shows {message}"
+        );
     }
     assert!(!messages.is_empty());
 }
