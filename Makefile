@@ -12,12 +12,13 @@ test: layout reference
 # file 'stdout' has, and that is shown. Then the proof, which takes some minutes the first time: rt's
 # own lines are shown as they come (-u), and where one says FAILED, make does too.
 demo:
+	@echo 'First the demonstration, run with no proof: some seconds.'
 	@rt try demo
 	@echo
 	@cat crates/demo/stdout
 	@echo
-	@echo 'That was the demonstration. Now the proof of this program and of the crates beneath it,'
-	@echo 'a line for each crate: some minutes the first time. It changes nothing above.'
+	@echo 'That was the demonstration. Now the proof of its program and of the crates beneath it, a'
+	@echo 'line for each crate: some minutes the first time. It changes nothing above.'
 	@rt check demo | sed -un '/^rt: /p; /^rt: FAILED/q1'
 
 layout:
