@@ -1,0 +1,20 @@
+-- `unicode::octet_at` meets its contract.
+-- Assumes nothing.
+use mathlib.Core.Path.{refl, sym}
+use native.Mathlib.Omega.{arith}
+use borrow.Author.Needs.{needs}
+use lib.ListN.{List·getD-eq-default}
+use Rattle.unicode.proofs.octet_at.Statement.{statement}
+use Rattle.unicode.proofs.octet_at.Tie as tie
+
+cast-result : tie.Need-cast-result
+cast-result c = omega (arith, c .shared-slice-known .given (c .before .before .args .i))
+
+returns : tie.Need-returns
+returns c = (refl, omega (arith, c .shared-slice-known .given (c .before .before .args .i)))
+
+returns-2 : tie.Need-returns-2
+returns-2 c = (sym (List·getD-eq-default (c .before .args .s .now) 0 (c .if1 .left)), omega arith)
+
+pub octet-at-spec : {M : Type 1} → statement M
+octet-at-spec = tie.close (tie.spec (λ c. search needs) cast-result returns returns-2)
