@@ -16,6 +16,8 @@ use Rattle.octets.proofs.Numbers.{Octets}
 use Rattle.unicode.specs.declared.Char.{Char}
 use Rattle.unicode.specs.Scalars.{isScalar, told, malformed}
 use Rattle.unicode.specs.Utf16.{highOf, lowOf, utf16Of, isHigh, isLow, charOf, unitAt, utf16First}
+use Rattle.unicode.specs.Inner.{NotWidened}
+use Rattle.unicode.proofs.CodecUtf8.{at-most-three, at-most-four}
 use Rattle.unicode.proofs.Ranges.{between-both, inside, below, above, outside, scalar-low, scalar-high, scalar-cases, scalar-most}
 use Rattle.unicode.proofs.Texts.{Codec}
 
@@ -131,6 +133,15 @@ fits l h = by _ (found (length l) (unitAt l 0) (unitAt l 2))
     by x none = omega arith
     by x (one p q r) = p
     by x (two p q r) = p
+
+-- two octets of it are at most three in UTF-8
+pub not-widened : (m u v : ℕ) → u < 0x10000 → NotWidened (charOf m u v)
+not-widened m u v h = by _ (found m u v)
+  where
+    by : (x : Char) → Told m u v x → NotWidened x
+    by x none p = absurd (omega (arith, p))
+    by x (one q r s) p = omega (arith, at-most-three u h)
+    by x (two q r s) p = omega (arith, at-most-four (0x10000 + ((u - 0xd800) * 1024 + (v - 0xdc00))))
 
 -- a unit that is no surrogate is a scalar value
 unit-scalar : (u : ℕ) → u < 0x10000 → isHigh u ≡ false → isLow u ≡ false → isScalar u ≡ true

@@ -63,6 +63,24 @@ some-octets n = by (size n)
     by (three h k) = omega (arith, ap length (utf8-three n h k))
     by (four h) = omega (arith, ap length (utf8-four n h))
 
+pub at-most-four : (n : ℕ) → length (utf8Of n) ≤ 4
+at-most-four n = by (size n)
+  where
+    by : Size n → length (utf8Of n) ≤ 4
+    by (one h) = omega (arith, ap length (utf8-one n h))
+    by (two h k) = omega (arith, ap length (utf8-two n h k))
+    by (three h k) = omega (arith, ap length (utf8-three n h k))
+    by (four h) = omega (arith, ap length (utf8-four n h))
+
+pub at-most-three : (n : ℕ) → n < 0x10000 → length (utf8Of n) ≤ 3
+at-most-three n m = by (size n)
+  where
+    by : Size n → length (utf8Of n) ≤ 3
+    by (one h) = omega (arith, ap length (utf8-one n h))
+    by (two h k) = omega (arith, ap length (utf8-two n h k))
+    by (three h k) = omega (arith, ap length (utf8-three n h k))
+    by (four h) = absurd (omega (arith, m, h))
+
 -- ---- a character is told from its octets
 
 tail-is : (n : ℕ) → isTail (tail n) ≡ true
@@ -76,37 +94,47 @@ told-good w least {tails} {v} {n} t e h s =
     ∙ ap₂ (λ (a b : Bool). cond (a && b) (told w n) malformed) (le-leb least n h) s
 
 -- the values that the octets tell, by their number
-abbrev value-two : ℕ → ℕ → ℕ
+abbrev pub value-two : ℕ → ℕ → ℕ
 value-two a b = a % 32 * 64 + b % 64
 
-abbrev value-three : ℕ → ℕ → ℕ → ℕ
+abbrev pub value-three : ℕ → ℕ → ℕ → ℕ
 value-three a b c = a % 16 * 4096 + b % 64 * 64 + c % 64
 
-abbrev value-four : ℕ → ℕ → ℕ → ℕ → ℕ
+abbrev pub value-four : ℕ → ℕ → ℕ → ℕ → ℕ
 value-four a b c d = a % 8 * 262144 + b % 64 * 4096 + c % 64 * 64 + d % 64
+
+-- by the range of the first octet
+module _ (a b c d : ℕ) (h : 0x80 ≤ a) where
+  pub from-two : between 0xc0 0xdf a ≡ true → charFrom a b c d ≡ toldFrom 2 0x80 (isTail b) (value-two a b)
+  from-two p = simp (le-ltb a 0x80 h, p)
+
+  pub from-three : between 0xc0 0xdf a ≡ false → between 0xe0 0xef a ≡ true
+      → charFrom a b c d ≡ toldFrom 3 0x800 (isTail b && isTail c) (value-three a b c)
+  from-three p q = simp (le-ltb a 0x80 h, p, q)
+
+  pub from-four : between 0xc0 0xdf a ≡ false → between 0xe0 0xef a ≡ false → between 0xf0 0xf7 a ≡ true
+      → charFrom a b c d ≡ toldFrom 4 0x10000 (isTail b && (isTail c && isTail d)) (value-four a b c d)
+  from-four p q r = simp (le-ltb a 0x80 h, p, q, r)
+
+  pub from-none : between 0xc0 0xdf a ≡ false → between 0xe0 0xef a ≡ false → between 0xf0 0xf7 a ≡ false
+      → charFrom a b c d ≡ malformed
+  from-none p q r = simp (le-ltb a 0x80 h, p, q, r)
 
 module _ (a b c d n : ℕ) (s : isScalar n ≡ true) where
   told-two : 0xc0 ≤ a → a ≤ 0xdf → isTail b ≡ true → value-two a b ≡ n → 0x80 ≤ n → charFrom a b c d ≡ told 2 n
-  told-two h k t e m =
-      simp (le-ltb a 0x80 (omega arith), le-leb 0xc0 a h, le-leb a 0xdf k) (told-good 2 0x80 t e m s)
+  told-two h k t e m = from-two a b c d (omega arith) (inside 0xc0 0xdf a h k) ∙ told-good 2 0x80 t e m s
 
   told-three : 0xe0 ≤ a → a ≤ 0xef → isTail b ≡ true → isTail c ≡ true → value-three a b c ≡ n → 0x800 ≤ n
       → charFrom a b c d ≡ told 3 n
   told-three h k t u e m =
-      simp (le-ltb a 0x80 (omega arith), above 0xc0 0xdf a (omega arith), le-leb 0xe0 a h, le-leb a 0xef k)
-      (told-good 3 0x800 (ap₂ _&&_ t u) e m s)
+      from-three a b c d (omega arith) (above 0xc0 0xdf a (omega arith)) (inside 0xe0 0xef a h k)
+      ∙ told-good 3 0x800 (ap₂ _&&_ t u) e m s
 
   told-four : 0xf0 ≤ a → a ≤ 0xf7 → isTail b ≡ true → isTail c ≡ true → isTail d ≡ true → value-four a b c d ≡ n → 0x10000 ≤ n
       → charFrom a b c d ≡ told 4 n
   told-four h k t u v e m =
-      simp (
-        le-ltb a 0x80 (omega arith),
-        above 0xc0 0xdf a (omega arith),
-        above 0xe0 0xef a (omega arith),
-        le-leb 0xf0 a h,
-        le-leb a 0xf7 k,
-      )
-      (told-good 4 0x10000 (ap₂ _&&_ t (ap₂ _&&_ u v)) e m s)
+      from-four a b c d (omega arith) (above 0xc0 0xdf a (omega arith)) (above 0xe0 0xef a (omega arith)) (inside 0xf0 0xf7 a h k)
+      ∙ told-good 4 0x10000 (ap₂ _&&_ t (ap₂ _&&_ u v)) e m s
 
 -- the bits of a value in four octets, joined again
 sum-four : (a b c d x y : ℕ) {n : ℕ} → a + b ≡ x → c + d ≡ y → x + y ≡ n → a + b + c + d ≡ n

@@ -55,6 +55,9 @@ joined-some c p vs = ap (λ (t : Bool). cond t none (some (c .value ∷ vs))) (n
 pub cut : (w : ℕ) (l : List ℕ) → take (length l - w) (drop w l) ≡ drop w l
 cut w l = take-all (length l - w) (drop w l) (omega (arith, length-drop w l))
 
+pub shorter : (w : ℕ) (l : List ℕ) → 0 < length l → (w ≡ 0 → ⊥) → length (take (length l - w) (drop w l)) < length l
+shorter w l h n = omega (arith, n, ap length (cut w l), length-drop w l)
+
 module _ (first : List ℕ → Char) where
   skip : (n : ℕ) (l : List ℕ) → decodedFrom first n l ≡ decodedFrom first 0 (drop n l)
   unfolding decodedFrom

@@ -1,83 +1,83 @@
+-- `unicode::utf16::char_of` meets its contract.
+-- Assumes nothing.
+use mathlib.Core.Bool.{Bool, true, _&&_, and-eq-true-iff}
+use mathlib.Core.Path.{_≡_, sym, ap, _∙_}
+use Prim.Native.Nat.{_≤_}
+use native.Mathlib.Omega.{arith}
+use borrow.Author.Tests.{lt-ltb, le-ltb}
+use lib.Dec.{leb}
+use Rattle.unicode.specs.Utf16.{isHigh, isLow}
+use Rattle.unicode.proofs.Ranges.{between-both}
 use borrow.Author.Needs.{needs}
 use Rattle.unicode.proofs.utf16.char_of.Statement.{statement}
 use Rattle.unicode.proofs.utf16.char_of.Tie as tie
-use Rattle.unicode.proofs.utf16.char_of.Reads as reads
-use Rattle.unicode.proofs.utf16.char_of.Lts as lts
-use Rattle.unicode.proofs.both.Reads as both-reads
-use Rattle.unicode.proofs.utf16.is_high.Reads as is-high-reads
-use Rattle.unicode.proofs.utf16.is_low.Reads as is-low-reads
 
--- src/utf16.rt:60:9
+-- behind the tests of a pair: the first unit is a high surrogate
+high-tested : (c : tie.After-both) → isHigh (c .before .before .before .before .before .args .unit) ≡ true
+high-tested c = sym (c .before .before .before .is-high .ensures) ∙ c .before .before .if2 .taken
+
+-- and what is found of the second
+pair : (c : tie.After-both)
+    → (leb 4 (c .before .before .before .before .before .args .n) && isLow (c .before .before .before .before .before .args .next))
+    ≡ c .both .result
+pair c =
+    sym (c .both .ensures ∙ ap (λ (x : Bool). leb 4 (c .before .before .before .before .before .args .n) && x) (c .before .is-low .ensures))
+
+high : (c : tie.Then3) → (0xd800 ≤ c .before .before .before .before .before .before .args .unit)
+    × (c .before .before .before .before .before .before .args .unit ≤ 0xdbff)
+high c = between-both 0xd800 0xdbff (c .before .before .before .before .before .before .args .unit) (high-tested (c .before))
+
+low : (c : tie.Then3) → (0xdc00 ≤ c .before .before .before .before .before .before .args .next)
+    × (c .before .before .before .before .before .before .args .next ≤ 0xdfff)
+low c =
+    let a = c .before .before .before .before .before .before .args in
+    between-both 0xdc00 0xdfff (a .next) (and-eq-true-iff (leb 4 (a .n)) (isLow (a .next)) .0 (pair (c .before) ∙ c .if3 .taken) .1)
+
 returns : tie.Need-returns
-returns c = ?
+returns c = simp (lt-ltb _ _ (c .if1 .taken))
 
--- src/utf16.rt:62:8
-is-high-requires : tie.Need-is-high-requires
-is-high-requires c κs = search needs
-
--- src/utf16.rt:63:25
-is-low-requires : tie.Need-is-low-requires
-is-low-requires c κs = search needs
-
--- src/utf16.rt:63:12
-both-requires : tie.Need-both-requires
-both-requires c κs = search needs
-
--- src/utf16.rt:66:36
 sub-t9 : tie.Need-sub-t9
-sub-t9 c = ?
+sub-t9 c = high c .0
 
--- src/utf16.rt:66:35
 mul-t10 : tie.Need-mul-t10
-mul-t10 c = ?
+mul-t10 c = let h = high c in omega arith
 
--- src/utf16.rt:66:61
 sub-t11 : tie.Need-sub-t11
-sub-t11 c = ?
+sub-t11 c = low c .0
 
--- src/utf16.rt:66:35
 add-t12 : tie.Need-add-t12
-add-t12 c = ?
+add-t12 c = let h = high c in let l = low c in omega arith
 
--- src/utf16.rt:66:24
 add-t13 : tie.Need-add-t13
-add-t13 c = ?
+add-t13 c = let h = high c in let l = low c in omega arith
 
--- src/utf16.rt:64:13
 returns-2 : tie.Need-returns-2
-returns-2 c = ?
+returns-2 c = simp (le-ltb _ _ (c .before .before .before .before .before .if1 .left), high-tested (c .before), pair (c .before) ∙ c .if3 .taken)
 
--- src/utf16.rt:69:9
 returns-3 : tie.Need-returns-3
-returns-3 c = ?
+returns-3 c = simp (le-ltb _ _ (c .before .before .before .before .before .if1 .left), high-tested (c .before), pair (c .before) ∙ c .if3 .left)
 
--- src/utf16.rt:71:8
-is-low-requires-2 : tie.Need-is-low-requires-2
-is-low-requires-2 c κs = search needs
-
--- src/utf16.rt:72:9
 returns-4 : tie.Need-returns-4
-returns-4 c = ?
+returns-4 c = 
+    let h = c .before .before .before in
+    simp (
+      le-ltb _ _ (h .before .if1 .left),
+      sym (h .is-high .ensures) ∙ c .before .before .if2 .left,
+      sym (c .before .is-low2 .ensures) ∙ c .if4 .taken,
+    )
 
--- src/utf16.rt:56:1
 returns-5 : tie.Need-returns-5
-returns-5 c = ?
+returns-5 c = 
+    let h = c .before .before .before in
+    simp (
+      le-ltb _ _ (h .before .if1 .left),
+      sym (h .is-high .ensures) ∙ c .before .before .if2 .left,
+      sym (c .before .is-low2 .ensures) ∙ c .if4 .left,
+    )
 
 pub char-of-spec : {M : Type 1} → statement M
 char-of-spec =
     tie.close
     (tie.spec
-    returns
-    is-high-requires
-    is-low-requires
-    both-requires
-    sub-t9
-    mul-t10
-    sub-t11
-    add-t12
-    add-t13
-    returns-2
-    returns-3
-    is-low-requires-2
-    returns-4
-    returns-5)
+    returns (λ c κs. search needs) (λ c κs. search needs) (λ c κs. search needs) sub-t9 mul-t10
+    sub-t11 add-t12 add-t13 returns-2 returns-3 (λ c κs. search needs) returns-4 returns-5)

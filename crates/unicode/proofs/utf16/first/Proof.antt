@@ -1,26 +1,30 @@
+-- `unicode::utf16::first` meets its contract.
+-- Assumes nothing.
+use mathlib.Core.Path.{ap₂, _∙_, sym, subst}
+use Prim.Native.Nat.{ℕ}
+use lib.ListN.{length}
+use Rattle.unicode.specs.declared.Char.{Char}
+use Rattle.unicode.specs.Utf16.{charOf, utf16First}
+use Rattle.unicode.specs.Inner.{NotWidened}
+use Rattle.unicode.proofs.CodecUtf16.{not-widened}
 use borrow.Author.Needs.{needs}
 use Rattle.unicode.proofs.utf16.first.Statement.{statement}
 use Rattle.unicode.proofs.utf16.first.Tie as tie
-use Rattle.unicode.proofs.utf16.first.Reads as reads
-use Rattle.unicode.proofs.utf16.first.Lts as lts
-use Rattle.unicode.proofs.utf16.char_of.Reads as char-of-reads
-use Rattle.unicode.proofs.utf16.unit_at.Reads as unit-at-reads
 
--- src/utf16.rt:84:22
-unit-at-requires : tie.Need-unit-at-requires
-unit-at-requires c κs = search needs
-
--- src/utf16.rt:84:37
-unit-at-requires-2 : tie.Need-unit-at-requires-2
-unit-at-requires-2 c κs = search needs
-
--- src/utf16.rt:84:5
-char-of-requires : tie.Need-char-of-requires
-char-of-requires c κs = search needs
-
--- src/utf16.rt:81:1
 returns : tie.Need-returns
-returns c = ?
+unfolding utf16First
+returns c = 
+    let v = c .before in
+    let u = v .before in
+    let s = u .before .before .args .s .now in (
+      c .char-of .ensures
+          ∙ ap₂ (λ (x y : ℕ). charOf (length s) x y) (u .unit-at .ensures .0) (v .unit-at2 .ensures .0),
+      subst (λ (x : Char). NotWidened x) (sym (c .char-of .ensures))
+          (not-widened (length s) (u .unit-at .result) (v .unit-at2 .result) (u .unit-at .ensures .1)),
+    )
 
 pub first-spec : {M : Type 1} → statement M
-first-spec = tie.close (tie.spec unit-at-requires unit-at-requires-2 char-of-requires returns)
+first-spec =
+    tie.close
+    (tie.spec
+    (λ c κs. search needs) (λ c κs. search needs) (λ c κs. search needs) returns)

@@ -1,63 +1,61 @@
+-- `unicode::utf16::is_well_formed` meets its contract. The loop's invariant: what is left is
+-- well-formed exactly where all is.
+-- Assumes nothing.
+use mathlib.Core.Path.{_≡_, refl, sym, _∙_, subst}
+use Prim.Native.Nat.{_≤_}
+use native.Mathlib.Omega.{arith}
+use borrow.Author.Needs.{needs}
+use lib.ListN.{length}
+use Rattle.unicode.specs.declared.Char.{Char}
+use Rattle.unicode.specs.Scalars.{wellFormed}
+use Rattle.unicode.specs.Utf16.{utf16First}
+use Rattle.unicode.proofs.Texts.{shorter, formed-bad, formed-next, formed-end}
+use Rattle.unicode.proofs.CodecUtf16.{utf16-codec}
 use Rattle.unicode.proofs.utf16.is_well_formed.Statement.{statement}
 use Rattle.unicode.proofs.utf16.is_well_formed.Tie as tie
-use Rattle.unicode.proofs.utf16.is_well_formed.Reads as reads
-use Rattle.unicode.proofs.utf16.is_well_formed.Lts as lts
-use Rattle.unicode.proofs.utf16.first.Reads as first-reads
 
 abbrev Inv-loop : tie.InvT-loop
-Inv-loop s rest₀ rest = ?
+Inv-loop s rest₀ rest = wellFormed utf16First rest ≡ wellFormed utf16First s
 
 abbrev μ-loop : tie.MeasureT-loop
-μ-loop s rest₀ rest = ?
+μ-loop s rest₀ rest = length rest
 
--- src/utf16.rt:91:5
+-- the character is among the octets that are left
+fits : (c : tie.After-first Inv-loop μ-loop) → c .first .result .width ≤ length (c .before .before .loop .rest .now)
+fits c =
+    subst (λ (x : Char). x .width ≤ length (c .before .before .loop .rest .now)) (sym (c .first .ensures .0))
+    (utf16-codec .fits (c .before .before .loop .rest .now) (omega arith))
+
 loop-holds : tie.Need-loop-holds Inv-loop μ-loop
-loop-holds c = ?
+loop-holds c = refl
 
--- src/utf16.rt:92:21
-first-requires : tie.Need-first-requires Inv-loop μ-loop
-first-requires c κs = ?
-
--- src/utf16.rt:94:13
 returns : tie.Need-returns Inv-loop μ-loop
-returns c = ?
+returns c = 
+    let f = c .before in
+    sym (formed-bad utf16First (f .before .before .loop .rest .now) (omega arith) (f .first .ensures .0) (c .if1 .taken)) ∙ f .before .before .loop .inv
 
--- src/utf16.rt:96:16
 sub-rest : tie.Need-sub-rest Inv-loop μ-loop
-sub-rest c = ?
+sub-rest c = fits (c .before)
 
--- src/utf16.rt:96:16
 part-rest-start : tie.Need-part-rest-start Inv-loop μ-loop
-part-rest-start c = ?
+part-rest-start c = fits (c .before)
 
--- src/utf16.rt:96:16
-part-rest-end : tie.Need-part-rest-end Inv-loop μ-loop
-part-rest-end c = ?
-
--- src/utf16.rt:91:5
 loop-less : tie.Need-loop-less Inv-loop μ-loop
-loop-less c = ?
+loop-less c = 
+    let f = c .before .before in
+    shorter (f .first .result .width) (f .before .before .loop .rest .now) (omega arith) (c .before .if1 .left)
 
--- src/utf16.rt:91:5
 loop-again : tie.Need-loop-again Inv-loop μ-loop
-loop-again c = ?
+loop-again c = 
+    let f = c .before .before in
+    formed-next utf16First (f .before .before .loop .rest .now) (omega arith) (f .first .ensures .0) (c .before .if1 .left) ∙ f .before .before .loop .inv
 
--- src/utf16.rt:87:1
 returns-2 : tie.Need-returns-2 Inv-loop μ-loop
-returns-2 c = ?
+returns-2 c = sym (formed-end utf16First (c .before .loop .rest .now) (omega arith)) ∙ c .before .loop .inv
 
 pub is-well-formed-spec : {M : Type 1} → statement M
 is-well-formed-spec =
     tie.close
     (tie.spec
-    Inv-loop
-    μ-loop
-    loop-holds
-    first-requires
-    returns
-    sub-rest
-    part-rest-start
-    part-rest-end
-    loop-less
-    loop-again
-    returns-2)
+    Inv-loop μ-loop loop-holds (λ c κs. search needs) returns sub-rest part-rest-start
+    (λ c. search needs) loop-less loop-again returns-2)

@@ -1,42 +1,29 @@
+-- `unicode::utf8::first` meets its contract.
+-- Assumes nothing.
+use mathlib.Core.Path.{ap₂, _∙_}
+use Prim.Native.Nat.{ℕ}
+use lib.ListN.{getD}
+use Rattle.unicode.specs.Utf8.{charFrom, utf8First}
 use borrow.Author.Needs.{needs}
 use Rattle.unicode.proofs.utf8.first.Statement.{statement}
 use Rattle.unicode.proofs.utf8.first.Tie as tie
-use Rattle.unicode.proofs.utf8.first.Reads as reads
-use Rattle.unicode.proofs.utf8.first.Lts as lts
-use Rattle.unicode.proofs.octet_at.Reads as octet-at-reads
-use Rattle.unicode.proofs.utf8.char_from.Reads as char-from-reads
 
--- src/utf8.rt:90:9
-octet-at-requires : tie.Need-octet-at-requires
-octet-at-requires c κs = search needs
-
--- src/utf8.rt:91:9
-octet-at-requires-2 : tie.Need-octet-at-requires-2
-octet-at-requires-2 c κs = search needs
-
--- src/utf8.rt:92:9
-octet-at-requires-3 : tie.Need-octet-at-requires-3
-octet-at-requires-3 c κs = search needs
-
--- src/utf8.rt:93:9
-octet-at-requires-4 : tie.Need-octet-at-requires-4
-octet-at-requires-4 c κs = search needs
-
--- src/utf8.rt:89:5
-char-from-requires : tie.Need-char-from-requires
-char-from-requires c κs = search needs
-
--- src/utf8.rt:86:1
 returns : tie.Need-returns
-returns c = ?
+unfolding utf8First
+returns c = 
+    let d = c .before in
+    let t = d .before in
+    let b = t .before in
+    let s = b .before .before .before .args .s .now in
+    c .char-from .ensures
+    ∙ ap₂ (λ (x y : ℕ). charFrom x y (t .octet-at3 .result) (d .octet-at4 .result))
+    (b .before .octet-at .ensures .0) (b .octet-at2 .ensures .0)
+    ∙ ap₂ (λ (x y : ℕ). charFrom (getD s 0 0) (getD s 1 0) x y)
+    (t .octet-at3 .ensures .0) (d .octet-at4 .ensures .0)
 
 pub first-spec : {M : Type 1} → statement M
 first-spec =
     tie.close
     (tie.spec
-    octet-at-requires
-    octet-at-requires-2
-    octet-at-requires-3
-    octet-at-requires-4
-    char-from-requires
-    returns)
+    (λ c κs. search needs) (λ c κs. search needs) (λ c κs. search needs) (λ c κs. search needs)
+    (λ c κs. search needs) returns)
