@@ -50,6 +50,13 @@ some-octets n = by (size n)
     by (one h) = omega (arith, ap length (utf16-one n h))
     by (two h) = omega (arith, ap length (utf16-two n h))
 
+pub two-units : (n : ℕ) → length (utf16Of n) ≤ 4
+two-units n = by (size n)
+  where
+    by : Size n → length (utf16Of n) ≤ 4
+    by (one h) = omega (arith, ap length (utf16-one n h))
+    by (two h) = omega (arith, ap length (utf16-two n h))
+
 -- ---- a character is told from its octets
 
 -- the unit of two octets

@@ -1,129 +1,109 @@
+-- `unicode::password_of` meets its contract. The loop's invariant: what is put, and what is left
+-- converted behind it, is the whole.
+-- Assumes nothing.
+use mathlib.Core.Path.{_≡_, refl, sym, ap, ap₂, _∙_, subst}
+use mathlib.Core.Option.{some}
+use mathlib.Core.List.{List}
+use Prim.Native.Nat.{ℕ, _≤_}
+use native.Mathlib.Omega.{arith}
+use borrow.Author.Needs.{needs}
+use lib.ListN.{length}
+use Rattle.octets.specs.Parts.{fixed}
+use Rattle.unicode.specs.declared.Char.{Char}
+use Rattle.unicode.specs.Scalars.{recoded}
+use Rattle.unicode.specs.Utf8.{utf8First}
+use Rattle.unicode.specs.Utf16.{utf16Of}
+use Rattle.unicode.specs.Password.{passwordMax, refusedPassword, passwordFor, passwordOf}
+use Rattle.unicode.proofs.Texts.{shorter}
+use Rattle.unicode.proofs.CodecUtf8.{utf8-codec}
+use Rattle.unicode.proofs.CodecUtf16.{two-units}
+use Rattle.unicode.proofs.Converting.{Converting, begun, room-kept, ended, stopped, moved, crowded, password-good, password-long}
 use Rattle.unicode.proofs.password_of.Statement.{statement}
 use Rattle.unicode.proofs.password_of.Tie as tie
-use Rattle.unicode.proofs.password_of.Reads as reads
-use Rattle.unicode.proofs.password_of.Lts as lts
-use Rattle.octets.proofs.copy_at.Reads as copy-at-reads
-use Rattle.octets.proofs.part_of.Reads as part-of-reads
-use Rattle.refusals.proofs.refuse_if.Reads as refuse-if-reads
-use Rattle.unicode.proofs.refused_password.Reads as refused-password-reads
-use Rattle.unicode.proofs.utf16.encode.Reads as encode-reads
-use Rattle.unicode.proofs.utf8.first.Reads as first-reads
-use Rattle.unicode.proofs.utf8.is_well_formed.Reads as is-well-formed-reads
 
 abbrev Inv-loop : tie.InvT-loop
-Inv-loop text octets₀ size₀ rest₀ octets size rest = ?
+Inv-loop text octets₀ size₀ rest₀ octets size rest =
+    Converting utf8First utf16Of text rest octets size passwordMax × (size ≤ passwordMax)
 
 abbrev μ-loop : tie.MeasureT-loop
-μ-loop text octets₀ size₀ rest₀ octets size rest = ?
+μ-loop text octets₀ size₀ rest₀ octets size rest = length rest
 
--- src/lib.rt:109:5
+-- the character is among the octets that are left
+fits : (c : tie.After-first Inv-loop μ-loop) → c .first .result .width ≤ length (c .before .before .loop .rest .now)
+fits c =
+    subst (λ (x : Char). x .width ≤ length (c .before .before .loop .rest .now)) (sym (c .first .ensures))
+    (utf8-codec .fits (c .before .before .loop .rest .now) (omega arith))
+
 loop-holds : tie.Need-loop-holds Inv-loop μ-loop
-loop-holds c = ?
+loop-holds c = (begun utf8First utf16Of (c .before .args .text .now) passwordMax, omega arith)
 
--- src/lib.rt:110:13
-first-requires : tie.Need-first-requires Inv-loop μ-loop
-first-requires c κs = ?
-
--- src/lib.rt:113:13
-refused-password-requires : tie.Need-refused-password-requires Inv-loop μ-loop
-refused-password-requires c κs = ?
-
--- src/lib.rt:113:13
 returns : tie.Need-returns Inv-loop μ-loop
-returns c = ?
+unfolding passwordOf
+returns c = 
+    let f = c .before .before in
+    let h = f .before .before .loop in
+    c .refused-password .ensures
+    ∙ sym (ap passwordFor (stopped utf8First utf16Of _ (h .rest .now) (h .octets) (h .size) passwordMax (h .inv .0) (omega arith) (f .first .ensures) (c .before .if1 .taken)))
 
--- src/lib.rt:115:13
-encode-requires : tie.Need-encode-requires Inv-loop μ-loop
-encode-requires c κs = ?
-
--- src/lib.rt:118:12
-sub-if2 : tie.Need-sub-if2 Inv-loop μ-loop
-sub-if2 c = ?
-
--- src/lib.rt:119:48
-is-well-formed-requires : tie.Need-is-well-formed-requires Inv-loop μ-loop
-is-well-formed-requires c κs = ?
-
--- src/lib.rt:119:37
-refuse-if-requires : tie.Need-refuse-if-requires Inv-loop μ-loop
-refuse-if-requires c κs = ?
-
--- src/lib.rt:119:13
-refused-password-requires-2 : tie.Need-refused-password-requires-2 Inv-loop μ-loop
-refused-password-requires-2 c κs = ?
-
--- src/lib.rt:119:13
 returns-2 : tie.Need-returns-2 Inv-loop μ-loop
-returns-2 c = ?
+unfolding passwordOf
+returns-2 c = 
+    let i = c .before .before in
+    let u = i .before .before .before in
+    let f = u .before .before in
+    let h = f .before .before .loop in
+    c .refused-password2 .ensures
+    ∙ ap refusedPassword (c .before .refuse-if .ensures)
+    ∙ password-long (i .is-well-formed .result) (recoded utf8First utf16Of (f .before .before .before .before .args .text .now))
+    (crowded utf8First utf16Of _ (h .rest .now) (h .octets) (h .size) passwordMax (h .inv .0) (omega arith) (f .first .ensures)
+    (u .before .if1 .left) (u .encode .ensures) (omega arith) (i .is-well-formed .ensures))
 
--- src/lib.rt:121:25
 slice-aggregate-copy-at : tie.Need-slice-aggregate-copy-at Inv-loop μ-loop
-slice-aggregate-copy-at c = ?
+slice-aggregate-copy-at c = 
+    let h = c .before .before .before .before .before .before .before .loop in
+    sym (room-kept utf8First utf16Of _ (h .rest .now) (h .octets) (h .size) passwordMax (h .inv .0))
 
--- src/lib.rt:121:60
-slice-aggregate-part-of : tie.Need-slice-aggregate-part-of Inv-loop μ-loop
-slice-aggregate-part-of c = ?
-
--- src/lib.rt:121:44
-part-of-requires : tie.Need-part-of-requires Inv-loop μ-loop
-part-of-requires c κs = ?
-
--- src/lib.rt:121:9
-copy-at-requires : tie.Need-copy-at-requires Inv-loop μ-loop
-copy-at-requires c κs = ?
-
--- src/lib.rt:122:9
 add-size : tie.Need-add-size Inv-loop μ-loop
-add-size c = ?
+add-size c = omega arith
 
--- src/lib.rt:123:16
 sub-rest : tie.Need-sub-rest Inv-loop μ-loop
-sub-rest c = ?
+sub-rest c = fits (c .before .before .before .before .before .before .before .before .before)
 
--- src/lib.rt:123:16
 part-rest-start : tie.Need-part-rest-start Inv-loop μ-loop
-part-rest-start c = ?
+part-rest-start c = fits (c .before .before .before .before .before .before .before .before .before)
 
--- src/lib.rt:123:16
-part-rest-end : tie.Need-part-rest-end Inv-loop μ-loop
-part-rest-end c = ?
-
--- src/lib.rt:109:5
 loop-less : tie.Need-loop-less Inv-loop μ-loop
-loop-less c = ?
+loop-less c = 
+    let e = c .before .before .before .before .before .before .before .before .before in
+    let f = e .before in
+    shorter (f .first .result .width) (f .before .before .loop .rest .now) (omega arith) (e .if1 .left)
 
--- src/lib.rt:109:5
 loop-again : tie.Need-loop-again Inv-loop μ-loop
-loop-again c = ?
+loop-again c = 
+    let p = c .before .before .before in
+    let u = c .before .before .before .before .before .before .before .before in
+    let f = u .before .before in
+    let h = f .before .before .loop in (
+      moved utf8First utf16Of _ (h .rest .now) (h .octets) (h .size) passwordMax (h .inv .0) (omega arith) (f .first .ensures)
+          (u .before .if1 .left) (u .encode .ensures) (two-units (f .first .result .value)) (p .part-of .ensures) (c .before .before .copy-at .ensures),
+      omega arith,
+    )
 
--- src/lib.rt:103:1
 returns-3 : tie.Need-returns-3 Inv-loop μ-loop
-returns-3 c = ?
+unfolding passwordOf
+returns-3 c = 
+    let h = c .before .loop in
+    let v = h .inv .0 in
+    ap₂ (λ (n : ℕ) (l : List ℕ). record { refusal = 0; size = n; octets = l }) (sym (v .long)) (v .laid)
+    ∙ password-good (v .done) (omega (arith, v .long))
+    ∙ sym (ap passwordFor (ended utf8First utf16Of _ (h .rest .now) (h .octets) (h .size) passwordMax v (omega arith)))
 
 pub password-of-spec : {M : Type 1} → statement M
 password-of-spec =
     tie.close
     (tie.spec
-    Inv-loop
-    μ-loop
-    loop-holds
-    first-requires
-    refused-password-requires
-    returns
-    encode-requires
-    sub-if2
-    is-well-formed-requires
-    refuse-if-requires
-    refused-password-requires-2
-    returns-2
-    slice-aggregate-copy-at
-    slice-aggregate-part-of
-    part-of-requires
-    copy-at-requires
-    add-size
-    sub-rest
-    part-rest-start
-    part-rest-end
-    loop-less
-    loop-again
-    returns-3)
+    Inv-loop μ-loop loop-holds (λ c κs. search needs) (λ c κs. search needs) returns
+    (λ c κs. search needs) (λ c. search needs) (λ c κs. search needs) (λ c κs. search needs)
+    (λ c κs. search needs) returns-2 slice-aggregate-copy-at (λ c. search needs)
+    (λ c κs. search needs) (λ c κs. search needs) add-size sub-rest part-rest-start
+    (λ c. search needs) loop-less loop-again returns-3)

@@ -1,124 +1,120 @@
+-- `unicode::text_of` meets its contract. The loop's invariant: what is put, and what is left
+-- converted behind it, is the whole; and for each two octets of the password at most three are put.
+-- Assumes nothing.
+use mathlib.Core.Path.{_≡_, refl, sym, ap, ap₂, _∙_, subst}
+use mathlib.Core.Bool.{Bool, cond, not}
+use mathlib.Core.List.{List}
+use Prim.Native.Nat.{ℕ, _+_, _*_, _≤_, _<_}
+use native.Mathlib.Omega.{arith}
+use borrow.Author.Needs.{needs}
+use lib.Dec.{ltb}
+use lib.ListN.{length}
+use Rattle.unicode.specs.declared.Char.{Char}
+use Rattle.unicode.specs.declared.Encoding.{Encoding}
+use Rattle.unicode.specs.Utf8.{utf8Of}
+use Rattle.unicode.specs.Utf16.{utf16First}
+use Rattle.unicode.specs.Password.{passwordMax, textMax, malformedRefusal, longRefusal, refusedText, textFor, textOf}
+use Rattle.unicode.proofs.Texts.{shorter}
+use Rattle.unicode.proofs.CodecUtf8.{at-most-four}
+use Rattle.unicode.proofs.CodecUtf16.{utf16-codec}
+use Rattle.unicode.proofs.Converting.{Converting, begun, room-kept, ended, stopped, moved, room-left, text-good, text-long}
 use Rattle.unicode.proofs.text_of.Statement.{statement}
 use Rattle.unicode.proofs.text_of.Tie as tie
-use Rattle.unicode.proofs.text_of.Reads as reads
-use Rattle.unicode.proofs.text_of.Lts as lts
-use Rattle.octets.proofs.copy_at.Reads as copy-at-reads
-use Rattle.octets.proofs.part_of.Reads as part-of-reads
-use Rattle.refusals.proofs.refuse_if.Reads as refuse-if-reads
-use Rattle.unicode.proofs.refused_text.Reads as refused-text-reads
-use Rattle.unicode.proofs.utf16.first.Reads as first-reads
-use Rattle.unicode.proofs.utf16.is_well_formed.Reads as is-well-formed-reads
-use Rattle.unicode.proofs.utf8.encode.Reads as encode-reads
 
 abbrev Inv-loop : tie.InvT-loop
-Inv-loop password octets₀ size₀ rest₀ octets size rest = ?
+Inv-loop password octets₀ size₀ rest₀ octets size rest =
+    Converting utf16First utf8Of password rest octets size textMax × (length password ≤ passwordMax)
+    × (2 * size + 3 * length rest ≤ 3 * length password)
 
 abbrev μ-loop : tie.MeasureT-loop
-μ-loop password octets₀ size₀ rest₀ octets size rest = ?
+μ-loop password octets₀ size₀ rest₀ octets size rest = length rest
 
--- src/lib.rt:138:40
-is-well-formed-requires : tie.Need-is-well-formed-requires Inv-loop μ-loop
-is-well-formed-requires c κs = ?
+-- the character is among the octets that are left
+fits : (c : tie.After-first Inv-loop μ-loop) → c .first .result .width ≤ length (c .before .before .loop .rest .now)
+fits c =
+    subst (λ (x : Char). x .width ≤ length (c .before .before .loop .rest .now)) (sym (c .first .ensures .0))
+    (utf16-codec .fits (c .before .before .loop .rest .now) (omega arith))
 
--- src/lib.rt:138:29
-refuse-if-requires : tie.Need-refuse-if-requires Inv-loop μ-loop
-refuse-if-requires c κs = ?
-
--- src/lib.rt:138:9
-refused-text-requires : tie.Need-refused-text-requires Inv-loop μ-loop
-refused-text-requires c κs = ?
-
--- src/lib.rt:138:9
 returns : tie.Need-returns Inv-loop μ-loop
-returns c = ?
+unfolding textOf
+returns c = 
+    let i = c .before .before in
+    let l = i .before .before .before .args .password .now in
+    c .refused-text .ensures
+    ∙ ap refusedText (c .before .refuse-if .ensures)
+    ∙ ap (λ (w : Bool). refusedText (cond (not w) malformedRefusal longRefusal)) (i .is-well-formed .ensures)
+    ∙ text-long utf16First utf8Of l (i .before .if1 .taken)
 
--- src/lib.rt:143:5
 loop-holds : tie.Need-loop-holds Inv-loop μ-loop
-loop-holds c = ?
+loop-holds c = 
+    (begun utf16First utf8Of (c .before .before .args .password .now) textMax, omega arith, omega arith)
 
--- src/lib.rt:144:13
-first-requires : tie.Need-first-requires Inv-loop μ-loop
-first-requires c κs = ?
-
--- src/lib.rt:147:13
-refused-text-requires-2 : tie.Need-refused-text-requires-2 Inv-loop μ-loop
-refused-text-requires-2 c κs = ?
-
--- src/lib.rt:147:13
 returns-2 : tie.Need-returns-2 Inv-loop μ-loop
-returns-2 c = ?
+unfolding textOf
+returns-2 c = 
+    let f = c .before .before in
+    let h = f .before .before .loop in
+    c .refused-text2 .ensures
+    ∙ sym (
+    ap (textFor (ltb passwordMax (length (f .before .before .before .before .before .args .password .now))))
+    (stopped utf16First utf8Of _ (h .rest .now) (h .octets) (h .size) textMax (h .inv .0) (omega arith) (f .first .ensures .0) (c .before .if2 .taken))
+    )
 
--- src/lib.rt:149:13
-encode-requires : tie.Need-encode-requires Inv-loop μ-loop
-encode-requires c κs = ?
-
--- src/lib.rt:152:25
 slice-aggregate-copy-at : tie.Need-slice-aggregate-copy-at Inv-loop μ-loop
-slice-aggregate-copy-at c = ?
+slice-aggregate-copy-at c = 
+    let h = c .before .before .before .before .before .before .loop in
+    sym (room-kept utf16First utf8Of _ (h .rest .now) (h .octets) (h .size) textMax (h .inv .0))
 
--- src/lib.rt:152:60
-slice-aggregate-part-of : tie.Need-slice-aggregate-part-of Inv-loop μ-loop
-slice-aggregate-part-of c = ?
-
--- src/lib.rt:152:44
-part-of-requires : tie.Need-part-of-requires Inv-loop μ-loop
-part-of-requires c κs = ?
-
--- src/lib.rt:152:9
-copy-at-requires : tie.Need-copy-at-requires Inv-loop μ-loop
-copy-at-requires c κs = ?
-
--- src/lib.rt:153:9
 add-size : tie.Need-add-size Inv-loop μ-loop
-add-size c = ?
+add-size c = 
+    let u = c .before .before .before .before .before .before in
+    omega (arith, ap (λ (x : Encoding). x .size) (u .encode .ensures), at-most-four (u .before .before .first .result .value))
 
--- src/lib.rt:154:16
 sub-rest : tie.Need-sub-rest Inv-loop μ-loop
-sub-rest c = ?
+sub-rest c = fits (c .before .before .before .before .before .before .before .before)
 
--- src/lib.rt:154:16
 part-rest-start : tie.Need-part-rest-start Inv-loop μ-loop
-part-rest-start c = ?
+part-rest-start c = fits (c .before .before .before .before .before .before .before .before)
 
--- src/lib.rt:154:16
-part-rest-end : tie.Need-part-rest-end Inv-loop μ-loop
-part-rest-end c = ?
-
--- src/lib.rt:143:5
 loop-less : tie.Need-loop-less Inv-loop μ-loop
-loop-less c = ?
+loop-less c = 
+    let e = c .before .before .before .before .before .before .before .before in
+    let f = e .before in
+    shorter (f .first .result .width) (f .before .before .loop .rest .now) (omega arith) (e .if2 .left)
 
--- src/lib.rt:143:5
 loop-again : tie.Need-loop-again Inv-loop μ-loop
-loop-again c = ?
+loop-again c = 
+    let p = c .before .before .before in
+    let u = c .before .before .before .before .before .before .before in
+    let e = u .before in
+    let f = e .before in
+    let h = f .before .before .loop in
+    let n : u .encode .result .size ≡ length (utf8Of (f .first .result .value)) = ap (λ (x : Encoding). x .size) (u .encode .ensures) in
+    let k = f .first .ensures .1 (omega (arith, e .if2 .left)) in (
+      moved utf16First utf8Of _ (h .rest .now) (h .octets) (h .size) textMax (h .inv .0) (omega arith) (f .first .ensures .0)
+          (e .if2 .left) (u .encode .ensures) (at-most-four (f .first .result .value)) (p .part-of .ensures) (c .before .before .copy-at .ensures),
+      h .inv .1,
+      room-left (h .size) (u .encode .result .size) (f .first .result .width) (length (f .before .before .before .before .before .args .password .now)) (h .rest .now) (fits f) (omega (arith, n, k)) (h .inv .2),
+    )
 
--- src/lib.rt:134:1
 returns-3 : tie.Need-returns-3 Inv-loop μ-loop
-returns-3 c = ?
+unfolding textOf
+returns-3 c = 
+    let h = c .before .loop in
+    let v = h .inv .0 in
+    let l = c .before .before .before .before .args .password .now in
+    ap₂ (λ (n : ℕ) (l : List ℕ). record { refusal = 0; size = n; octets = l }) (sym (v .long)) (v .laid)
+    ∙ text-good (length l) (v .done) (h .inv .1)
+    ∙ sym (
+    ap (textFor (ltb passwordMax (length l)))
+    (ended utf16First utf8Of _ (h .rest .now) (h .octets) (h .size) textMax v (omega arith))
+    )
 
 pub text-of-spec : {M : Type 1} → statement M
 text-of-spec =
     tie.close
     (tie.spec
-    Inv-loop
-    μ-loop
-    is-well-formed-requires
-    refuse-if-requires
-    refused-text-requires
-    returns
-    loop-holds
-    first-requires
-    refused-text-requires-2
-    returns-2
-    encode-requires
-    slice-aggregate-copy-at
-    slice-aggregate-part-of
-    part-of-requires
-    copy-at-requires
-    add-size
-    sub-rest
-    part-rest-start
-    part-rest-end
-    loop-less
-    loop-again
-    returns-3)
+    Inv-loop μ-loop (λ c κs. search needs) (λ c κs. search needs) (λ c κs. search needs) returns
+    loop-holds (λ c κs. search needs) (λ c κs. search needs) returns-2 (λ c κs. search needs)
+    slice-aggregate-copy-at (λ c. search needs) (λ c κs. search needs) (λ c κs. search needs)
+    add-size sub-rest part-rest-start (λ c. search needs) loop-less loop-again returns-3)
