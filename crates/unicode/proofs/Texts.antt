@@ -10,8 +10,7 @@ use native.Mathlib.Omega.{arith}
 use borrow.Author.Tests.{eq-eqb, ne-eqb, eqb-true, eqb-false}
 use lib.Dec.{eqb}
 use lib.ListN.{length, take, drop, getD, length-append, length-drop, take-append-drop}
-use lib.Seq.{drop-append-seam, getD-drop, take-all}
-use Rattle.octets.proofs.Numbers.{Octets}
+use lib.Seq.{drop-append-seam, take-all}
 use Rattle.unicode.specs.declared.Char.{Char}
 use Rattle.unicode.specs.Scalars.{isScalar, told, encoded, joined, decodedFrom, decoded, isSome, wellFormed, encodedIf, recoded}
 
@@ -21,15 +20,16 @@ Scalars [] = Unit {0}
 Scalars (v ∷ vs) = (isScalar v ≡ true) × Scalars vs
 
 -- what is asked of an encoding, by the character with which octets begin and by the octets of a
--- character
-pub record Codec (first : List ℕ → Char) (code : ℕ → List ℕ) : Type 0 where
+-- character; Fit says of which lists the second law holds
+pub record Codec (Fit : List ℕ → Type 0) (first : List ℕ → Char) (code : ℕ → List ℕ) : Type 0 where
   -- a character is told from its octets, whatever comes behind them
   pub read : (n : ℕ) (l : List ℕ) → isScalar n ≡ true → first (code n ++ l) ≡ told (length (code n)) n
   -- the octets that tell one are those of a scalar value
-  pub back : (l : List ℕ) → Octets l → 0 < length l → 0 < first l .width
+  pub back : (l : List ℕ) → Fit l → 0 < length l → 0 < first l .width
       → (isScalar (first l .value) ≡ true) × (code (first l .value) ≡ take (first l .width) l)
   pub fits : (l : List ℕ) → 0 < length l → first l .width ≤ length l
   pub some-octets : (n : ℕ) → 0 < length (code n)
+  pub kept : (w : ℕ) (l : List ℕ) → Fit l → Fit (drop w l)
 
 -- what is put before a list, if there is one
 abbrev pub prefixed : List ℕ → Option (List ℕ) → Option (List ℕ)
@@ -130,10 +130,7 @@ module _ (first : List ℕ → Char) where
   unfolding encoded
   recoded-end code l h = ap (encodedIf code) (decoded-end l h)
 
-octets-behind : (w : ℕ) (l : List ℕ) → Octets l → Octets (drop w l)
-octets-behind w l o i = subst (λ (x : ℕ). x < 256) (sym (getD-drop w l i 0)) (o (w + i))
-
-module _ {first : List ℕ → Char} {code : ℕ → List ℕ} (codec : Codec first code) where
+module _ {Fit : List ℕ → Type 0} {first : List ℕ → Char} {code : ℕ → List ℕ} (codec : Codec Fit first code) where
   -- what was encoded is decoded again
   pub decode-encoded : (vs : List ℕ) → Scalars vs → decoded first (encoded code vs) ≡ some vs
   unfolding encoded decodedFrom
@@ -156,9 +153,9 @@ module _ {first : List ℕ → Char} {code : ℕ → List ℕ} (codec : Codec fi
   nothing (v ∷ vs) e = let z : _≡_ {A = ℕ} 0 1 = cc in absurd (omega (arith, z))
 
   -- one character, with what is known of the rest
-  one-more : (l vs : List ℕ) → 0 < length l → Octets l → decoded first l ≡ some vs
+  one-more : (l vs : List ℕ) → 0 < length l → Fit l → decoded first l ≡ some vs
       → (0 < first l .width → (us : List ℕ) → decoded first (drop (first l .width) l) ≡ some us
-          → (encoded code us ≡ drop (first l .width) l) × Scalars us)
+      → (encoded code us ≡ drop (first l .width) l) × Scalars us)
       → (encoded code vs ≡ l) × Scalars vs
   unfolding encoded
   one-more l vs h o e rest = which (eqb w 0) refl
@@ -191,21 +188,21 @@ module _ {first : List ℕ → Char} {code : ℕ → List ℕ} (codec : Codec fi
           let n = eqb-false w 0 q in
           behind (omega (arith, n)) (decoded first (drop w l)) refl
 
-  some-more : (l vs : List ℕ) → Octets l → decoded first l ≡ some vs
+  some-more : (l vs : List ℕ) → Fit l → decoded first l ≡ some vs
       → (0 < length l → 0 < first l .width → (us : List ℕ) → decoded first (drop (first l .width) l) ≡ some us
-          → (encoded code us ≡ drop (first l .width) l) × Scalars us)
+      → (encoded code us ≡ drop (first l .width) l) × Scalars us)
       → (encoded code vs ≡ l) × Scalars vs
   unfolding decodedFrom
   some-more [] vs o e rest = nothing vs e
   some-more (x ∷ l) vs o e rest = let h : 0 < length (x ∷ l) = omega arith in one-more (x ∷ l) vs h o e (rest h)
 
-  encode-from : (n : ℕ) (l vs : List ℕ) → length l ≤ n → Octets l → decoded first l ≡ some vs → (encoded code vs ≡ l) × Scalars vs
+  encode-from : (n : ℕ) (l vs : List ℕ) → length l ≤ n → Fit l → decoded first l ≡ some vs → (encoded code vs ≡ l) × Scalars vs
   encode-from zero l vs h o e = some-more l vs o e (λ k p us q. absurd (omega (arith, h, k)))
   encode-from (suc n) l vs h o e =
       some-more l vs o e
       (λ k p us q. encode-from n (drop (first l .width) l) us (omega (arith, k, p, h, length-drop (first l .width) l))
-      (octets-behind (first l .width) l o) q)
+      (codec .kept (first l .width) l o) q)
 
   -- what was decoded is encoded again, and it is a text
-  pub encode-decoded : (l vs : List ℕ) → Octets l → decoded first l ≡ some vs → (encoded code vs ≡ l) × Scalars vs
+  pub encode-decoded : (l vs : List ℕ) → Fit l → decoded first l ≡ some vs → (encoded code vs ≡ l) × Scalars vs
   encode-decoded l vs o e = encode-from (length l) l vs (omega arith) o e

@@ -39,7 +39,7 @@ loop-holds c = (begun utf8First utf16Of (c .before .args .text .now) passwordMax
 
 returns : tie.Need-returns Inv-loop μ-loop
 unfolding passwordOf
-returns c = 
+returns c =
     let f = c .before .before in
     let h = f .before .before .loop in
     c .refused-password .ensures
@@ -47,7 +47,7 @@ returns c =
 
 returns-2 : tie.Need-returns-2 Inv-loop μ-loop
 unfolding passwordOf
-returns-2 c = 
+returns-2 c =
     let i = c .before .before in
     let u = i .before .before .before in
     let f = u .before .before in
@@ -59,7 +59,7 @@ returns-2 c =
     (u .before .if1 .left) (u .encode .ensures) (omega arith) (i .is-well-formed .ensures))
 
 slice-aggregate-copy-at : tie.Need-slice-aggregate-copy-at Inv-loop μ-loop
-slice-aggregate-copy-at c = 
+slice-aggregate-copy-at c =
     let h = c .before .before .before .before .before .before .before .loop in
     sym (room-kept utf8First utf16Of _ (h .rest .now) (h .octets) (h .size) passwordMax (h .inv .0))
 
@@ -73,13 +73,13 @@ part-rest-start : tie.Need-part-rest-start Inv-loop μ-loop
 part-rest-start c = fits (c .before .before .before .before .before .before .before .before .before)
 
 loop-less : tie.Need-loop-less Inv-loop μ-loop
-loop-less c = 
+loop-less c =
     let e = c .before .before .before .before .before .before .before .before .before in
     let f = e .before in
     shorter (f .first .result .width) (f .before .before .loop .rest .now) (omega arith) (e .if1 .left)
 
 loop-again : tie.Need-loop-again Inv-loop μ-loop
-loop-again c = 
+loop-again c =
     let p = c .before .before .before in
     let u = c .before .before .before .before .before .before .before .before in
     let f = u .before .before in
@@ -91,7 +91,7 @@ loop-again c =
 
 returns-3 : tie.Need-returns-3 Inv-loop μ-loop
 unfolding passwordOf
-returns-3 c = 
+returns-3 c =
     let h = c .before .loop in
     let v = h .inv .0 in
     ap₂ (λ (n : ℕ) (l : List ℕ). record { refusal = 0; size = n; octets = l }) (sym (v .long)) (v .laid)

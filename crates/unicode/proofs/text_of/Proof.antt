@@ -37,7 +37,7 @@ fits c =
 
 returns : tie.Need-returns Inv-loop μ-loop
 unfolding textOf
-returns c = 
+returns c =
     let i = c .before .before in
     let l = i .before .before .before .args .password .now in
     c .refused-text .ensures
@@ -46,12 +46,12 @@ returns c =
     ∙ text-long utf16First utf8Of l (i .before .if1 .taken)
 
 loop-holds : tie.Need-loop-holds Inv-loop μ-loop
-loop-holds c = 
+loop-holds c =
     (begun utf16First utf8Of (c .before .before .args .password .now) textMax, omega arith, omega arith)
 
 returns-2 : tie.Need-returns-2 Inv-loop μ-loop
 unfolding textOf
-returns-2 c = 
+returns-2 c =
     let f = c .before .before in
     let h = f .before .before .loop in
     c .refused-text2 .ensures
@@ -61,12 +61,12 @@ returns-2 c =
     )
 
 slice-aggregate-copy-at : tie.Need-slice-aggregate-copy-at Inv-loop μ-loop
-slice-aggregate-copy-at c = 
+slice-aggregate-copy-at c =
     let h = c .before .before .before .before .before .before .loop in
     sym (room-kept utf16First utf8Of _ (h .rest .now) (h .octets) (h .size) textMax (h .inv .0))
 
 add-size : tie.Need-add-size Inv-loop μ-loop
-add-size c = 
+add-size c =
     let u = c .before .before .before .before .before .before in
     omega (arith, ap (λ (x : Encoding). x .size) (u .encode .ensures), at-most-four (u .before .before .first .result .value))
 
@@ -77,13 +77,13 @@ part-rest-start : tie.Need-part-rest-start Inv-loop μ-loop
 part-rest-start c = fits (c .before .before .before .before .before .before .before .before)
 
 loop-less : tie.Need-loop-less Inv-loop μ-loop
-loop-less c = 
+loop-less c =
     let e = c .before .before .before .before .before .before .before .before in
     let f = e .before in
     shorter (f .first .result .width) (f .before .before .loop .rest .now) (omega arith) (e .if2 .left)
 
 loop-again : tie.Need-loop-again Inv-loop μ-loop
-loop-again c = 
+loop-again c =
     let p = c .before .before .before in
     let u = c .before .before .before .before .before .before .before in
     let e = u .before in
@@ -99,7 +99,7 @@ loop-again c =
 
 returns-3 : tie.Need-returns-3 Inv-loop μ-loop
 unfolding textOf
-returns-3 c = 
+returns-3 c =
     let h = c .before .loop in
     let v = h .inv .0 in
     let l = c .before .before .before .before .args .password .now in

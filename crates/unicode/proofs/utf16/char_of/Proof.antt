@@ -58,7 +58,7 @@ returns-3 : tie.Need-returns-3
 returns-3 c = simp (le-ltb _ _ (c .before .before .before .before .before .if1 .left), high-tested (c .before), pair (c .before) ∙ c .if3 .left)
 
 returns-4 : tie.Need-returns-4
-returns-4 c = 
+returns-4 c =
     let h = c .before .before .before in
     simp (
       le-ltb _ _ (h .before .if1 .left),
@@ -67,7 +67,7 @@ returns-4 c =
     )
 
 returns-5 : tie.Need-returns-5
-returns-5 c = 
+returns-5 c =
     let h = c .before .before .before in
     simp (
       le-ltb _ _ (h .before .if1 .left),

@@ -13,7 +13,7 @@ use Rattle.unicode.proofs.utf16.first.Tie as tie
 
 returns : tie.Need-returns
 unfolding utf16First
-returns c = 
+returns c =
     let v = c .before in
     let u = v .before in
     let s = u .before .before .args .s .now in (

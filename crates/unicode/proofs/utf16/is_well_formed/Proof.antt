@@ -30,7 +30,7 @@ loop-holds : tie.Need-loop-holds Inv-loop μ-loop
 loop-holds c = refl
 
 returns : tie.Need-returns Inv-loop μ-loop
-returns c = 
+returns c =
     let f = c .before in
     sym (formed-bad utf16First (f .before .before .loop .rest .now) (omega arith) (f .first .ensures .0) (c .if1 .taken)) ∙ f .before .before .loop .inv
 
@@ -41,12 +41,12 @@ part-rest-start : tie.Need-part-rest-start Inv-loop μ-loop
 part-rest-start c = fits (c .before)
 
 loop-less : tie.Need-loop-less Inv-loop μ-loop
-loop-less c = 
+loop-less c =
     let f = c .before .before in
     shorter (f .first .result .width) (f .before .before .loop .rest .now) (omega arith) (c .before .if1 .left)
 
 loop-again : tie.Need-loop-again Inv-loop μ-loop
-loop-again c = 
+loop-again c =
     let f = c .before .before in
     formed-next utf16First (f .before .before .loop .rest .now) (omega arith) (f .first .ensures .0) (c .before .if1 .left) ∙ f .before .before .loop .inv
 

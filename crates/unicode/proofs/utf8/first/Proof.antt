@@ -10,7 +10,7 @@ use Rattle.unicode.proofs.utf8.first.Tie as tie
 
 returns : tie.Need-returns
 unfolding utf8First
-returns c = 
+returns c =
     let d = c .before in
     let t = d .before in
     let b = t .before in
