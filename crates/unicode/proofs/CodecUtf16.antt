@@ -1,25 +1,26 @@
 -- UTF-16: a character is told from its octets, and only from them.
 -- Assumes nothing.
-use mathlib.Core.Bool.{Bool, true, false, cond, _&&_, and-eq-true-iff, false≢true}
+use mathlib.Core.Bool.{Bool, true, false, cond, _&&_, and-eq-true-iff}
 use mathlib.Core.List.{List, [], _∷_, _++_}
 use mathlib.Core.Logic.{⊎-elim}
 use mathlib.Core.Path.{_≡_, refl, sym, ap, ap₂, _∙_, subst}
-use Prim.Native.Nat.{ℕ, suc, _+_, _-_, _*_, _/_, _%_, _≤_, _<_}
+use Prim.Native.Nat.{ℕ, _+_, _-_, _*_, _≤_, _<_}
 use native.Mathlib.Omega.{arith}
 use borrow.Author.Tests.{lt-ltb, le-ltb, ltb-true, ltb-false, le-leb, leb-true}
 use lib.Dec.{leb, ltb}
 use lib.ListN.{length, take, drop, getD}
 use lib.Seq.{getD-drop}
-use Rattle.octets.specs.Digits.{between}
 use Rattle.octets.specs.Numbers.{fromLe, toLe}
 use Rattle.octets.proofs.Listed.{part-written}
 use Rattle.octets.proofs.Numbers.{Octets}
 use Rattle.unicode.specs.declared.Char.{Char}
 use Rattle.unicode.specs.Scalars.{isScalar, told, malformed}
-use Rattle.unicode.specs.Utf16.{highOf, lowOf, utf16Of, isHigh, isLow, charOf, unitAt, utf16First}
+use Rattle.unicode.specs.Utf16.{highOf, lowOf, utf16Of, isHigh, isLow, charOf, unitAt}
+use Rattle.unicode.specs.Utf16.{utf16First}
 use Rattle.unicode.specs.Inner.{NotWidened}
 use Rattle.unicode.proofs.CodecUtf8.{at-most-three, at-most-four}
-use Rattle.unicode.proofs.Ranges.{between-both, inside, below, above, outside, scalar-low, scalar-high, scalar-cases, scalar-most}
+use Rattle.unicode.proofs.Ranges.{between-both, inside, below, above, outside, scalar-low}
+use Rattle.unicode.proofs.Ranges.{scalar-high, scalar-cases, scalar-most}
 use Rattle.unicode.proofs.Texts.{Codec}
 
 -- ---- the octets of a value
@@ -76,7 +77,8 @@ told-one m u v n s h e =
     let k = no-surrogate n s in
     ap (λ (x : ℕ). charOf m x v) e ∙ simp (le-ltb m 2 h, k .0, k .1)
 
-told-two : (m u v n : ℕ) → 4 ≤ m → isHigh u ≡ true → isLow v ≡ true → 0x10000 + ((u - 0xd800) * 1024 + (v - 0xdc00)) ≡ n
+told-two : (m u v n : ℕ) → 4 ≤ m → isHigh u ≡ true → isLow v ≡ true
+    → 0x10000 + ((u - 0xd800) * 1024 + (v - 0xdc00)) ≡ n
     → charOf m u v ≡ told 4 n
 told-two m u v n h t w e = simp (le-ltb m 2 (omega arith), t, w, le-leb 4 m h) (ap (told 4) e)
 
@@ -89,7 +91,8 @@ low-is n = inside 0xdc00 0xdfff (lowOf n) (omega arith) (omega arith)
 pair-back : (n : ℕ) → 0x10000 ≤ n → 0x10000 + ((highOf n - 0xd800) * 1024 + (lowOf n - 0xdc00)) ≡ n
 pair-back n h = omega arith
 
-read : (n : ℕ) (l : List ℕ) → isScalar n ≡ true → utf16First (utf16Of n ++ l) ≡ told (length (utf16Of n)) n
+read : (n : ℕ) (l : List ℕ) → isScalar n ≡ true
+    → utf16First (utf16Of n ++ l) ≡ told (length (utf16Of n)) n
 unfolding utf16First
 read n l s = by (size n)
   where
@@ -100,7 +103,8 @@ read n l s = by (size n)
     by : Size n → utf16First (utf16Of n ++ l) ≡ told (length (utf16Of n)) n
     by (one h) =
         from (toLe 2 n) (utf16-one n h)
-        (told-one (length (toLe 2 n ++ l)) (fromLe (toLe 2 n)) (unitAt l 0) n s (omega arith) (unit-back n h))
+        (told-one (length (toLe 2 n ++ l)) (fromLe (toLe 2 n)) (unitAt l 0) n s (omega arith)
+        (unit-back n h))
     by (two h) =
         let m = scalar-most n s in
         let hi = unit-back (highOf n) (omega arith) in
@@ -116,7 +120,8 @@ read n l s = by (size n)
 data Told (m u v : ℕ) : Char → Type 0 where
   none : Told m u v malformed
   one : 2 ≤ m → isHigh u ≡ false → isLow u ≡ false → Told m u v (told 2 u)
-  two : 4 ≤ m → isHigh u ≡ true → isLow v ≡ true → Told m u v (told 4 (0x10000 + ((u - 0xd800) * 1024 + (v - 0xdc00))))
+  two : 4 ≤ m → isHigh u ≡ true → isLow v ≡ true
+      → Told m u v (told 4 (0x10000 + ((u - 0xd800) * 1024 + (v - 0xdc00))))
 
 found : (m u v : ℕ) → Told m u v (charOf m u v)
 found m u v = by (ltb m 2) (isHigh u) (leb 4 m && isLow v) (isLow u) refl refl refl refl
@@ -124,7 +129,8 @@ found m u v = by (ltb m 2) (isHigh u) (leb 4 m && isLow v) (isLow u) refl refl r
     by : (p q r s : Bool) → ltb m 2 ≡ p → isHigh u ≡ q → (leb 4 m && isLow v) ≡ r → isLow u ≡ s
         → Told m u v
         (cond p malformed
-        (cond q (cond r (told 4 (0x10000 + ((u - 0xd800) * 1024 + (v - 0xdc00)))) malformed) (cond s malformed (told 2 u))))
+        (cond q (cond r (told 4 (0x10000 + ((u - 0xd800) * 1024 + (v - 0xdc00)))) malformed)
+        (cond s malformed (told 2 u))))
     by true q r s ep eq er es = none
     by false true true s ep eq er es =
         let b = and-eq-true-iff (leb 4 m) (isLow v) .0 er in
@@ -149,7 +155,8 @@ not-widened m u v h = by _ (found m u v)
     by : (x : Char) → Told m u v x → NotWidened x
     by x none p = absurd (omega (arith, p))
     by x (one q r s) p = omega (arith, at-most-three u h)
-    by x (two q r s) p = omega (arith, at-most-four (0x10000 + ((u - 0xd800) * 1024 + (v - 0xdc00))))
+    by x (two q r s) p =
+        omega (arith, at-most-four (0x10000 + ((u - 0xd800) * 1024 + (v - 0xdc00))))
 
 -- a unit that is no surrogate is a scalar value
 unit-scalar : (u : ℕ) → u < 0x10000 → isHigh u ≡ false → isLow u ≡ false → isScalar u ≡ true
@@ -190,8 +197,11 @@ back l o h p = by _ (found (length l) (unitAt l 0) (unitAt l 2)) p
     by : (x : Char) → Told (length l) (unitAt l 0) (unitAt l 2) x → 0 < x .width → Back l x
     by x none p = absurd (omega (arith, p))
     by x (one q r s) p =
-        let k : unitAt l 0 < 0x10000 = omega (arith, o 0, o 1) in
-        (unit-scalar (unitAt l 0) k r s, utf16-one (unitAt l 0) k ∙ first-two ∙ sym (part-written 2 0 l q))
+        let k : unitAt l 0 < 0x10000 = omega (arith, o 0, o 1) in (
+          unit-scalar (unitAt l 0) k r s,
+          utf16-one (unitAt l 0) k ∙ first-two
+              ∙ sym (part-written 2 0 l q),
+        )
     by x (two q r s) p =
         let k = pair-units (unitAt l 0) (unitAt l 2) r s in
         let n = 0x10000 + ((unitAt l 0 - 0xd800) * 1024 + (unitAt l 2 - 0xdc00)) in (

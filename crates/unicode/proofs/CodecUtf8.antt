@@ -86,7 +86,8 @@ tail-is : (n : ℕ) → isTail (tail n) ≡ true
 tail-is n = inside 0x80 0xbf (tail n) (omega arith) (omega arith)
 
 -- a value with its tails is told where it has no shorter form
-told-good : (w least : ℕ) {tails : Bool} {v n : ℕ} → tails ≡ true → v ≡ n → least ≤ n → isScalar n ≡ true
+told-good : (w least : ℕ) {tails : Bool} {v n : ℕ} → tails ≡ true → v ≡ n → least ≤ n
+    → isScalar n ≡ true
     → toldFrom w least tails v ≡ told w n
 told-good w least {tails} {v} {n} t e h s =
     ap₂ (λ (b : Bool) (x : ℕ). toldFrom w least b x) t e
@@ -104,35 +105,44 @@ value-four a b c d = a % 8 * 262144 + b % 64 * 4096 + c % 64 * 64 + d % 64
 
 -- by the range of the first octet
 module _ (a b c d : ℕ) (h : 0x80 ≤ a) where
-  pub from-two : between 0xc0 0xdf a ≡ true → charFrom a b c d ≡ toldFrom 2 0x80 (isTail b) (value-two a b)
+  pub from-two : between 0xc0 0xdf a ≡ true
+      → charFrom a b c d ≡ toldFrom 2 0x80 (isTail b) (value-two a b)
   from-two p = simp (le-ltb a 0x80 h, p)
 
   pub from-three : between 0xc0 0xdf a ≡ false → between 0xe0 0xef a ≡ true
       → charFrom a b c d ≡ toldFrom 3 0x800 (isTail b && isTail c) (value-three a b c)
   from-three p q = simp (le-ltb a 0x80 h, p, q)
 
-  pub from-four : between 0xc0 0xdf a ≡ false → between 0xe0 0xef a ≡ false → between 0xf0 0xf7 a ≡ true
-      → charFrom a b c d ≡ toldFrom 4 0x10000 (isTail b && (isTail c && isTail d)) (value-four a b c d)
+  pub from-four : between 0xc0 0xdf a ≡ false → between 0xe0 0xef a ≡ false
+      → between 0xf0 0xf7 a ≡ true
+      → charFrom a b c d ≡ toldFrom 4 0x10000 (isTail b && (isTail c && isTail d))
+      (value-four a b c d)
   from-four p q r = simp (le-ltb a 0x80 h, p, q, r)
 
-  pub from-none : between 0xc0 0xdf a ≡ false → between 0xe0 0xef a ≡ false → between 0xf0 0xf7 a ≡ false
+  pub from-none : between 0xc0 0xdf a ≡ false → between 0xe0 0xef a ≡ false
+      → between 0xf0 0xf7 a ≡ false
       → charFrom a b c d ≡ malformed
   from-none p q r = simp (le-ltb a 0x80 h, p, q, r)
 
 module _ (a b c d n : ℕ) (s : isScalar n ≡ true) where
-  told-two : 0xc0 ≤ a → a ≤ 0xdf → isTail b ≡ true → value-two a b ≡ n → 0x80 ≤ n → charFrom a b c d ≡ told 2 n
-  told-two h k t e m = from-two a b c d (omega arith) (inside 0xc0 0xdf a h k) ∙ told-good 2 0x80 t e m s
+  told-two : 0xc0 ≤ a → a ≤ 0xdf → isTail b ≡ true → value-two a b ≡ n → 0x80 ≤ n
+      → charFrom a b c d ≡ told 2 n
+  told-two h k t e m = from-two a b c d (omega arith) (inside 0xc0 0xdf a h k)
+      ∙ told-good 2 0x80 t e m s
 
-  told-three : 0xe0 ≤ a → a ≤ 0xef → isTail b ≡ true → isTail c ≡ true → value-three a b c ≡ n → 0x800 ≤ n
+  told-three : 0xe0 ≤ a → a ≤ 0xef → isTail b ≡ true → isTail c ≡ true → value-three a b c ≡ n
+      → 0x800 ≤ n
       → charFrom a b c d ≡ told 3 n
   told-three h k t u e m =
       from-three a b c d (omega arith) (above 0xc0 0xdf a (omega arith)) (inside 0xe0 0xef a h k)
       ∙ told-good 3 0x800 (ap₂ _&&_ t u) e m s
 
-  told-four : 0xf0 ≤ a → a ≤ 0xf7 → isTail b ≡ true → isTail c ≡ true → isTail d ≡ true → value-four a b c d ≡ n → 0x10000 ≤ n
+  told-four : 0xf0 ≤ a → a ≤ 0xf7 → isTail b ≡ true → isTail c ≡ true → isTail d ≡ true
+      → value-four a b c d ≡ n → 0x10000 ≤ n
       → charFrom a b c d ≡ told 4 n
   told-four h k t u v e m =
-      from-four a b c d (omega arith) (above 0xc0 0xdf a (omega arith)) (above 0xe0 0xef a (omega arith)) (inside 0xf0 0xf7 a h k)
+      from-four a b c d (omega arith) (above 0xc0 0xdf a (omega arith))
+      (above 0xe0 0xef a (omega arith)) (inside 0xf0 0xf7 a h k)
       ∙ told-good 4 0x10000 (ap₂ _&&_ t (ap₂ _&&_ u v)) e m s
 
 -- the bits of a value in four octets, joined again
@@ -145,20 +155,24 @@ six-bits n = omega arith
 low-bits : (n : ℕ) → n / 64 % 64 * 64 + n % 64 ≡ n % 4096
 low-bits n = omega arith
 
-high-bits : (n : ℕ) → n ≤ 0x10ffff → (0xf0 + n / 262144 % 8) % 8 * 262144 + n / 4096 % 64 * 4096 ≡ n / 4096 * 4096
+high-bits : (n : ℕ) → n ≤ 0x10ffff
+    → (0xf0 + n / 262144 % 8) % 8 * 262144 + n / 4096 % 64 * 4096 ≡ n / 4096 * 4096
 high-bits n h = omega arith
 
 all-bits : (n : ℕ) → n / 4096 * 4096 + n % 4096 ≡ n
 all-bits n = omega arith
 
-four-back : (n : ℕ) → n ≤ 0x10ffff → value-four (0xf0 + n / 262144 % 8) (tail (n / 4096)) (tail (n / 64)) (tail n) ≡ n
+four-back : (n : ℕ) → n ≤ 0x10ffff
+    → value-four (0xf0 + n / 262144 % 8) (tail (n / 4096)) (tail (n / 64)) (tail n) ≡ n
 four-back n h =
     simp six-bits
     (sum-four
-    ((0xf0 + n / 262144 % 8) % 8 * 262144) (n / 4096 % 64 * 4096) (n / 64 % 64 * 64) (n % 64) (n / 4096 * 4096) (n % 4096)
+    ((0xf0 + n / 262144 % 8) % 8 * 262144) (n / 4096 % 64 * 4096) (n / 64 % 64 * 64) (n % 64)
+    (n / 4096 * 4096) (n % 4096)
     (high-bits n h) (low-bits n) (all-bits n))
 
-read : (n : ℕ) (l : List ℕ) → isScalar n ≡ true → utf8First (utf8Of n ++ l) ≡ told (length (utf8Of n)) n
+read : (n : ℕ) (l : List ℕ) → isScalar n ≡ true
+    → utf8First (utf8Of n ++ l) ≡ told (length (utf8Of n)) n
 unfolding utf8First
 read n l s = by (size n)
   where
@@ -178,9 +192,11 @@ read n l s = by (size n)
         (omega arith) (omega arith) (tail-is (n / 64)) (tail-is n) (omega arith) h)
     by (four h) =
         let m = scalar-most n s in
-        from ((0xf0 + n / 262144 % 8) ∷ tail (n / 4096) ∷ tail (n / 64) ∷ tail n ∷ []) (utf8-four n h)
+        from ((0xf0 + n / 262144 % 8) ∷ tail (n / 4096) ∷ tail (n / 64) ∷ tail n ∷ [])
+        (utf8-four n h)
         (told-four (0xf0 + n / 262144 % 8) (tail (n / 4096)) (tail (n / 64)) (tail n) n s
-        (omega arith) (omega arith) (tail-is (n / 4096)) (tail-is (n / 64)) (tail-is n) (four-back n m) h)
+        (omega arith) (omega arith) (tail-is (n / 4096)) (tail-is (n / 64)) (tail-is n)
+        (four-back n m) h)
 
 -- ---- and only from them
 
@@ -188,19 +204,24 @@ read n l s = by (size n)
 data Told (a b c d : ℕ) : Char → Type 0 where
   none : Told a b c d malformed
   one : a < 0x80 → Told a b c d (told 1 a)
-  two : 0xc0 ≤ a → a ≤ 0xdf → isTail b ≡ true → 0x80 ≤ value-two a b → isScalar (value-two a b) ≡ true
+  two : 0xc0 ≤ a → a ≤ 0xdf → isTail b ≡ true → 0x80 ≤ value-two a b
+      → isScalar (value-two a b) ≡ true
       → Told a b c d (told 2 (value-two a b))
-  three : 0xe0 ≤ a → a ≤ 0xef → isTail b ≡ true → isTail c ≡ true → 0x800 ≤ value-three a b c → isScalar (value-three a b c) ≡ true
+  three : 0xe0 ≤ a → a ≤ 0xef → isTail b ≡ true → isTail c ≡ true → 0x800 ≤ value-three a b c
+      → isScalar (value-three a b c) ≡ true
       → Told a b c d (told 3 (value-three a b c))
-  four : 0xf0 ≤ a → a ≤ 0xf7 → isTail b ≡ true → isTail c ≡ true → isTail d ≡ true → 0x10000 ≤ value-four a b c d
+  four : 0xf0 ≤ a → a ≤ 0xf7 → isTail b ≡ true → isTail c ≡ true → isTail d ≡ true
+      → 0x10000 ≤ value-four a b c d
       → isScalar (value-four a b c d) ≡ true → Told a b c d (told 4 (value-four a b c d))
 
 module _ (a b c d : ℕ) where
-  from : (w least : ℕ) (tails : Bool) (v : ℕ) → (tails ≡ true → least ≤ v → isScalar v ≡ true → Told a b c d (told w v))
+  from : (w least : ℕ) (tails : Bool) (v : ℕ)
+      → (tails ≡ true → least ≤ v → isScalar v ≡ true → Told a b c d (told w v))
       → Told a b c d (toldFrom w least tails v)
   from w least tails v good = which (tails && (leb least v && isScalar v)) refl
     where
-      which : (t : Bool) → (tails && (leb least v && isScalar v)) ≡ t → Told a b c d (cond t (told w v) malformed)
+      which : (t : Bool) → (tails && (leb least v && isScalar v)) ≡ t
+          → Told a b c d (cond t (told w v) malformed)
       which true e =
           let p = and-eq-true-iff tails (leb least v && isScalar v) .0 e in
           let q = and-eq-true-iff (leb least v) (isScalar v) .0 (p .1) in
@@ -208,14 +229,17 @@ module _ (a b c d : ℕ) where
       which false e = none
 
   found : Told a b c d (charFrom a b c d)
-  found = by (ltb a 0x80) (between 0xc0 0xdf a) (between 0xe0 0xef a) (between 0xf0 0xf7 a) refl refl refl refl
+  found = by (ltb a 0x80) (between 0xc0 0xdf a) (between 0xe0 0xef a)
+      (between 0xf0 0xf7 a) refl refl refl refl
     where
-      by : (p q r s : Bool) → ltb a 0x80 ≡ p → between 0xc0 0xdf a ≡ q → between 0xe0 0xef a ≡ r → between 0xf0 0xf7 a ≡ s
+      by : (p q r s : Bool) → ltb a 0x80 ≡ p → between 0xc0 0xdf a ≡ q → between 0xe0 0xef a ≡ r
+          → between 0xf0 0xf7 a ≡ s
           → Told a b c d
           (cond p (told 1 a)
           (cond q (toldFrom 2 0x80 (isTail b) (value-two a b))
           (cond r (toldFrom 3 0x800 (isTail b && isTail c) (value-three a b c))
-          (cond s (toldFrom 4 0x10000 (isTail b && (isTail c && isTail d)) (value-four a b c d)) malformed))))
+          (cond s (toldFrom 4 0x10000 (isTail b && (isTail c && isTail d)) (value-four a b c d))
+          malformed))))
       by true q r s ep eq er es = one (ltb-true a 0x80 ep)
       by false true r s ep eq er es =
           let k = between-both 0xc0 0xdf a eq in
@@ -223,7 +247,8 @@ module _ (a b c d : ℕ) where
       by false false true s ep eq er es =
           let k = between-both 0xe0 0xef a er in
           from 3 0x800 (isTail b && isTail c) (value-three a b c)
-          (λ t m u. let ts = and-eq-true-iff (isTail b) (isTail c) .0 t in three (k .0) (k .1) (ts .0) (ts .1) m u)
+          (λ t m u. let ts = and-eq-true-iff (isTail b) (isTail c) .0 t in
+          three (k .0) (k .1) (ts .0) (ts .1) m u)
       by false false false true ep eq er es =
           let k = between-both 0xf0 0xf7 a es in
           from 4 0x10000 (isTail b && (isTail c && isTail d)) (value-four a b c d)
@@ -261,24 +286,28 @@ tail-back : {b : ℕ} (n : ℕ) → isTail b ≡ true → n % 64 ≡ b % 64 → 
 tail-back {b} n t e = let r = between-both 0x80 0xbf b t in omega arith
 
 -- the octets of the value are those that told it
-two-back : (a b : ℕ) → 0xc0 ≤ a → a ≤ 0xdf → isTail b ≡ true → 0x80 ≤ value-two a b → utf8Of (value-two a b) ≡ a ∷ b ∷ []
+two-back : (a b : ℕ) → 0xc0 ≤ a → a ≤ 0xdf → isTail b ≡ true → 0x80 ≤ value-two a b
+    → utf8Of (value-two a b) ≡ a ∷ b ∷ []
 two-back a b h k t m =
     let v = value-two a b in
     utf8-two v m (omega arith)
     ∙ ap₂ (λ (x y : ℕ). x ∷ y ∷ []) (omega arith) (tail-back v t (omega arith))
 
-three-back : (a b c : ℕ) → 0xe0 ≤ a → a ≤ 0xef → isTail b ≡ true → isTail c ≡ true → 0x800 ≤ value-three a b c
+three-back : (a b c : ℕ) → 0xe0 ≤ a → a ≤ 0xef → isTail b ≡ true → isTail c ≡ true
+    → 0x800 ≤ value-three a b c
     → utf8Of (value-three a b c) ≡ a ∷ b ∷ c ∷ []
 three-back a b c h k t u m =
     let v = value-three a b c in
     utf8-three v m (omega arith)
     ∙ ap₂ (λ (x : ℕ) (l : List ℕ). x ∷ l) (omega arith)
-    (ap₂ (λ (x y : ℕ). x ∷ y ∷ []) (tail-back (v / 64) t (omega arith)) (tail-back v u (omega arith)))
+    (ap₂ (λ (x y : ℕ). x ∷ y ∷ []) (tail-back (v / 64) t (omega arith))
+    (tail-back v u (omega arith)))
 
 lead-back : (a : ℕ) → 0xf0 ≤ a → a ≤ 0xf7 → (n : ℕ) → n ≡ a % 8 → 0xf0 + n % 8 ≡ a
 lead-back a h k n e = omega arith
 
-four-octets : (a b c d : ℕ) → 0xf0 ≤ a → a ≤ 0xf7 → isTail b ≡ true → isTail c ≡ true → isTail d ≡ true → 0x10000 ≤ value-four a b c d
+four-octets : (a b c d : ℕ) → 0xf0 ≤ a → a ≤ 0xf7 → isTail b ≡ true → isTail c ≡ true
+    → isTail d ≡ true → 0x10000 ≤ value-four a b c d
     → utf8Of (value-four a b c d) ≡ a ∷ b ∷ c ∷ d ∷ []
 four-octets a b c d h k t u w m =
     let v = value-four a b c d in
@@ -286,16 +315,20 @@ four-octets a b c d h k t u w m =
     let q : c % 64 < 64 = omega arith in
     let r : d % 64 < 64 = omega arith in
     utf8-four v m
-    ∙ ap₂ (λ (x : ℕ) (l : List ℕ). x ∷ l) (lead-back a h k (v / 262144) (group-one (a % 8) (b % 64) (c % 64) (d % 64) p q r))
-    (ap₂ (λ (x : ℕ) (l : List ℕ). x ∷ l) (tail-back (v / 4096) t (group-two (a % 8) (b % 64) (c % 64) (d % 64) p q r))
-    (ap₂ (λ (x y : ℕ). x ∷ y ∷ []) (tail-back (v / 64) u (group-three (a % 8) (b % 64) (c % 64) (d % 64) p q r))
+    ∙ ap₂ (λ (x : ℕ) (l : List ℕ). x ∷ l)
+    (lead-back a h k (v / 262144) (group-one (a % 8) (b % 64) (c % 64) (d % 64) p q r))
+    (ap₂ (λ (x : ℕ) (l : List ℕ). x ∷ l)
+    (tail-back (v / 4096) t (group-two (a % 8) (b % 64) (c % 64) (d % 64) p q r))
+    (ap₂ (λ (x y : ℕ). x ∷ y ∷ [])
+    (tail-back (v / 64) u (group-three (a % 8) (b % 64) (c % 64) (d % 64) p q r))
     (tail-back v w (group-four (a % 8) (b % 64) (c % 64) (d % 64) p q r))))
 
 fits : (l : List ℕ) → 0 < length l → utf8First l .width ≤ length l
 unfolding utf8First
 fits l h = by _ (found (getD l 0 0) (getD l 1 0) (getD l 2 0) (getD l 3 0))
   where
-    by : (x : Char) → Told (getD l 0 0) (getD l 1 0) (getD l 2 0) (getD l 3 0) x → x .width ≤ length l
+    by : (x : Char) → Told (getD l 0 0) (getD l 1 0) (getD l 2 0) (getD l 3 0) x
+        → x .width ≤ length l
     by x none = omega arith
     by x (one p) = h
     by x (two p q t m s) = present l 1 t
@@ -309,15 +342,26 @@ back : (l : List ℕ) → Unit {0} → 0 < length l → 0 < utf8First l .width �
 unfolding utf8First
 back l o h p = by _ (found (getD l 0 0) (getD l 1 0) (getD l 2 0) (getD l 3 0)) p
   where
-    by : (x : Char) → Told (getD l 0 0) (getD l 1 0) (getD l 2 0) (getD l 3 0) x → 0 < x .width → Back l x
+    by : (x : Char) → Told (getD l 0 0) (getD l 1 0) (getD l 2 0) (getD l 3 0) x → 0 < x .width
+        → Back l x
     by x none p = absurd (omega (arith, p))
-    by x (one q) p = (scalar-low (getD l 0 0) (omega arith), utf8-one (getD l 0 0) q ∙ sym (part-written 1 0 l h))
+    by x (one q) p = (
+      scalar-low (getD l 0 0) (omega arith),
+      utf8-one (getD l 0 0) q
+          ∙ sym (part-written 1 0 l h),
+    )
     by x (two q r t m s) p =
         (s, two-back (getD l 0 0) (getD l 1 0) q r t m ∙ sym (part-written 2 0 l (present l 1 t)))
-    by x (three q r t u m s) p =
-        (s, three-back (getD l 0 0) (getD l 1 0) (getD l 2 0) q r t u m ∙ sym (part-written 3 0 l (present l 2 u)))
-    by x (four q r t u v m s) p =
-        (s, four-octets (getD l 0 0) (getD l 1 0) (getD l 2 0) (getD l 3 0) q r t u v m ∙ sym (part-written 4 0 l (present l 3 v)))
+    by x (three q r t u m s) p = (
+      s,
+      three-back (getD l 0 0) (getD l 1 0) (getD l 2 0) q r t u m
+          ∙ sym (part-written 3 0 l (present l 2 u)),
+    )
+    by x (four q r t u v m s) p = (
+      s,
+      four-octets (getD l 0 0) (getD l 1 0) (getD l 2 0) (getD l 3 0) q r t u v m
+          ∙ sym (part-written 4 0 l (present l 3 v)),
+    )
 
 -- every list will do: only octets pass the tests
 pub utf8-codec : Codec (λ l. Unit {0}) utf8First utf8Of

@@ -3,14 +3,14 @@
 -- the password of a password's text that password.
 -- Assumes nothing.
 use mathlib.Core.Bool.{Bool, true, false, cond}
-use mathlib.Core.List.{List, [], _∷_, _++_}
+use mathlib.Core.List.{List, [], _∷_}
 use mathlib.Core.Option.{Option, none, some}
-use mathlib.Core.Path.{_≡_, refl, sym, ap, ap₂, _∙_, subst}
+use mathlib.Core.Path.{_≡_, refl, sym, ap, _∙_, subst}
 use Prim.Native.Nat.{ℕ, _+_, _*_, _/_, _%_, _≤_}
 use native.Mathlib.Omega.{arith}
 use borrow.Author.Tests.{ltb-false}
 use lib.Dec.{ltb}
-use lib.ListN.{length, take, length-append}
+use lib.ListN.{length, length-append}
 use Rattle.octets.specs.Parts.{fixed}
 use Rattle.octets.proofs.Numbers.{Octets}
 use Rattle.unicode.specs.declared.Char.{Char}
@@ -19,10 +19,13 @@ use Rattle.unicode.specs.declared.Text.{Text}
 use Rattle.unicode.specs.Scalars.{encoded, decoded, encodedIf, recoded}
 use Rattle.unicode.specs.Utf8.{utf8Of, utf8First, utf8Encoded, utf8Decoded}
 use Rattle.unicode.specs.Utf16.{utf16Of, utf16First, utf16Encoded, utf16Decoded}
-use Rattle.unicode.specs.Password.{passwordMax, textMax, malformedRefusal, longRefusal, refusedPassword, passwordFor, passwordOf, passwordIn, refusedText, textFor, textOf, textIn}
+use Rattle.unicode.specs.Password.{passwordMax, textMax, longRefusal}
+use Rattle.unicode.specs.Password.{refusedPassword, passwordFor, passwordOf, passwordIn}
+use Rattle.unicode.specs.Password.{textFor, textOf, textIn}
 use Rattle.unicode.proofs.Texts.{Scalars, Codec, decode-encoded, encode-decoded}
 use Rattle.unicode.proofs.CodecUtf8.{utf8-codec, at-most-three, at-most-four}
-use Rattle.unicode.proofs.CodecUtf16.{utf16-codec, utf16-one, utf16-two, Size, one, two, size}
+use Rattle.unicode.proofs.CodecUtf16.{utf16-codec, utf16-one, utf16-two}
+use Rattle.unicode.proofs.CodecUtf16.{Size, one, two, size}
 use Rattle.unicode.proofs.Converting.{held, password-good, text-good}
 
 -- ---- each encoding by itself
@@ -30,13 +33,15 @@ use Rattle.unicode.proofs.Converting.{held, password-good, text-good}
 pub utf8-decode-encoded : (vs : List ℕ) → Scalars vs → utf8Decoded (utf8Encoded vs) ≡ some vs
 utf8-decode-encoded vs s = decode-encoded utf8-codec vs s
 
-pub utf8-encode-decoded : (l vs : List ℕ) → utf8Decoded l ≡ some vs → (utf8Encoded vs ≡ l) × Scalars vs
+pub utf8-encode-decoded : (l vs : List ℕ) → utf8Decoded l ≡ some vs
+    → (utf8Encoded vs ≡ l) × Scalars vs
 utf8-encode-decoded l vs e = encode-decoded utf8-codec l vs tt e
 
 pub utf16-decode-encoded : (vs : List ℕ) → Scalars vs → utf16Decoded (utf16Encoded vs) ≡ some vs
 utf16-decode-encoded vs s = decode-encoded utf16-codec vs s
 
-pub utf16-encode-decoded : (l vs : List ℕ) → Octets l → utf16Decoded l ≡ some vs → (utf16Encoded vs ≡ l) × Scalars vs
+pub utf16-encode-decoded : (l vs : List ℕ) → Octets l → utf16Decoded l ≡ some vs
+    → (utf16Encoded vs ≡ l) × Scalars vs
 utf16-encode-decoded l vs o e = encode-decoded utf16-codec l vs o e
 
 -- ---- from one to the other and back
@@ -47,24 +52,30 @@ record Between (first : List ℕ → Char) (code : ℕ → List ℕ) (from to : 
   read : decoded first from ≡ some text
   same : encoded code text ≡ to
 
-between : (first : List ℕ → Char) (code : ℕ → List ℕ) (from to : List ℕ) → recoded first code from ≡ some to → Between first code from to
+between : (first : List ℕ → Char) (code : ℕ → List ℕ) (from to : List ℕ)
+    → recoded first code from ≡ some to → Between first code from to
 between first code from to e = by (decoded first from) refl e
   where
-    by : (d : Option (List ℕ)) → decoded first from ≡ d → encodedIf code d ≡ some to → Between first code from to
+    by : (d : Option (List ℕ)) → decoded first from ≡ d → encodedIf code d ≡ some to
+        → Between first code from to
     by none p q = let z : _≡_ {A = ℕ} 0 1 = cc in absurd (omega (arith, z))
     by (some vs) p q = record { text = vs; read = p; same = cc }
 
-recoded-back : {Fit Fit' : List ℕ → Type 0} {first first' : List ℕ → Char} {code code' : ℕ → List ℕ} → Codec Fit first code → Codec Fit' first' code' → (from to : List ℕ) → Fit from
+recoded-back : {Fit Fit' : List ℕ → Type 0} {first first' : List ℕ → Char}
+    {code code' : ℕ → List ℕ} → Codec Fit first code → Codec Fit' first' code'
+    → (from to : List ℕ) → Fit from
     → recoded first code' from ≡ some to → recoded first' code to ≡ some from
 recoded-back {first = first} {first' = first'} {code = code} {code' = code'} a b from to o e =
     let m = between first code' from to e in
     let k = encode-decoded a from (m .text) o (m .read) in
-    ap (recoded first' code) (sym (m .same)) ∙ ap (encodedIf code) (decode-encoded b (m .text) (k .1)) ∙ ap some (k .0)
+    ap (recoded first' code) (sym (m .same))
+    ∙ ap (encodedIf code) (decode-encoded b (m .text) (k .1)) ∙ ap some (k .0)
 
 -- ---- sizes
 
 -- at most three octets in UTF-8 for two in UTF-16, of a character and of a text
-char-size : (n : ℕ) → (2 * length (utf8Of n) ≤ 3 * length (utf16Of n)) × (length (utf16Of n) % 2 ≡ 0)
+char-size : (n : ℕ) → (2 * length (utf8Of n) ≤ 3 * length (utf16Of n))
+    × (length (utf16Of n) % 2 ≡ 0)
 char-size n = by (size n)
   where
     by : Size n → (2 * length (utf8Of n) ≤ 3 * length (utf16Of n)) × (length (utf16Of n) % 2 ≡ 0)
@@ -81,7 +92,8 @@ even-sum a b p q =
     double : (n : ℕ) → 2 * n % 2 ≡ 0
     double n = omega arith
 
-text-size : (vs : List ℕ) → (2 * length (utf8Encoded vs) ≤ 3 * length (utf16Encoded vs)) × (length (utf16Encoded vs) % 2 ≡ 0)
+text-size : (vs : List ℕ) → (2 * length (utf8Encoded vs) ≤ 3 * length (utf16Encoded vs))
+    × (length (utf16Encoded vs) % 2 ≡ 0)
 unfolding encoded
 text-size [] = omega arith
 text-size (v ∷ vs) =
@@ -89,7 +101,8 @@ text-size (v ∷ vs) =
     let t = text-size vs in
     let e = length-append (utf16Of v) (encoded utf16Of vs) in (
       omega (arith, h .0, t .0, length-append (utf8Of v) (encoded utf8Of vs), e),
-      ap (λ (n : ℕ). n % 2) e ∙ even-sum (length (utf16Of v)) (length (encoded utf16Of vs)) (h .1) (t .1),
+      ap (λ (n : ℕ). n % 2) e
+          ∙ even-sum (length (utf16Of v)) (length (encoded utf16Of vs)) (h .1) (t .1),
     )
 
 -- ---- the answers
@@ -105,7 +118,8 @@ given none e = absurd (omega (arith, e))
 given (some l) e = by (ltb passwordMax (length l)) refl e
   where
     by : (t : Bool) → ltb passwordMax (length l) ≡ t
-        → cond {A = Password} t (refusedPassword longRefusal) (record { refusal = 0; size = length l; octets = fixed passwordMax l }) .refusal ≡ 0
+        → cond {A = Password} t (refusedPassword longRefusal)
+        (record { refusal = 0; size = length l; octets = fixed passwordMax l }) .refusal ≡ 0
         → Given (some l)
     by true p q = absurd (omega (arith, q))
     by false p q = record { octets = l; same = refl; fits = ltb-false passwordMax (length l) p }
@@ -136,17 +150,20 @@ unfolding textOf
 text-is p l e h = ap (textFor (ltb passwordMax (length p))) e ∙ sym (text-good (length p) l h)
 
 -- the octets that the two answers hold
-password-held : (t l : List ℕ) → recoded utf8First utf16Of t ≡ some l → length l ≤ passwordMax → passwordIn (passwordOf t) ≡ l
+password-held : (t l : List ℕ) → recoded utf8First utf16Of t ≡ some l → length l ≤ passwordMax
+    → passwordIn (passwordOf t) ≡ l
 password-held t l e h = ap passwordIn (password-is t l e h) ∙ held passwordMax l h
 
-text-held : (p l : List ℕ) → recoded utf16First utf8Of p ≡ some l → length p ≤ passwordMax → length l ≤ textMax → textIn (textOf p) ≡ l
+text-held : (p l : List ℕ) → recoded utf16First utf8Of p ≡ some l → length p ≤ passwordMax
+    → length l ≤ textMax → textIn (textOf p) ≡ l
 text-held p l e h k = ap textIn (text-is p l e h) ∙ held textMax l k
 
 -- ---- the laws
 
 -- what a user typed is shown again
 pub text-back : (t : List ℕ) → passwordOf t .refusal ≡ 0
-    → (textOf (passwordIn (passwordOf t)) .refusal ≡ 0) × (textIn (textOf (passwordIn (passwordOf t))) ≡ t)
+    → (textOf (passwordIn (passwordOf t)) .refusal ≡ 0)
+    × (textIn (textOf (passwordIn (passwordOf t))) ≡ t)
 unfolding passwordOf
 text-back t e =
     let g = given (recoded utf8First utf16Of t) e in
@@ -157,13 +174,15 @@ text-back t e =
     let i = password-held t l (g .same) (g .fits) in
     let long : length t ≤ textMax =
     omega (arith, text-size (m .text) .0, ap length (m .same), ap length (k .0), g .fits) in (
-      ap (λ (x : List ℕ). textOf x .refusal) i ∙ ap (λ (x : Text). x .refusal) (text-is l t b (g .fits)),
+      ap (λ (x : List ℕ). textOf x .refusal) i
+          ∙ ap (λ (x : Text). x .refusal) (text-is l t b (g .fits)),
       ap (λ (x : List ℕ). textIn (textOf x)) i ∙ text-held l t b (g .fits) long,
     )
 
 -- a password that is shown and typed is the same
 pub password-back : (p : List ℕ) → Octets p → textOf p .refusal ≡ 0
-    → (passwordOf (textIn (textOf p)) .refusal ≡ 0) × (passwordIn (passwordOf (textIn (textOf p))) ≡ p)
+    → (passwordOf (textIn (textOf p)) .refusal ≡ 0)
+    × (passwordIn (passwordOf (textIn (textOf p))) ≡ p)
 unfolding textOf
 password-back p o e =
     let g = shown (length p) (recoded utf16First utf8Of p) e in
@@ -174,16 +193,19 @@ password-back p o e =
     let long : length l ≤ textMax =
     omega (arith, text-size (m .text) .0, ap length (m .same), ap length (k .0), g .fits) in
     let i = text-held p l (g .same) (g .fits) long in (
-      ap (λ (x : List ℕ). passwordOf x .refusal) i ∙ ap (λ (x : Password). x .refusal) (password-is l p b (g .fits)),
+      ap (λ (x : List ℕ). passwordOf x .refusal) i
+          ∙ ap (λ (x : Password). x .refusal) (password-is l p b (g .fits)),
       ap (λ (x : List ℕ). passwordIn (passwordOf x)) i ∙ password-held l p b (g .fits),
     )
 
 -- the password of a text has the length of an NT password
 pub password-size : (t : List ℕ) → passwordOf t .refusal ≡ 0
-    → (length (passwordIn (passwordOf t)) ≤ passwordMax) × (length (passwordIn (passwordOf t)) % 2 ≡ 0)
+    → (length (passwordIn (passwordOf t)) ≤ passwordMax)
+    × (length (passwordIn (passwordOf t)) % 2 ≡ 0)
 unfolding passwordOf
 password-size t e =
     let g = given (recoded utf8First utf16Of t) e in
     let m = between utf8First utf16Of t (g .octets) (g .same) in
-    subst (λ (x : List ℕ). (length x ≤ passwordMax) × (length x % 2 ≡ 0)) (sym (password-held t (g .octets) (g .same) (g .fits)))
+    subst (λ (x : List ℕ). (length x ≤ passwordMax) × (length x % 2 ≡ 0))
+    (sym (password-held t (g .octets) (g .same) (g .fits)))
     (g .fits, ap (λ (x : List ℕ). length x % 2) (sym (m .same)) ∙ text-size (m .text) .1)

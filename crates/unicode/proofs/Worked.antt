@@ -1,9 +1,8 @@
 -- Fixed octets, against slips that both ways could make alike, so that no round trip would show
 -- them, and against malformed input.
 -- Assumes nothing.
-use mathlib.Core.List.{List, [], _∷_, _++_, map}
+use mathlib.Core.List.{[], _∷_, _++_, map}
 use mathlib.Core.Path.{_≡_, refl}
-use Prim.Native.Nat.{ℕ}
 use lib.ListN.{replicate}
 use Rattle.octets.specs.Parts.{over}
 use Rattle.unicode.specs.Scalars.{encoded, decodedFrom}

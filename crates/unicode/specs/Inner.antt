@@ -1,6 +1,6 @@
 -- What the code's parts tell beside their answers. Only contracts of private functions cite this.
 -- Assumes nothing: these are definitions.
-use Prim.Native.Nat.{ℕ, _*_, _≤_, _<_}
+use Prim.Native.Nat.{_*_, _≤_, _<_}
 use lib.ListN.{length}
 use Rattle.unicode.specs.declared.Char.{Char}
 use Rattle.unicode.specs.Utf8.{utf8Of}

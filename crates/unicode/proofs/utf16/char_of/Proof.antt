@@ -12,26 +12,32 @@ use borrow.Author.Needs.{needs}
 use Rattle.unicode.proofs.utf16.char_of.Statement.{statement}
 use Rattle.unicode.proofs.utf16.char_of.Tie as tie
 
--- behind the tests of a pair: the first unit is a high surrogate
-high-tested : (c : tie.After-both) → isHigh (c .before .before .before .before .before .args .unit) ≡ true
+-- the start, from behind the tests of a pair
+abbrev start : tie.After-both → tie.Start
+start c = c .before .before .before .before .before
+
+-- the first unit is a high surrogate
+high-tested : (c : tie.After-both) → isHigh (start c .args .unit) ≡ true
 high-tested c = sym (c .before .before .before .is-high .ensures) ∙ c .before .before .if2 .taken
 
 -- and what is found of the second
 pair : (c : tie.After-both)
-    → (leb 4 (c .before .before .before .before .before .args .n) && isLow (c .before .before .before .before .before .args .next))
-    ≡ c .both .result
+    → (leb 4 (start c .args .n) && isLow (start c .args .next)) ≡ c .both .result
 pair c =
-    sym (c .both .ensures ∙ ap (λ (x : Bool). leb 4 (c .before .before .before .before .before .args .n) && x) (c .before .is-low .ensures))
+    sym (
+    c .both .ensures ∙ ap (λ (x : Bool). leb 4 (start c .args .n) && x) (c .before .is-low .ensures)
+    )
 
-high : (c : tie.Then3) → (0xd800 ≤ c .before .before .before .before .before .before .args .unit)
-    × (c .before .before .before .before .before .before .args .unit ≤ 0xdbff)
-high c = between-both 0xd800 0xdbff (c .before .before .before .before .before .before .args .unit) (high-tested (c .before))
+high : (c : tie.Then3)
+    → (0xd800 ≤ start (c .before) .args .unit) × (start (c .before) .args .unit ≤ 0xdbff)
+high c = between-both 0xd800 0xdbff (start (c .before) .args .unit) (high-tested (c .before))
 
-low : (c : tie.Then3) → (0xdc00 ≤ c .before .before .before .before .before .before .args .next)
-    × (c .before .before .before .before .before .before .args .next ≤ 0xdfff)
+low : (c : tie.Then3)
+    → (0xdc00 ≤ start (c .before) .args .next) × (start (c .before) .args .next ≤ 0xdfff)
 low c =
-    let a = c .before .before .before .before .before .before .args in
-    between-both 0xdc00 0xdfff (a .next) (and-eq-true-iff (leb 4 (a .n)) (isLow (a .next)) .0 (pair (c .before) ∙ c .if3 .taken) .1)
+    let a = start (c .before) .args in
+    between-both 0xdc00 0xdfff (a .next)
+    (and-eq-true-iff (leb 4 (a .n)) (isLow (a .next)) .0 (pair (c .before) ∙ c .if3 .taken) .1)
 
 returns : tie.Need-returns
 returns c = simp (lt-ltb _ _ (c .if1 .taken))
@@ -52,10 +58,22 @@ add-t13 : tie.Need-add-t13
 add-t13 c = let h = high c in let l = low c in omega arith
 
 returns-2 : tie.Need-returns-2
-returns-2 c = simp (le-ltb _ _ (c .before .before .before .before .before .if1 .left), high-tested (c .before), pair (c .before) ∙ c .if3 .taken)
+returns-2 c =
+    simp (
+      le-ltb _ _ (c .before .before .before .before .before .if1 .left),
+      high-tested
+          (c .before),
+      pair (c .before) ∙ c .if3 .taken,
+    )
 
 returns-3 : tie.Need-returns-3
-returns-3 c = simp (le-ltb _ _ (c .before .before .before .before .before .if1 .left), high-tested (c .before), pair (c .before) ∙ c .if3 .left)
+returns-3 c =
+    simp (
+      le-ltb _ _ (c .before .before .before .before .before .if1 .left),
+      high-tested
+          (c .before),
+      pair (c .before) ∙ c .if3 .left,
+    )
 
 returns-4 : tie.Need-returns-4
 returns-4 c =

@@ -18,9 +18,11 @@ returns c =
     let u = v .before in
     let s = u .before .before .args .s .now in (
       c .char-of .ensures
-          ∙ ap₂ (λ (x y : ℕ). charOf (length s) x y) (u .unit-at .ensures .0) (v .unit-at2 .ensures .0),
+          ∙ ap₂ (λ (x y : ℕ). charOf (length s) x y) (u .unit-at .ensures .0)
+          (v .unit-at2 .ensures .0),
       subst (λ (x : Char). NotWidened x) (sym (c .char-of .ensures))
-          (not-widened (length s) (u .unit-at .result) (v .unit-at2 .result) (u .unit-at .ensures .1)),
+          (not-widened (length s) (u .unit-at .result) (v .unit-at2 .result)
+          (u .unit-at .ensures .1)),
     )
 
 pub first-spec : {M : Type 1} → statement M

@@ -1,7 +1,5 @@
 -- `unicode::utf16::unit_at` meets its contract.
 -- Assumes nothing.
-use mathlib.Core.Path.{ap₂, _∙_}
-use Prim.Native.Nat.{ℕ, _+_, _*_}
 use native.Mathlib.Omega.{arith}
 use borrow.Author.Needs.{needs}
 use Rattle.unicode.proofs.utf16.unit_at.Statement.{statement}

@@ -5,7 +5,8 @@ use mathlib.Core.Path.{sym, ap, ap₂, _∙_}
 use borrow.Author.Needs.{needs}
 use borrow.Author.Tests.{lt-ltb}
 use Rattle.unicode.specs.Utf8.{toldFrom}
-use Rattle.unicode.proofs.CodecUtf8.{value-two, value-three, value-four, from-two, from-three, from-four, from-none}
+use Rattle.unicode.proofs.CodecUtf8.{value-two, value-three, value-four, from-two}
+use Rattle.unicode.proofs.CodecUtf8.{from-three, from-four, from-none}
 use Rattle.unicode.proofs.utf8.char_from.Statement.{statement}
 use Rattle.unicode.proofs.utf8.char_from.Tie as tie
 
