@@ -5,10 +5,27 @@ use crate::both;
 use crate::is_between;
 use crate::octet_at;
 ghost use mathlib.Core.Path.{_≡_};
+ghost use mathlib.Core.List.{_++_};
 ghost use Prim.Native.Nat.{_<_};
+ghost use Rattle.octets.specs.Numbers.{toLe};
 ghost use Rattle.unicode.specs.Scalars.{encodingOf, wellFormed};
 ghost use Rattle.unicode.specs.Utf16.{utf16Of, isHigh, isLow, unitAt, charOf, utf16First};
 ghost use Rattle.unicode.specs.Inner.{NotWidened};
+
+// Two units, one behind the other.
+fn pair(high: u32, low: u32) -> Encoding
+    ensures { λ r. ⌜ r ≡ encodingOf (toLe 2 high ++ toLe 2 low) ⌝ }
+{
+    Encoding {
+        size: 4,
+        octets: [
+            (high % 256) as u8,
+            (high / 256 % 256) as u8,
+            (low % 256) as u8,
+            (low / 256 % 256) as u8,
+        ],
+    }
+}
 
 // Section 2.1.
 pub(crate) fn encode(n: u32) -> Encoding
@@ -20,17 +37,9 @@ pub(crate) fn encode(n: u32) -> Encoding
             octets: [(n % 256) as u8, (n / 256 % 256) as u8, 0, 0],
         };
     }
-    let high = 0xd800 + (n - 0x10000) / 1024;
-    let low = 0xdc00 + (n - 0x10000) % 1024;
-    Encoding {
-        size: 4,
-        octets: [
-            (high % 256) as u8,
-            (high / 256 % 256) as u8,
-            (low % 256) as u8,
-            (low / 256 % 256) as u8,
-        ],
-    }
+    let high = (n - 0x10000) / 1024;
+    let low = (n - 0x10000) % 1024;
+    pair(0xd800 + high, 0xdc00 + low)
 }
 
 // The unit from a place on; a missing octet counts as 0.
