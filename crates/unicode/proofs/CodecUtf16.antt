@@ -14,8 +14,8 @@ use Rattle.octets.specs.Numbers.{fromLe, toLe}
 use Rattle.octets.proofs.Listed.{part-written}
 use Rattle.octets.proofs.Numbers.{Octets}
 use Rattle.unicode.specs.declared.Char.{Char}
-use Rattle.unicode.specs.Scalars.{isScalar, told, malformed}
-use Rattle.unicode.specs.Utf16.{highOf, lowOf, utf16Of, isHigh, isLow, charOf, unitAt}
+use Rattle.unicode.specs.Scalars.{isScalar, decodedAs, malformed}
+use Rattle.unicode.specs.Utf16.{highOf, lowOf, utf16Of, isHigh, isLow, charFromUnits, unitAt}
 use Rattle.unicode.specs.Utf16.{utf16First}
 use Rattle.unicode.specs.Inner.{NotWidened}
 use Rattle.unicode.proofs.CodecUtf8.{at-most-three, at-most-four}
@@ -72,15 +72,15 @@ no-surrogate n s =
     (λ h. (above 0xd800 0xdbff n (omega (arith, h .0)), above 0xdc00 0xdfff n (h .0)))
     (scalar-cases n s)
 
-told-one : (m u v n : ℕ) → isScalar n ≡ true → 2 ≤ m → u ≡ n → charOf m u v ≡ told 2 n
+told-one : (m u v n : ℕ) → isScalar n ≡ true → 2 ≤ m → u ≡ n → charFromUnits m u v ≡ decodedAs 2 n
 told-one m u v n s h e =
     let k = no-surrogate n s in
-    ap (λ (x : ℕ). charOf m x v) e ∙ simp (le-ltb m 2 h, k .0, k .1)
+    ap (λ (x : ℕ). charFromUnits m x v) e ∙ simp (le-ltb m 2 h, k .0, k .1)
 
 told-two : (m u v n : ℕ) → 4 ≤ m → isHigh u ≡ true → isLow v ≡ true
     → 0x10000 + ((u - 0xd800) * 1024 + (v - 0xdc00)) ≡ n
-    → charOf m u v ≡ told 4 n
-told-two m u v n h t w e = simp (le-ltb m 2 (omega arith), t, w, le-leb 4 m h) (ap (told 4) e)
+    → charFromUnits m u v ≡ decodedAs 4 n
+told-two m u v n h t w e = simp (le-ltb m 2 (omega arith), t, w, le-leb 4 m h) (ap (decodedAs 4) e)
 
 high-is : (n : ℕ) → n ≤ 0x10ffff → isHigh (highOf n) ≡ true
 high-is n h = inside 0xd800 0xdbff (highOf n) (omega arith) (omega arith)
@@ -92,15 +92,15 @@ pair-back : (n : ℕ) → 0x10000 ≤ n → 0x10000 + ((highOf n - 0xd800) * 102
 pair-back n h = omega arith
 
 read : (n : ℕ) (l : List ℕ) → isScalar n ≡ true
-    → utf16First (utf16Of n ++ l) ≡ told (length (utf16Of n)) n
+    → utf16First (utf16Of n ++ l) ≡ decodedAs (length (utf16Of n)) n
 unfolding utf16First
 read n l s = by (size n)
   where
-    from : (o : List ℕ) → utf16Of n ≡ o → utf16First (o ++ l) ≡ told (length o) n
-        → utf16First (utf16Of n ++ l) ≡ told (length (utf16Of n)) n
-    from o e p = subst (λ (x : List ℕ). utf16First (x ++ l) ≡ told (length x) n) (sym e) p
+    from : (o : List ℕ) → utf16Of n ≡ o → utf16First (o ++ l) ≡ decodedAs (length o) n
+        → utf16First (utf16Of n ++ l) ≡ decodedAs (length (utf16Of n)) n
+    from o e p = subst (λ (x : List ℕ). utf16First (x ++ l) ≡ decodedAs (length x) n) (sym e) p
 
-    by : Size n → utf16First (utf16Of n ++ l) ≡ told (length (utf16Of n)) n
+    by : Size n → utf16First (utf16Of n ++ l) ≡ decodedAs (length (utf16Of n)) n
     by (one h) =
         from (toLe 2 n) (utf16-one n h)
         (told-one (length (toLe 2 n ++ l)) (fromLe (toLe 2 n)) (unitAt l 0) n s (omega arith)
@@ -111,26 +111,26 @@ read n l s = by (size n)
         let lo = unit-back (lowOf n) (omega arith) in
         let k = length ((toLe 2 (highOf n) ++ toLe 2 (lowOf n)) ++ l) in
         from (toLe 2 (highOf n) ++ toLe 2 (lowOf n)) (utf16-two n h)
-        (ap₂ (λ (x y : ℕ). charOf k x y) hi lo
+        (ap₂ (λ (x y : ℕ). charFromUnits k x y) hi lo
         ∙ told-two k (highOf n) (lowOf n) n (omega arith) (high-is n m) (low-is n) (pair-back n h))
 
 -- ---- and only from them
 
--- what charOf finds, with the tests that it made
+-- what charFromUnits finds, with the tests that it made
 data Told (m u v : ℕ) : Char → Type 0 where
   none : Told m u v malformed
-  one : 2 ≤ m → isHigh u ≡ false → isLow u ≡ false → Told m u v (told 2 u)
+  one : 2 ≤ m → isHigh u ≡ false → isLow u ≡ false → Told m u v (decodedAs 2 u)
   two : 4 ≤ m → isHigh u ≡ true → isLow v ≡ true
-      → Told m u v (told 4 (0x10000 + ((u - 0xd800) * 1024 + (v - 0xdc00))))
+      → Told m u v (decodedAs 4 (0x10000 + ((u - 0xd800) * 1024 + (v - 0xdc00))))
 
-found : (m u v : ℕ) → Told m u v (charOf m u v)
+found : (m u v : ℕ) → Told m u v (charFromUnits m u v)
 found m u v = by (ltb m 2) (isHigh u) (leb 4 m && isLow v) (isLow u) refl refl refl refl
   where
     by : (p q r s : Bool) → ltb m 2 ≡ p → isHigh u ≡ q → (leb 4 m && isLow v) ≡ r → isLow u ≡ s
         → Told m u v
         (cond p malformed
-        (cond q (cond r (told 4 (0x10000 + ((u - 0xd800) * 1024 + (v - 0xdc00)))) malformed)
-        (cond s malformed (told 2 u))))
+        (cond q (cond r (decodedAs 4 (0x10000 + ((u - 0xd800) * 1024 + (v - 0xdc00)))) malformed)
+        (cond s malformed (decodedAs 2 u))))
     by true q r s ep eq er es = none
     by false true true s ep eq er es =
         let b = and-eq-true-iff (leb 4 m) (isLow v) .0 er in
@@ -149,7 +149,7 @@ fits l h = by _ (found (length l) (unitAt l 0) (unitAt l 2))
     by x (two p q r) = p
 
 -- two octets of it are at most three in UTF-8
-pub not-widened : (m u v : ℕ) → u < 0x10000 → NotWidened (charOf m u v)
+pub not-widened : (m u v : ℕ) → u < 0x10000 → NotWidened (charFromUnits m u v)
 not-widened m u v h = by _ (found m u v)
   where
     by : (x : Char) → Told m u v x → NotWidened x

@@ -11,8 +11,8 @@ use lib.ListN.{length, take, getD, List·getD-eq-default}
 use Rattle.octets.specs.Digits.{between}
 use Rattle.octets.proofs.Listed.{part-written}
 use Rattle.unicode.specs.declared.Char.{Char}
-use Rattle.unicode.specs.Scalars.{isScalar, told, malformed}
-use Rattle.unicode.specs.Utf8.{tail, utf8Of, isTail, toldFrom, charFrom, utf8First}
+use Rattle.unicode.specs.Scalars.{isScalar, decodedAs, malformed}
+use Rattle.unicode.specs.Utf8.{tail, utf8Of, isTail, charIfValid, charFromOctets, utf8First}
 use Rattle.unicode.proofs.Ranges.{between-both, inside, above, scalar-low, scalar-most}
 use Rattle.unicode.proofs.Texts.{Codec}
 
@@ -88,10 +88,10 @@ tail-is n = inside 0x80 0xbf (tail n) (omega arith) (omega arith)
 -- a value with its tails is told where it has no shorter form
 told-good : (w least : ℕ) {tails : Bool} {v n : ℕ} → tails ≡ true → v ≡ n → least ≤ n
     → isScalar n ≡ true
-    → toldFrom w least tails v ≡ told w n
+    → charIfValid w least tails v ≡ decodedAs w n
 told-good w least {tails} {v} {n} t e h s =
-    ap₂ (λ (b : Bool) (x : ℕ). toldFrom w least b x) t e
-    ∙ ap₂ (λ (a b : Bool). cond (a && b) (told w n) malformed) (le-leb least n h) s
+    ap₂ (λ (b : Bool) (x : ℕ). charIfValid w least b x) t e
+    ∙ ap₂ (λ (a b : Bool). cond (a && b) (decodedAs w n) malformed) (le-leb least n h) s
 
 -- the values that the octets tell, by their number
 abbrev pub value-two : ℕ → ℕ → ℕ
@@ -106,40 +106,40 @@ value-four a b c d = a % 8 * 262144 + b % 64 * 4096 + c % 64 * 64 + d % 64
 -- by the range of the first octet
 module _ (a b c d : ℕ) (h : 0x80 ≤ a) where
   pub from-two : between 0xc0 0xdf a ≡ true
-      → charFrom a b c d ≡ toldFrom 2 0x80 (isTail b) (value-two a b)
+      → charFromOctets a b c d ≡ charIfValid 2 0x80 (isTail b) (value-two a b)
   from-two p = simp (le-ltb a 0x80 h, p)
 
   pub from-three : between 0xc0 0xdf a ≡ false → between 0xe0 0xef a ≡ true
-      → charFrom a b c d ≡ toldFrom 3 0x800 (isTail b && isTail c) (value-three a b c)
+      → charFromOctets a b c d ≡ charIfValid 3 0x800 (isTail b && isTail c) (value-three a b c)
   from-three p q = simp (le-ltb a 0x80 h, p, q)
 
   pub from-four : between 0xc0 0xdf a ≡ false → between 0xe0 0xef a ≡ false
       → between 0xf0 0xf7 a ≡ true
-      → charFrom a b c d ≡ toldFrom 4 0x10000 (isTail b && (isTail c && isTail d))
+      → charFromOctets a b c d ≡ charIfValid 4 0x10000 (isTail b && (isTail c && isTail d))
       (value-four a b c d)
   from-four p q r = simp (le-ltb a 0x80 h, p, q, r)
 
   pub from-none : between 0xc0 0xdf a ≡ false → between 0xe0 0xef a ≡ false
       → between 0xf0 0xf7 a ≡ false
-      → charFrom a b c d ≡ malformed
+      → charFromOctets a b c d ≡ malformed
   from-none p q r = simp (le-ltb a 0x80 h, p, q, r)
 
 module _ (a b c d n : ℕ) (s : isScalar n ≡ true) where
   told-two : 0xc0 ≤ a → a ≤ 0xdf → isTail b ≡ true → value-two a b ≡ n → 0x80 ≤ n
-      → charFrom a b c d ≡ told 2 n
+      → charFromOctets a b c d ≡ decodedAs 2 n
   told-two h k t e m = from-two a b c d (omega arith) (inside 0xc0 0xdf a h k)
       ∙ told-good 2 0x80 t e m s
 
   told-three : 0xe0 ≤ a → a ≤ 0xef → isTail b ≡ true → isTail c ≡ true → value-three a b c ≡ n
       → 0x800 ≤ n
-      → charFrom a b c d ≡ told 3 n
+      → charFromOctets a b c d ≡ decodedAs 3 n
   told-three h k t u e m =
       from-three a b c d (omega arith) (above 0xc0 0xdf a (omega arith)) (inside 0xe0 0xef a h k)
       ∙ told-good 3 0x800 (ap₂ _&&_ t u) e m s
 
   told-four : 0xf0 ≤ a → a ≤ 0xf7 → isTail b ≡ true → isTail c ≡ true → isTail d ≡ true
       → value-four a b c d ≡ n → 0x10000 ≤ n
-      → charFrom a b c d ≡ told 4 n
+      → charFromOctets a b c d ≡ decodedAs 4 n
   told-four h k t u v e m =
       from-four a b c d (omega arith) (above 0xc0 0xdf a (omega arith))
       (above 0xe0 0xef a (omega arith)) (inside 0xf0 0xf7 a h k)
@@ -172,15 +172,15 @@ four-back n h =
     (high-bits n h) (low-bits n) (all-bits n))
 
 read : (n : ℕ) (l : List ℕ) → isScalar n ≡ true
-    → utf8First (utf8Of n ++ l) ≡ told (length (utf8Of n)) n
+    → utf8First (utf8Of n ++ l) ≡ decodedAs (length (utf8Of n)) n
 unfolding utf8First
 read n l s = by (size n)
   where
-    from : (o : List ℕ) → utf8Of n ≡ o → utf8First (o ++ l) ≡ told (length o) n
-        → utf8First (utf8Of n ++ l) ≡ told (length (utf8Of n)) n
-    from o e p = subst (λ (x : List ℕ). utf8First (x ++ l) ≡ told (length x) n) (sym e) p
+    from : (o : List ℕ) → utf8Of n ≡ o → utf8First (o ++ l) ≡ decodedAs (length o) n
+        → utf8First (utf8Of n ++ l) ≡ decodedAs (length (utf8Of n)) n
+    from o e p = subst (λ (x : List ℕ). utf8First (x ++ l) ≡ decodedAs (length x) n) (sym e) p
 
-    by : Size n → utf8First (utf8Of n ++ l) ≡ told (length (utf8Of n)) n
+    by : Size n → utf8First (utf8Of n ++ l) ≡ decodedAs (length (utf8Of n)) n
     by (one h) = from (n ∷ []) (utf8-one n h) (simp (lt-ltb n 0x80 h))
     by (two h k) =
         from ((0xc0 + n / 64) ∷ tail n ∷ []) (utf8-two n h k)
@@ -200,45 +200,45 @@ read n l s = by (size n)
 
 -- ---- and only from them
 
--- what charFrom finds, with the tests that it made
+-- what charFromOctets finds, with the tests that it made
 data Told (a b c d : ℕ) : Char → Type 0 where
   none : Told a b c d malformed
-  one : a < 0x80 → Told a b c d (told 1 a)
+  one : a < 0x80 → Told a b c d (decodedAs 1 a)
   two : 0xc0 ≤ a → a ≤ 0xdf → isTail b ≡ true → 0x80 ≤ value-two a b
       → isScalar (value-two a b) ≡ true
-      → Told a b c d (told 2 (value-two a b))
+      → Told a b c d (decodedAs 2 (value-two a b))
   three : 0xe0 ≤ a → a ≤ 0xef → isTail b ≡ true → isTail c ≡ true → 0x800 ≤ value-three a b c
       → isScalar (value-three a b c) ≡ true
-      → Told a b c d (told 3 (value-three a b c))
+      → Told a b c d (decodedAs 3 (value-three a b c))
   four : 0xf0 ≤ a → a ≤ 0xf7 → isTail b ≡ true → isTail c ≡ true → isTail d ≡ true
       → 0x10000 ≤ value-four a b c d
-      → isScalar (value-four a b c d) ≡ true → Told a b c d (told 4 (value-four a b c d))
+      → isScalar (value-four a b c d) ≡ true → Told a b c d (decodedAs 4 (value-four a b c d))
 
 module _ (a b c d : ℕ) where
   from : (w least : ℕ) (tails : Bool) (v : ℕ)
-      → (tails ≡ true → least ≤ v → isScalar v ≡ true → Told a b c d (told w v))
-      → Told a b c d (toldFrom w least tails v)
+      → (tails ≡ true → least ≤ v → isScalar v ≡ true → Told a b c d (decodedAs w v))
+      → Told a b c d (charIfValid w least tails v)
   from w least tails v good = which (tails && (leb least v && isScalar v)) refl
     where
       which : (t : Bool) → (tails && (leb least v && isScalar v)) ≡ t
-          → Told a b c d (cond t (told w v) malformed)
+          → Told a b c d (cond t (decodedAs w v) malformed)
       which true e =
           let p = and-eq-true-iff tails (leb least v && isScalar v) .0 e in
           let q = and-eq-true-iff (leb least v) (isScalar v) .0 (p .1) in
           good (p .0) (leb-true least v (q .0)) (q .1)
       which false e = none
 
-  found : Told a b c d (charFrom a b c d)
+  found : Told a b c d (charFromOctets a b c d)
   found = by (ltb a 0x80) (between 0xc0 0xdf a) (between 0xe0 0xef a)
       (between 0xf0 0xf7 a) refl refl refl refl
     where
       by : (p q r s : Bool) → ltb a 0x80 ≡ p → between 0xc0 0xdf a ≡ q → between 0xe0 0xef a ≡ r
           → between 0xf0 0xf7 a ≡ s
           → Told a b c d
-          (cond p (told 1 a)
-          (cond q (toldFrom 2 0x80 (isTail b) (value-two a b))
-          (cond r (toldFrom 3 0x800 (isTail b && isTail c) (value-three a b c))
-          (cond s (toldFrom 4 0x10000 (isTail b && (isTail c && isTail d)) (value-four a b c d))
+          (cond p (decodedAs 1 a)
+          (cond q (charIfValid 2 0x80 (isTail b) (value-two a b))
+          (cond r (charIfValid 3 0x800 (isTail b && isTail c) (value-three a b c))
+          (cond s (charIfValid 4 0x10000 (isTail b && (isTail c && isTail d)) (value-four a b c d))
           malformed))))
       by true q r s ep eq er es = one (ltb-true a 0x80 ep)
       by false true r s ep eq er es =

@@ -12,7 +12,7 @@ use lib.Dec.{eqb}
 use lib.ListN.{length, take, drop, length-append, length-drop, take-append-drop}
 use lib.Seq.{drop-append-seam, take-all}
 use Rattle.unicode.specs.declared.Char.{Char}
-use Rattle.unicode.specs.Scalars.{isScalar, told, encoded, joined, decodedFrom, decoded}
+use Rattle.unicode.specs.Scalars.{isScalar, decodedAs, encoded, joined, decodedFrom, decoded}
 use Rattle.unicode.specs.Scalars.{isSome, wellFormed, encodedIf, recoded}
 
 -- each value of a text is a scalar value
@@ -25,7 +25,7 @@ Scalars (v ∷ vs) = (isScalar v ≡ true) × Scalars vs
 pub record Codec (Fit : List ℕ → Type 0) (first : List ℕ → Char) (code : ℕ → List ℕ) : Type 0 where
   -- a character is told from its octets, whatever comes behind them
   pub read : (n : ℕ) (l : List ℕ) → isScalar n ≡ true
-      → first (code n ++ l) ≡ told (length (code n)) n
+      → first (code n ++ l) ≡ decodedAs (length (code n)) n
   -- the octets that tell one are those of a scalar value
   pub back : (l : List ℕ) → Fit l → 0 < length l → 0 < first l .width
       → (isScalar (first l .value) ≡ true) × (code (first l .value) ≡ take (first l .width) l)
@@ -165,7 +165,7 @@ module _ {Fit : List ℕ → Type 0} {first : List ℕ → Char} {code : ℕ →
   decode-encoded (v ∷ vs) s =
       let rest = encoded code vs in
       let l = code v ++ rest in
-      let c = told (length (code v)) v in
+      let c = decodedAs (length (code v)) v in
       let p : 0 < length (code v) = codec .some-octets v in
       let h : 0 < length l = omega (arith, length-append (code v) rest) in
       let n : c .width ≡ 0 → ⊥ = λ z. omega (arith, z, p) in

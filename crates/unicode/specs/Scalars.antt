@@ -21,11 +21,11 @@ isScalar n = ltb n 0xd800 || between 0xe000 0x10ffff n
 
 -- the scalar value that the first octets of a list tell, and how many octets those are; of a
 -- malformed sequence the width is 0
-abbrev pub told : ℕ → ℕ → Char
-told width value = record { width = width; value = value }
+abbrev pub decodedAs : ℕ → ℕ → Char
+decodedAs width value = record { width = width; value = value }
 
 abbrev pub malformed : Char
-malformed = told 0 0
+malformed = decodedAs 0 0
 
 -- its one to four octets, as the code holds them
 abbrev pub encodingOf : List ℕ → Encoding

@@ -10,7 +10,7 @@ use lib.ListN.{length, getD}
 use Rattle.octets.specs.Digits.{between}
 use Rattle.octets.specs.Numbers.{fromLe, toLe}
 use Rattle.unicode.specs.declared.Char.{Char}
-use Rattle.unicode.specs.Scalars.{told, malformed, encoded, decoded}
+use Rattle.unicode.specs.Scalars.{decodedAs, malformed, encoded, decoded}
 
 -- section 2.1: one unit, or from 10000 on a high and a low surrogate with ten bits each of what
 -- the value is over 10000
@@ -33,20 +33,20 @@ isLow unit = between 0xdc00 0xdfff unit
 -- section 2.2: the character with which a list of n octets begins, from its first two units.
 -- Malformed are a unit cut short, a low surrogate with no high one before it, and a high one with
 -- no low one behind it.
-abbrev pub charOf : ℕ → ℕ → ℕ → Char
-charOf n unit next =
+abbrev pub charFromUnits : ℕ → ℕ → ℕ → Char
+charFromUnits n unit next =
     cond (ltb n 2) malformed
     (cond (isHigh unit)
     (cond (leb 4 n && isLow next)
-    (told 4 (0x10000 + ((unit - 0xd800) * 1024 + (next - 0xdc00)))) malformed)
-    (cond (isLow unit) malformed (told 2 unit)))
+    (decodedAs 4 (0x10000 + ((unit - 0xd800) * 1024 + (next - 0xdc00)))) malformed)
+    (cond (isLow unit) malformed (decodedAs 2 unit)))
 
 -- the unit from the place i on
 abbrev pub unitAt : List ℕ → ℕ → ℕ
 unitAt l i = fromLe (getD l i 0 ∷ getD l (i + 1) 0 ∷ [])
 
 unfoldable pub utf16First : List ℕ → Char
-utf16First l = charOf (length l) (unitAt l 0) (unitAt l 2)
+utf16First l = charFromUnits (length l) (unitAt l 0) (unitAt l 2)
 
 -- a text in UTF-16, and the text of octets in UTF-16
 abbrev pub utf16Encoded : List ℕ → List ℕ

@@ -8,7 +8,7 @@ use lib.Dec.{leb, ltb}
 use lib.ListN.{getD}
 use Rattle.octets.specs.Digits.{between}
 use Rattle.unicode.specs.declared.Char.{Char}
-use Rattle.unicode.specs.Scalars.{isScalar, told, malformed, encoded, decoded}
+use Rattle.unicode.specs.Scalars.{isScalar, decodedAs, malformed, encoded, decoded}
 
 -- section 3, the table: the octets of a scalar value. A tail, 10xxxxxx, has six of its bits.
 abbrev pub tail : ℕ → ℕ
@@ -25,27 +25,28 @@ utf8Of n =
 abbrev pub isTail : ℕ → Bool
 isTail octet = between 0x80 0xbf octet
 
--- a value of so many octets, or malformed: a tail is none, the value has a shorter form (section 3:
--- "the overlong UTF-8 sequence C0 80"), it is a surrogate, or it is over 10FFFF
-abbrev pub toldFrom : ℕ → ℕ → Bool → ℕ → Char
-toldFrom width least tails value =
-    cond (tails && (leb least value && isScalar value)) (told width value) malformed
+-- a value that has so many octets, of which least is the smallest; or malformed: a tail is none, the
+-- value has a shorter form (section 3: "the overlong UTF-8 sequence C0 80"), it is a surrogate, or
+-- it is over 10FFFF
+abbrev pub charIfValid : ℕ → ℕ → Bool → ℕ → Char
+charIfValid width least tails value =
+    cond (tails && (leb least value && isScalar value)) (decodedAs width value) malformed
 
 -- the character with which a list that is not empty begins, from its first four octets. A tail
--- (80 to BF) and F8 to FF begin none.
-abbrev pub charFrom : ℕ → ℕ → ℕ → ℕ → Char
-charFrom a b c d =
-    cond (ltb a 0x80) (told 1 a)
-    (cond (between 0xc0 0xdf a) (toldFrom 2 0x80 (isTail b) (a % 32 * 64 + b % 64))
+-- (80 to BF) and F8 to FF begin none, and what C0, C1 and F5 to F7 begin is overlong or too large.
+abbrev pub charFromOctets : ℕ → ℕ → ℕ → ℕ → Char
+charFromOctets a b c d =
+    cond (ltb a 0x80) (decodedAs 1 a)
+    (cond (between 0xc0 0xdf a) (charIfValid 2 0x80 (isTail b) (a % 32 * 64 + b % 64))
     (cond (between 0xe0 0xef a)
-    (toldFrom 3 0x800 (isTail b && isTail c) (a % 16 * 4096 + b % 64 * 64 + c % 64))
+    (charIfValid 3 0x800 (isTail b && isTail c) (a % 16 * 4096 + b % 64 * 64 + c % 64))
     (cond (between 0xf0 0xf7 a)
-    (toldFrom 4 0x10000 (isTail b && (isTail c && isTail d))
+    (charIfValid 4 0x10000 (isTail b && (isTail c && isTail d))
     (a % 8 * 262144 + b % 64 * 4096 + c % 64 * 64 + d % 64))
     malformed)))
 
 unfoldable pub utf8First : List ℕ → Char
-utf8First l = charFrom (getD l 0 0) (getD l 1 0) (getD l 2 0) (getD l 3 0)
+utf8First l = charFromOctets (getD l 0 0) (getD l 1 0) (getD l 2 0) (getD l 3 0)
 
 -- a text in UTF-8, and the text of octets in UTF-8
 abbrev pub utf8Encoded : List ℕ → List ℕ

@@ -9,7 +9,8 @@ ghost use mathlib.Core.List.{_++_};
 ghost use Prim.Native.Nat.{_<_};
 ghost use Rattle.octets.specs.Numbers.{toLe};
 ghost use Rattle.unicode.specs.Scalars.{encodingOf, wellFormed};
-ghost use Rattle.unicode.specs.Utf16.{utf16Of, isHigh, isLow, unitAt, charOf, utf16First};
+ghost use Rattle.unicode.specs.Utf16.{utf16Of, isHigh, isLow, unitAt, charFromUnits};
+ghost use Rattle.unicode.specs.Utf16.{utf16First};
 ghost use Rattle.unicode.specs.Inner.{NotWidened};
 
 // Two units, one behind the other.
@@ -62,8 +63,8 @@ fn is_low(unit: u32) -> bool
     is_between(0xdc00, 0xdfff, unit)
 }
 
-fn char_of(n: usize, unit: u32, next: u32) -> Char
-    ensures { λ r. ⌜ r ≡ charOf n unit next ⌝ }
+fn char_from_units(n: usize, unit: u32, next: u32) -> Char
+    ensures { λ r. ⌜ r ≡ charFromUnits n unit next ⌝ }
 {
     if n < 2 {
         return Char { width: 0, value: 0 };
@@ -90,7 +91,7 @@ fn char_of(n: usize, unit: u32, next: u32) -> Char
 pub(crate) fn first(s: &[u8]) -> Char
     ensures { λ r. ⌜ (r ≡ utf16First (now (s .entry))) × NotWidened r ⌝ }
 {
-    char_of(s.len(), unit_at(s, 0), unit_at(s, 2))
+    char_from_units(s.len(), unit_at(s, 0), unit_at(s, 2))
 }
 
 pub(crate) fn is_well_formed(s: &[u8]) -> bool

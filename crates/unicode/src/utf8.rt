@@ -7,7 +7,7 @@ use crate::is_scalar;
 use crate::octet_at;
 ghost use mathlib.Core.Path.{_≡_};
 ghost use Rattle.unicode.specs.Scalars.{encodingOf, wellFormed};
-ghost use Rattle.unicode.specs.Utf8.{utf8Of, isTail, toldFrom, charFrom, utf8First};
+ghost use Rattle.unicode.specs.Utf8.{utf8Of, isTail, charIfValid, charFromOctets, utf8First};
 
 // Section 3, the table.
 pub(crate) fn encode(n: u32) -> Encoding
@@ -46,8 +46,8 @@ fn is_tail(octet: u32) -> bool
     is_between(0x80, 0xbf, octet)
 }
 
-fn told_from(width: usize, least: u32, tails: bool, value: u32) -> Char
-    ensures { λ r. ⌜ r ≡ toldFrom width least tails value ⌝ }
+fn char_if_valid(width: usize, least: u32, tails: bool, value: u32) -> Char
+    ensures { λ r. ⌜ r ≡ charIfValid width least tails value ⌝ }
 {
     if both(tails, both(least <= value, is_scalar(value))) {
         return Char { width, value };
@@ -55,17 +55,17 @@ fn told_from(width: usize, least: u32, tails: bool, value: u32) -> Char
     Char { width: 0, value: 0 }
 }
 
-fn char_from(a: u32, b: u32, c: u32, d: u32) -> Char
-    ensures { λ r. ⌜ r ≡ charFrom a b c d ⌝ }
+fn char_from_octets(a: u32, b: u32, c: u32, d: u32) -> Char
+    ensures { λ r. ⌜ r ≡ charFromOctets a b c d ⌝ }
 {
     if a < 0x80 {
         return Char { width: 1, value: a };
     }
     if is_between(0xc0, 0xdf, a) {
-        return told_from(2, 0x80, is_tail(b), a % 32 * 64 + b % 64);
+        return char_if_valid(2, 0x80, is_tail(b), a % 32 * 64 + b % 64);
     }
     if is_between(0xe0, 0xef, a) {
-        return told_from(
+        return char_if_valid(
             3,
             0x800,
             both(is_tail(b), is_tail(c)),
@@ -73,7 +73,7 @@ fn char_from(a: u32, b: u32, c: u32, d: u32) -> Char
         );
     }
     if is_between(0xf0, 0xf7, a) {
-        return told_from(
+        return char_if_valid(
             4,
             0x10000,
             both(is_tail(b), both(is_tail(c), is_tail(d))),
@@ -87,7 +87,7 @@ fn char_from(a: u32, b: u32, c: u32, d: u32) -> Char
 pub(crate) fn first(s: &[u8]) -> Char
     ensures { λ r. ⌜ r ≡ utf8First (now (s .entry)) ⌝ }
 {
-    char_from(
+    char_from_octets(
         octet_at(s, 0),
         octet_at(s, 1),
         octet_at(s, 2),

@@ -4,7 +4,7 @@ use mathlib.Core.Path.{ap₂, _∙_, sym, subst}
 use Prim.Native.Nat.{ℕ}
 use lib.ListN.{length}
 use Rattle.unicode.specs.declared.Char.{Char}
-use Rattle.unicode.specs.Utf16.{charOf, utf16First}
+use Rattle.unicode.specs.Utf16.{charFromUnits, utf16First}
 use Rattle.unicode.specs.Inner.{NotWidened}
 use Rattle.unicode.proofs.CodecUtf16.{not-widened}
 use borrow.Author.Needs.{needs}
@@ -17,10 +17,10 @@ returns c =
     let v = c .before in
     let u = v .before in
     let s = u .before .before .args .s .now in (
-      c .char-of .ensures
-          ∙ ap₂ (λ (x y : ℕ). charOf (length s) x y) (u .unit-at .ensures .0)
+      c .char-from-units .ensures
+          ∙ ap₂ (λ (x y : ℕ). charFromUnits (length s) x y) (u .unit-at .ensures .0)
           (v .unit-at2 .ensures .0),
-      subst (λ (x : Char). NotWidened x) (sym (c .char-of .ensures))
+      subst (λ (x : Char). NotWidened x) (sym (c .char-from-units .ensures))
           (not-widened (length s) (u .unit-at .result) (v .unit-at2 .result)
           (u .unit-at .ensures .1)),
     )

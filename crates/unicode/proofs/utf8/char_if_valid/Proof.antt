@@ -1,12 +1,12 @@
--- `unicode::utf8::told_from` meets its contract.
+-- `unicode::utf8::char_if_valid` meets its contract.
 -- Assumes nothing.
 use mathlib.Core.Bool.{Bool, _&&_}
 use mathlib.Core.Path.{_≡_, sym, ap, _∙_}
 use borrow.Author.Needs.{needs}
 use lib.Dec.{leb}
 use Rattle.unicode.specs.Scalars.{isScalar}
-use Rattle.unicode.proofs.utf8.told_from.Statement.{statement}
-use Rattle.unicode.proofs.utf8.told_from.Tie as tie
+use Rattle.unicode.proofs.utf8.char_if_valid.Statement.{statement}
+use Rattle.unicode.proofs.utf8.char_if_valid.Tie as tie
 
 -- what the three tests find together
 tests : (c : tie.After-both2)
@@ -29,8 +29,8 @@ returns c = simp (tests (c .before) ∙ c .if1 .taken)
 returns-2 : tie.Need-returns-2
 returns-2 c = simp (tests (c .before) ∙ c .if1 .left)
 
-pub told-from-spec : {M : Type 1} → statement M
-told-from-spec =
+pub char-if-valid-spec : {M : Type 1} → statement M
+char-if-valid-spec =
     tie.close
     (tie.spec
     (λ c κs. search needs) (λ c κs. search needs) (λ c κs. search needs) returns returns-2)

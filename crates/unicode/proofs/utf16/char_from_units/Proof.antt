@@ -1,4 +1,4 @@
--- `unicode::utf16::char_of` meets its contract.
+-- `unicode::utf16::char_from_units` meets its contract.
 -- Assumes nothing.
 use mathlib.Core.Bool.{Bool, true, _&&_, and-eq-true-iff}
 use mathlib.Core.Path.{_≡_, sym, ap, _∙_}
@@ -9,8 +9,8 @@ use lib.Dec.{leb}
 use Rattle.unicode.specs.Utf16.{isHigh, isLow}
 use Rattle.unicode.proofs.Ranges.{between-both}
 use borrow.Author.Needs.{needs}
-use Rattle.unicode.proofs.utf16.char_of.Statement.{statement}
-use Rattle.unicode.proofs.utf16.char_of.Tie as tie
+use Rattle.unicode.proofs.utf16.char_from_units.Statement.{statement}
+use Rattle.unicode.proofs.utf16.char_from_units.Tie as tie
 
 -- the start, from behind the tests of a pair
 abbrev start : tie.After-both → tie.Start
@@ -93,8 +93,8 @@ returns-5 c =
       sym (c .before .is-low2 .ensures) ∙ c .if4 .left,
     )
 
-pub char-of-spec : {M : Type 1} → statement M
-char-of-spec =
+pub char-from-units-spec : {M : Type 1} → statement M
+char-from-units-spec =
     tie.close
     (tie.spec
     returns (λ c κs. search needs) (λ c κs. search needs) (λ c κs. search needs) sub-t9 mul-t10
