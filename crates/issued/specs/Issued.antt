@@ -86,6 +86,12 @@ unfoldable pub badBuffer : ℕ → List ℕ → ℕ → Bool
 badBuffer w l used = eqb w 0 || (not (eqb (length l % w) 0)
     || (ltb mostPlaces (places w l) || ltb (places w l) used))
 
+-- the counts that are true of what is used of a buffer; of a bad buffer, which is refused whatever
+-- they are, zeros
+abbrev pub trueCounts : ℕ → ℕ → List ℕ → List ℕ
+trueCounts w used l = cond (badBuffer w l used) (replicate octetValues 0)
+    (countsOf (entries w used l))
+
 -- "or when the lent counts are not 256, each true of the list"
 abbrev pub badCounts : ℕ → Issued → Bool
 badCounts w i = not (agrees (countsOf (listed w i)) (i .counts))

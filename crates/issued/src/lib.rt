@@ -9,7 +9,8 @@ ghost use mathlib.Core.Bool.{false};
 ghost use mathlib.Core.Path.{_≡_};
 ghost use Prim.Native.Nat.{_-_, _≤_, _<_};
 ghost use lib.Dec.{ltb};
-ghost use Rattle.issued.specs.Issued.{entriesIn, places, badBuffer, passRefusal, spendRefusal, spent};
+ghost use Rattle.issued.specs.Issued.{entriesIn, places, badBuffer, trueCounts};
+ghost use Rattle.issued.specs.Issued.{passRefusal, spendRefusal, spent};
 
 // The most places that a buffer may have, and a count for each octet in which an entry may end.
 const MOST_PLACES: usize = 4096;
@@ -24,7 +25,7 @@ pub struct Spent {
 
 // Whether a buffer is not whole places of width octets, has over 4,096 of them, or fewer than are
 // used.
-fn is_bad_buffer(buffer: &[u8], used: usize, width: usize) -> bool
+pub fn is_bad_buffer(buffer: &[u8], used: usize, width: usize) -> bool
     ensures { λ r. ⌜ r ≡ badBuffer width (now (buffer .entry)) used ⌝ }
 {
     if width == 0 {
@@ -38,6 +39,24 @@ fn is_bad_buffer(buffer: &[u8], used: usize, width: usize) -> bool
         return true;
     }
     places < used
+}
+
+// A count for each octet in which an entry may end.
+pub struct LastOctets {
+    pub counts: [u16; OCTET_VALUES],
+}
+
+// The counts that are true of the used places of buffer, for a caller who does not keep them; zeros
+// where the buffer is bad.
+pub fn true_counts(buffer: &[u8], used: usize, width: usize) -> LastOctets
+    ensures { λ r. ⌜ r .counts ≡ trueCounts width used (now (buffer .entry)) ⌝ }
+{
+    let mut counts = [0u16; OCTET_VALUES];
+    if is_bad_buffer(buffer, used, width) {
+        return LastOctets { counts };
+    }
+    entries::count(buffer, used, width, &mut counts);
+    LastOctets { counts }
 }
 
 // Whether fewer than n places are left.

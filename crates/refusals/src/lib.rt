@@ -28,6 +28,12 @@
 //     16  a challenge to be spent is in the list of issued ones
 //     17  too few places are left in that list
 //     24  the list is bad: its places, the used ones or its counts
+//
+// From 100 on the numbers are ours, for what document 01 does not speak of:
+//
+//    100  an argument from C that is not valid (`layouts`)
+//    101  a text that is not UTF-8, or characters that are not UTF-16 (`unicode`)
+//    102  an answer that has no record to be stored (`numbers`)
 ghost use mathlib.Core.Path.{_≡_};
 ghost use mathlib.Core.Bool.{cond};
 

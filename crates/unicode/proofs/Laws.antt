@@ -20,8 +20,8 @@ use Rattle.unicode.specs.Scalars.{encoded, decoded, encodedIf, recoded}
 use Rattle.unicode.specs.Utf8.{utf8Of, utf8First, utf8Encoded, utf8Decoded}
 use Rattle.unicode.specs.Utf16.{utf16Of, utf16First, utf16Encoded, utf16Decoded}
 use Rattle.unicode.specs.Password.{passwordMax, textMax, longRefusal}
-use Rattle.unicode.specs.Password.{refusedPassword, passwordFor, passwordOf, passwordIn}
-use Rattle.unicode.specs.Password.{textFor, textOf, textIn}
+use Rattle.unicode.specs.Password.{refusedPassword, passwordFor, passwordOf, passwordOctets}
+use Rattle.unicode.specs.Password.{textFor, textOf, textOctets}
 use Rattle.unicode.proofs.Texts.{Scalars, Codec, decode-encoded, encode-decoded}
 use Rattle.unicode.proofs.CodecUtf8.{utf8-codec, at-most-three, at-most-four}
 use Rattle.unicode.proofs.CodecUtf16.{utf16-codec, utf16-one, utf16-two}
@@ -151,19 +151,19 @@ text-is p l e h = ap (textFor (ltb passwordMax (length p))) e ∙ sym (text-good
 
 -- the octets that the two answers hold
 password-held : (t l : List ℕ) → recoded utf8First utf16Of t ≡ some l → length l ≤ passwordMax
-    → passwordIn (passwordOf t) ≡ l
-password-held t l e h = ap passwordIn (password-is t l e h) ∙ held passwordMax l h
+    → passwordOctets (passwordOf t) ≡ l
+password-held t l e h = ap passwordOctets (password-is t l e h) ∙ held passwordMax l h
 
 text-held : (p l : List ℕ) → recoded utf16First utf8Of p ≡ some l → length p ≤ passwordMax
-    → length l ≤ textMax → textIn (textOf p) ≡ l
-text-held p l e h k = ap textIn (text-is p l e h) ∙ held textMax l k
+    → length l ≤ textMax → textOctets (textOf p) ≡ l
+text-held p l e h k = ap textOctets (text-is p l e h) ∙ held textMax l k
 
 -- ---- the laws
 
 -- what a user typed is shown again
 pub text-back : (t : List ℕ) → passwordOf t .refusal ≡ 0
-    → (textOf (passwordIn (passwordOf t)) .refusal ≡ 0)
-    × (textIn (textOf (passwordIn (passwordOf t))) ≡ t)
+    → (textOf (passwordOctets (passwordOf t)) .refusal ≡ 0)
+    × (textOctets (textOf (passwordOctets (passwordOf t))) ≡ t)
 unfolding passwordOf
 text-back t e =
     let g = given (recoded utf8First utf16Of t) e in
@@ -176,13 +176,13 @@ text-back t e =
     omega (arith, text-size (m .text) .0, ap length (m .same), ap length (k .0), g .fits) in (
       ap (λ (x : List ℕ). textOf x .refusal) i
           ∙ ap (λ (x : Text). x .refusal) (text-is l t b (g .fits)),
-      ap (λ (x : List ℕ). textIn (textOf x)) i ∙ text-held l t b (g .fits) long,
+      ap (λ (x : List ℕ). textOctets (textOf x)) i ∙ text-held l t b (g .fits) long,
     )
 
 -- a password that is shown and typed is the same
 pub password-back : (p : List ℕ) → Octets p → textOf p .refusal ≡ 0
-    → (passwordOf (textIn (textOf p)) .refusal ≡ 0)
-    × (passwordIn (passwordOf (textIn (textOf p))) ≡ p)
+    → (passwordOf (textOctets (textOf p)) .refusal ≡ 0)
+    × (passwordOctets (passwordOf (textOctets (textOf p))) ≡ p)
 unfolding textOf
 password-back p o e =
     let g = shown (length p) (recoded utf16First utf8Of p) e in
@@ -195,13 +195,13 @@ password-back p o e =
     let i = text-held p l (g .same) (g .fits) long in (
       ap (λ (x : List ℕ). passwordOf x .refusal) i
           ∙ ap (λ (x : Password). x .refusal) (password-is l p b (g .fits)),
-      ap (λ (x : List ℕ). passwordIn (passwordOf x)) i ∙ password-held l p b (g .fits),
+      ap (λ (x : List ℕ). passwordOctets (passwordOf x)) i ∙ password-held l p b (g .fits),
     )
 
 -- the password of a text has the length of an NT password
 pub password-size : (t : List ℕ) → passwordOf t .refusal ≡ 0
-    → (length (passwordIn (passwordOf t)) ≤ passwordMax)
-    × (length (passwordIn (passwordOf t)) % 2 ≡ 0)
+    → (length (passwordOctets (passwordOf t)) ≤ passwordMax)
+    × (length (passwordOctets (passwordOf t)) % 2 ≡ 0)
 unfolding passwordOf
 password-size t e =
     let g = given (recoded utf8First utf16Of t) e in

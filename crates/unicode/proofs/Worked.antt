@@ -8,7 +8,7 @@ use Rattle.octets.specs.Parts.{over}
 use Rattle.unicode.specs.Scalars.{encoded, decodedFrom}
 use Rattle.unicode.specs.Utf8.{utf8Of, utf8First, utf8Encoded}
 use Rattle.unicode.specs.Utf16.{utf16Of, utf16First}
-use Rattle.unicode.specs.Password.{passwordOf, passwordIn, textOf, textIn}
+use Rattle.unicode.specs.Password.{passwordOf, passwordOctets, textOf, textOctets}
 
 -- RFC 3629 section 7: U+0041 U+2262 U+0391 U+002E, and U+233B4
 examples : utf8Encoded (0x41 ∷ 0x2262 ∷ 0x391 ∷ 0x2e ∷ 0x233b4 ∷ [])
@@ -17,20 +17,20 @@ unfolding encoded utf8Of
 examples = refl
 
 -- RFC 2781 section 5, UTF-16LE: U+12345 and "=Ra"
-ra : passwordIn (passwordOf (0xf0 ∷ 0x92 ∷ 0x8d ∷ 0x85 ∷ 0x3d ∷ 0x52 ∷ 0x61 ∷ []))
+ra : passwordOctets (passwordOf (0xf0 ∷ 0x92 ∷ 0x8d ∷ 0x85 ∷ 0x3d ∷ 0x52 ∷ 0x61 ∷ []))
     ≡ 0x08 ∷ 0xd8 ∷ 0x45 ∷ 0xdf ∷ 0x3d ∷ 0x00 ∷ 0x52 ∷ 0x00 ∷ 0x61 ∷ 0x00 ∷ []
 unfolding passwordOf encoded decodedFrom utf8First utf16Of over
 ra = refl
 
 -- U+00FC, U+20AC and U+1F600, each by itself
-passwords : map (λ t. passwordIn (passwordOf t)) (
+passwords : map (λ t. passwordOctets (passwordOf t)) (
     (0xc3 ∷ 0xbc ∷ []) ∷ (0xe2 ∷ 0x82 ∷ 0xac ∷ []) ∷ (0xf0 ∷ 0x9f ∷ 0x98 ∷ 0x80 ∷ []) ∷ []
     )
     ≡ (0xfc ∷ 0x00 ∷ []) ∷ (0xac ∷ 0x20 ∷ []) ∷ (0x3d ∷ 0xd8 ∷ 0x00 ∷ 0xde ∷ []) ∷ []
 unfolding passwordOf encoded decodedFrom utf8First utf16Of over
 passwords = refl
 
-texts : map (λ p. textIn (textOf p)) (
+texts : map (λ p. textOctets (textOf p)) (
     (0xfc ∷ 0x00 ∷ []) ∷ (0xac ∷ 0x20 ∷ []) ∷ (0x3d ∷ 0xd8 ∷ 0x00 ∷ 0xde ∷ []) ∷ []
     )
     ≡ (0xc3 ∷ 0xbc ∷ []) ∷ (0xe2 ∷ 0x82 ∷ 0xac ∷ []) ∷ (0xf0 ∷ 0x9f ∷ 0x98 ∷ 0x80 ∷ []) ∷ []

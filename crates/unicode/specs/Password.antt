@@ -55,8 +55,8 @@ unfoldable pub passwordOf : List ℕ → Password
 passwordOf text = passwordFor (recoded utf8First utf16Of text)
 
 -- the octets of a password that is not refused
-abbrev pub passwordIn : Password → List ℕ
-passwordIn p = take (p .size) (p .octets)
+abbrev pub passwordOctets : Password → List ℕ
+passwordOctets p = take (p .size) (p .octets)
 
 -- ---- the text of a password
 
@@ -78,5 +78,5 @@ unfoldable pub textOf : List ℕ → Text
 textOf password =
     textFor (ltb passwordMax (length password)) (recoded utf16First utf8Of password)
 
-abbrev pub textIn : Text → List ℕ
-textIn t = take (t .size) (t .octets)
+abbrev pub textOctets : Text → List ℕ
+textOctets t = take (t .size) (t .octets)

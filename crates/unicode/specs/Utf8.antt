@@ -25,9 +25,9 @@ utf8Of n =
 abbrev pub isTail : ℕ → Bool
 isTail octet = between 0x80 0xbf octet
 
--- a value that has so many octets, of which least is the smallest; or malformed: a tail is none, the
--- value has a shorter form (section 3: "the overlong UTF-8 sequence C0 80"), it is a surrogate, or
--- it is over 10FFFF
+-- a value that has so many octets, of which least is the smallest; or malformed: a tail is none,
+-- the value has a shorter form (section 3: "the overlong UTF-8 sequence C0 80"), it is a surrogate,
+-- or it is over 10FFFF
 abbrev pub charIfValid : ℕ → ℕ → Bool → ℕ → Char
 charIfValid width least tails value =
     cond (tails && (leb least value && isScalar value)) (decodedAs width value) malformed
