@@ -5,7 +5,8 @@ use mathlib.Core.Bool.{Bool, true, false, cond, _&&_}
 use mathlib.Core.List.{List}
 use mathlib.Core.Option.{Option, none, some}
 use mathlib.Core.Path.{_≡_, refl}
-use Prim.Native.Nat.{ℕ, _%_}
+use Prim.Native.Nat.{ℕ, _%_, _<_}
+use native.Mathlib.Omega.{arith}
 use lib.Dec.{eqb}
 use lib.ListN.{length}
 use Rattle.credentials.specs.Credentials.{unsealedAs, passwordIn}
@@ -23,23 +24,31 @@ use Rattle.authenticator.specs.Conversation.{ended, retried, closed}
 use Rattle.authenticator.specs.Opening.{Opening, openRefusal, openedIssued, firstConversation, openingPacket, opened}
 use Rattle.authenticator.specs.Admit.{stepRefusal}
 use Rattle.authenticator.specs.declared.Judgement.{Judgement}
-use Rattle.authenticator.specs.Judge.{mayRetry, afterReason, judgeResponse, changeJudgement, newHashIn, judgeChange, judgeIn, judge}
+use Rattle.authenticator.specs.Judge.{reasonOf, mayRetry, replyFor, afterReason}
+use Rattle.authenticator.specs.Judge.{judgeResponse, changeJudgement, newHashIn, judgeChange, judgeIn, judge}
 use Rattle.verify.specs.Response.{responseReason}
 use Rattle.verify.specs.Change.{contentHash, unsealedHash, proves, proven, newHash}
-use Rattle.authenticator.specs.Step.{Outcome, judgedAs, refusedAs, step}
+use Rattle.authenticator.specs.Step.{Outcome, judgedAs, refusedAs, step, reasonIn}
+use Rattle.authenticator.specs.declared.Reply.{Reply}
+use Rattle.authenticator.specs.declared.Reply.the-variants.{Success, Failure}
+use Rattle.verify.proofs.Reasons.{three-digits, response-reason}
 use Rattle.accounts.specs.declared.Account.{Account}
 use Rattle.accounts.specs.declared.Lookup.{Lookup}
 use Rattle.authenticator.specs.declared.Conversation.{Conversation}
 use Rattle.authenticator.specs.declared.Opened as openings
 use Rattle.authenticator.specs.declared.Phase.{Phase}
 use Rattle.authenticator.specs.declared.Phase.the-variants.{Response, Change, Ended}
-use Rattle.mschap.specs.Layout.{encodeConversation, decodeConversation}
-use Rattle.mschap.specs.Layout.{encodeRecord, decodeRecord}
-use Rattle.mschap.specs.Layout.{isEncodedConversation, isEncodedRecord}
-use Rattle.mschap.specs.Conversations.{stepOf}
-use Rattle.mschap.proofs.RecordLaws.{SizedAccount, decoded-record-sized, record-fits}
-use Rattle.mschap.proofs.ConversationLaws.{SizedConversation, conversation-fits}
-use Rattle.mschap.proofs.ConversationLaws.{decoded-conversation-sized}
+use Rattle.layouts.specs.Conversations.{encodeConversation, decodeConversation}
+use Rattle.layouts.specs.Conversations.{isEncodedConversation}
+use Rattle.layouts.specs.Answers.{encodeAnswer, decodeAnswer, isEncodedAnswer}
+use Rattle.layouts.specs.Records.{encodeRecord, decodeRecord, isEncodedRecord, lookupSize}
+use Rattle.layouts.specs.Values.{bodyIn}
+use Rattle.numbers.specs.Results.{resultOf}
+use Rattle.mschap.specs.Step.{stepOf}
+use Rattle.layouts.proofs.RecordLaws.{SizedAccount, decoded-lookup-sized, record-fits}
+use Rattle.layouts.proofs.AnswerLaws.{decoded-answer-sized, answer-fits, answer-back}
+use Rattle.layouts.proofs.ConversationLaws.{SizedConversation, conversation-fits}
+use Rattle.layouts.proofs.ConversationLaws.{decoded-conversation-sized}
 
 -- ---- the successors keep the sizes
 
@@ -54,6 +63,15 @@ choice-sized false s t = t
 pub record SizedJudgement (d : Judgement) : Type 0 where
   pub next : SizedConversation (d .next)
   pub updated : SizedAccount (d .updated .account)
+  pub reason : reasonOf (d .reply) < 65536
+
+-- a reply gives the reason that it was made for
+reason-small : (c : Conversation) (e : ℕ) → e < 1000 → reasonOf (replyFor c e) < 65536
+reason-small c e h = by (eqb e 0)
+  where
+    by : (b : Bool) → reasonOf (cond {A = Reply} b Success (Failure e (mayRetry c e))) < 65536
+    by true = omega arith
+    by false = omega (arith, h)
 
 module _ (c : Conversation) (s : SizedConversation c) where
   ended-sized : SizedConversation (ended c)
@@ -94,8 +112,14 @@ module _ (c : Conversation) (s : SizedConversation c) where
       (proven-whole f (unsealedHash o) (inside-whole (o .content) o))
 
   change-sized : (x : Option (List ℕ)) → Whole x → SizedJudgement (changeJudgement c x)
-  change-sized none h = record { next = ended-sized; updated = blank-sized }
-  change-sized (some v) h = record { next = ended-sized; updated = record { nt = h; lm = refl } }
+  change-sized none h =
+      record { next = ended-sized; updated = blank-sized; reason = omega arith }
+  change-sized (some v) h =
+      record {
+        next = ended-sized;
+        updated = record { nt = h; lm = refl };
+        reason = omega arith;
+      }
 
   -- ---- the step
 
@@ -103,16 +127,21 @@ module _ (c : Conversation) (s : SizedConversation c) where
       → SizedJudgement (judgeIn phase c p l)
   unfolding judgeResponse judgeChange
   judge-in-sized Response p l t =
+      let f = readResponse p in
+      let e = responseReason (c .terms) (c .challenge) l f in
       record {
-        next = after-sized (l .account) (responseReason (c .terms) (c .challenge) l (readResponse p)) t;
+        next = after-sized (l .account) e t;
         updated = blank-sized;
+        reason =
+            reason-small c e (three-digits (response-reason (c .terms) (c .challenge) f l));
       }
   judge-in-sized Change p l t = change-sized (newHashIn c (readChange p)) (new-whole (readChange p))
-  judge-in-sized Ended p l t = record { next = s; updated = blank-sized }
+  judge-in-sized Ended p l t = record { next = s; updated = blank-sized; reason = omega arith }
 
   pub step-sized : (p : List ℕ) (l : Lookup) (b : List ℕ) → SizedAccount (l .account)
       → SizedConversation (step c p l b .answer .next)
       × SizedAccount (step c p l b .answer .updated .account)
+      × (reasonIn (step c p l b .answer .kind) < 65536)
   unfolding step judge
   step-sized p l b t = by (eqb (stepRefusal c p b) 0)
     where
@@ -120,24 +149,36 @@ module _ (c : Conversation) (s : SizedConversation c) where
           → let o =
           cond {A = Outcome} k (judgedAs c (judge c p l) b) (refusedAs (stepRefusal c p b) c b) in
           SizedConversation (o .answer .next) × SizedAccount (o .answer .updated .account)
-      by true = let d = judge-in-sized (c .phase) p l t in (d .next, d .updated)
-      by false = (s, blank-sized)
+          × (reasonIn (o .answer .kind) < 65536)
+      by true = let d = judge-in-sized (c .phase) p l t in (d .next, d .updated, d .reason)
+      by false = (s, blank-sized, omega arith)
 
 module _ (conversation packet account buffer : List ℕ) where
   abbrev done : Outcome
   done = stepOf conversation packet account buffer
 
+  sizes : SizedConversation (done .answer .next) × SizedAccount (done .answer .updated .account)
+      × (reasonIn (done .answer .kind) < 65536)
+  sizes =
+      step-sized (decodeConversation conversation) (decoded-conversation-sized conversation) packet
+      (decodeRecord account) buffer (decoded-lookup-sized (bodyIn lookupSize account))
+
   pub step-fits : (isEncodedConversation (encodeConversation (done .answer .next)) ≡ true)
-      × (isEncodedRecord (encodeRecord (done .answer .updated)) ≡ true)
-  step-fits =
-      let c = decodeConversation conversation in
-      let l = decodeRecord account in
-      let sized =
-      step-sized c (decoded-conversation-sized conversation) packet l buffer
-      (decoded-record-sized account) in (
-        conversation-fits (done .answer .next) (sized .0),
-        record-fits (done .answer .updated) (sized .1),
-      )
+      × (isEncodedAnswer (encodeAnswer (resultOf (done .answer))) ≡ true)
+  step-fits = (
+    conversation-fits (done .answer .next) (sizes .0),
+    answer-fits (resultOf (done .answer)) (sizes .1) (sizes .2),
+  )
+
+  -- the reason and the record that a step's answer tells are the step's own
+  pub answer-tells : decodeAnswer (encodeAnswer (resultOf (done .answer))) ≡ resultOf (done .answer)
+  answer-tells = answer-back (resultOf (done .answer)) (sizes .1) (sizes .2)
+
+-- the record that an answer gives is valid for the next step
+pub answer-record-fits : (answer : List ℕ)
+    → isEncodedRecord (encodeRecord (decodeAnswer answer .updated)) ≡ true
+answer-record-fits answer =
+    record-fits (decodeAnswer answer .updated) (decoded-answer-sized answer)
 
 -- ---- the opening
 

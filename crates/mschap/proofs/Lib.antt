@@ -1,11 +1,7 @@
-pub mod Filling
-pub mod Putting
-pub mod Encodings
-pub mod RecordLaws
-pub mod ConversationLaws
-pub mod PeerLaws
-pub mod FieldsLaws
-pub mod Calls
+pub mod ListCalls
+pub mod OpenCalls
+pub mod StepCalls
 pub mod PeerCalls
 pub mod Fitting
+pub mod PasswordFitting
 pub mod PeerFitting

@@ -4,53 +4,70 @@ use mathlib.Core.Path.{_≡_, refl, sym, ap, _∙_, subst}
 use mathlib.Core.Bool.{Bool, true, false}
 use mathlib.Core.List.{List}
 use Prim.Native.Nat.{ℕ}
-use borrow.Author.Tests.{eqb-true}
 use lib.Dec.{eqb}
-use lib.ListN.{length}
 use Rattle.message.specs.Message.{verdictRefusal}
-use Rattle.message.specs.declared.Reading.{Reading}
+use Rattle.message.specs.declared.Verdict.{Verdict}
 use Rattle.peer.specs.Peer as peers
-use Rattle.peer.specs.Write.{Wrote, wroteBy, responseFor, writeResponseRefusal, writeResponse}
-use Rattle.peer.specs.Write.{changeFor, writeChangeRefusal, writeChange}
+use Rattle.peer.specs.Write.{Wrote, wroteBy, writeResponse, writeResponseRefusal, responseFor}
+use Rattle.peer.specs.Write.{writeChange, writeChangeRefusal, changeFor}
 use Rattle.peer.specs.declared.Peer.{Peer}
 use Rattle.peer.specs.declared.Turn.{Turn}
 use Rattle.peer.specs.declared.PacketWritten.{PacketWritten}
 use Rattle.peer.specs.declared.ReplyRead.{ReplyRead}
-use Rattle.mschap.specs.Call.{Fills, sized, numbered, afterCall}
-use Rattle.mschap.specs.Layout.{peerSize, encodePeer, decodePeer, isEncodedPeer}
-use Rattle.mschap.specs.Fields.{fieldsSize, encodeReading}
-use Rattle.mschap.specs.Peers.{replyArguments, ReplyCall, WriteCall}
-use Rattle.mschap.specs.Inner.{ReplyPut}
-use Rattle.mschap.proofs.Filling.{both, fills-number}
-use Rattle.mschap.proofs.PeerLaws.{length-encoded-peer}
+use Rattle.layouts.specs.Call.{Fills, sized, numbered, afterCall}
+use Rattle.layouts.specs.Peers.{peerSize, encodePeer, decodePeer, isEncodedPeer}
+use Rattle.layouts.proofs.Filling.{fills-number}
+use Rattle.layouts.proofs.PeerLaws.{length-encoded-peer}
+use Rattle.numbers.specs.Results.{callIn, failureReason}
+use Rattle.mschap.specs.Peers.{ReplyCall, WriteCall}
 
 -- ---- a reply
 
--- valid arguments have the right sizes
-pub reply-sizes : (peer fields : List ℕ) → replyArguments peer fields ≡ true
-    → (length peer ≡ peerSize) × (length fields ≡ fieldsSize)
-unfolding replyArguments
-reply-sizes peer fields e =
-    let h = both (isEncodedPeer peer) (sized 35 fields) e in
-    (length-encoded-peer peer (h .0), eqb-true (length fields) 35 (h .1))
+module _ (peer packet : List ℕ) (valid : isEncodedPeer peer ≡ true) {q : Peer} {answer : ReplyRead}
+    {n : ℕ} (decoded : q ≡ decodePeer peer) (read : peers.Reads q packet answer)
+    (number : n ≡ verdictRefusal (answer .reading .verdict)) where
+  abbrev verdict : Verdict
+  verdict = peers.peerReads (decodePeer peer) packet .verdict
 
-module _ (peer packet fields : List ℕ) (valid : replyArguments peer fields ≡ true) where
-  abbrev reading : Reading
-  reading = peers.peerReads (decodePeer peer) packet
+  same : answer ≡ record {
+    reading = peers.peerReads (decodePeer peer) packet;
+    peer = peers.afterReply (decodePeer peer) packet;
+  }
+  same = subst (λ (v : Peer). peers.Reads v packet answer) decoded read .answer
 
-  -- the reply was read, and what was read was put into the caller's buffers
-  pub reply-called : {q : Peer} {answer : ReplyRead} {r : ℕ} {peerAfter fieldsAfter : List ℕ}
-      → q ≡ decodePeer peer → peers.Reads q packet answer
-      → ReplyPut answer peer fields r peerAfter fieldsAfter
-      → ReplyCall peer packet fields r peerAfter fieldsAfter
-  reply-called {q} {answer} {r} e given put =
-      let a = subst (λ (v : Peer). peers.Reads v packet answer) e given .answer in
+  numbers : n ≡ verdictRefusal verdict
+  numbers = number ∙ ap (λ (v : ReplyRead). verdictRefusal (v .reading .verdict)) same
+
+  -- it is refused: nothing changes
+  pub reply-refused : {call reason r : ℕ} → eqb n 0 ≡ false → r ≡ n
+      → ReplyCall peer packet call reason r peer call reason
+  reply-refused {call} {reason} {r} refused e =
+      let nonzero : eqb r 0 ≡ false = ap (λ (i : ℕ). eqb i 0) e ∙ refused in
+      record {
+        number = e ∙ numbers ∙ sym (ap (λ (t : Bool). numbered t (verdictRefusal verdict)) valid);
+        next = sym (simp nonzero);
+        calls = sym (simp nonzero);
+        says = sym (simp nonzero);
+      }
+
+  -- it is read: the next peer was put into the caller's buffer
+  pub reply-called : {call reason r c e : ℕ} {after : List ℕ} → n ≡ 0
+      → c ≡ callIn (answer .reading .verdict) → e ≡ failureReason (answer .reading .verdict)
+      → Fills (sized peerSize peer) 0 (encodePeer (answer .peer)) peer r after
+      → ReplyCall peer packet call reason r after c e
+  reply-called {call} {reason} {r} {c} {e} accepted calls says put =
+      let done : r ≡ 0 = fills-number (length-encoded-peer peer valid) put in
+      let zero : eqb r 0 ≡ true = ap (λ (i : ℕ). eqb i 0) done in
       record {
         number =
-            put .number ∙ ap (λ (v : ReplyRead). verdictRefusal (v .reading .verdict)) a
-            ∙ sym (ap (λ (t : Bool). numbered t (verdictRefusal (reading .verdict))) valid);
-        next = put .next ∙ ap (λ (v : ReplyRead). afterCall r (encodePeer (v .peer)) peer) a;
-        says = put .says ∙ ap (λ (v : ReplyRead). afterCall r (encodeReading (v .reading)) fields) a;
+            done ∙ sym accepted ∙ numbers
+            ∙ sym (ap (λ (t : Bool). numbered t (verdictRefusal verdict)) valid);
+        next = put .bytes ∙ ap (λ (v : ReplyRead). afterCall r (encodePeer (v .peer)) peer) same;
+        calls =
+            calls ∙ ap (λ (v : ReplyRead). callIn (v .reading .verdict)) same ∙ sym (simp zero);
+        says =
+            says ∙ ap (λ (v : ReplyRead). failureReason (v .reading .verdict)) same
+            ∙ sym (simp zero);
       }
 
 -- ---- the writers
@@ -79,24 +96,26 @@ change-kept old new filler out t =
     wrote-kept (writeChangeRefusal old new filler out) (changeFor t old new filler) out
 
 -- either of them, by what it writes for a turn
-module _ (writes : Turn → Wrote) (peer out : List ℕ) (valid : isEncodedPeer peer ≡ true)
-    (kept : (t : Turn) → Kept out (writes t)) where
+module _ (writes : Turn → Wrote) (peer out : List ℕ) (valid : Bool) (good : valid ≡ true)
+    (encoded : isEncodedPeer peer ≡ true) (kept : (t : Turn) → Kept out (writes t)) where
   abbrev wrote : Wrote
   wrote = writes (decodePeer peer .turn)
 
   -- the packet was written, and the next peer was put into the caller's buffer
-  pub wrote-called : {q : Peer} {answer : PacketWritten} {r : ℕ} {peerAfter outAfter : List ℕ}
-      → q ≡ decodePeer peer → peers.Writes q (writes (q .turn)) answer outAfter
+  pub wrote-called : {q : Peer} {w : Wrote} {answer : PacketWritten} {r : ℕ} {peerAfter outAfter : List ℕ}
+      → q ≡ decodePeer peer → w ≡ writes (q .turn) → peers.Writes q w answer outAfter
       → Fills (sized peerSize peer) (answer .written .refusal) (encodePeer (answer .peer)) peer
       r peerAfter
-      → WriteCall wrote peer out r peerAfter outAfter
-  wrote-called {q} {answer} {r} {peerAfter} {outAfter} e given put =
-      let g = subst (λ (v : Peer). peers.Writes v (writes (v .turn)) answer outAfter) e given in
+      → WriteCall valid wrote peer out r peerAfter outAfter
+  wrote-called {q} {w} {answer} {r} {peerAfter} {outAfter} e same given put =
+      let g =
+      subst (λ (v : Peer). peers.Writes v (writes (v .turn)) answer outAfter) e
+      (subst (λ (x : Wrote). peers.Writes q x answer outAfter) same given) in
       let number : r ≡ wrote .answer .refusal =
-      fills-number (length-encoded-peer peer valid) put
+      fills-number (length-encoded-peer peer encoded) put
       ∙ ap (λ (v : PacketWritten). v .written .refusal) (g .answer) in
       record {
-        number = number ∙ sym (ap (λ (t : Bool). numbered t (wrote .answer .refusal)) valid);
+        number = number ∙ sym (ap (λ (t : Bool). numbered t (wrote .answer .refusal)) good);
         next =
             put .bytes
             ∙ ap (λ (v : PacketWritten). afterCall r (encodePeer (v .peer)) peer) (g .answer);

@@ -31,8 +31,8 @@ use Rattle.peer.specs.Turn.{sentFor, turnFor, turnAfter, nextTurn}
 use Rattle.peer.specs.Peer.{afterChallenge, afterWriting, peerReads, afterReply}
 use Rattle.peer.specs.declared.Peer.{Peer}
 use Rattle.peer.specs.declared.Sent.{Sent}
-use Rattle.mschap.specs.Layout.{encodePeer, decodePeer, isEncodedPeer}
-use Rattle.mschap.proofs.PeerLaws.{SizedPeer, decoded-peer-sized, peer-fits}
+use Rattle.layouts.specs.Peers.{encodePeer, decodePeer, isEncodedPeer}
+use Rattle.layouts.proofs.PeerLaws.{SizedPeer, decoded-peer-sized, peer-fits}
 
 -- ---- the challenge that a reply may give
 

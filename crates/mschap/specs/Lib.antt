@@ -1,6 +1,8 @@
-pub mod Call
-pub mod Layout
-pub mod Fields
-pub mod Conversations
+pub mod Passwords
+pub mod Records
+pub mod Lists
+pub mod Opening
+pub mod Step
 pub mod Peers
+pub mod Sizes
 pub mod Inner

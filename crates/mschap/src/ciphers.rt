@@ -1,8 +1,8 @@
-// The ciphers, the hashes and the challenge response.
-use crate::buffers::BAD_ARGUMENT;
-use crate::buffers::are_sized;
-use crate::buffers::fill;
-use crate::buffers::wide;
+// The ciphers, MD4 and the challenge response.
+use layouts::BAD_ARGUMENT;
+use layouts::are_sized;
+use layouts::fill;
+use layouts::wide;
 use packets::CHALLENGE_SIZE;
 use packets::HASH_SIZE;
 ghost use mathlib.Core.Path.{_≡_};
@@ -10,9 +10,9 @@ ghost use mathlib.Core.Bool.{_&&_};
 ghost use Rattle.md4.specs.Md4.{md4Answer};
 ghost use Rattle.rc4.specs.Rc4.{keyRefusal, crypted};
 ghost use Rattle.des.specs.Des.{desEncrypt, desDecrypt};
-ghost use Rattle.credentials.specs.Credentials.{responseOf, ntHashed, lmHashed};
-ghost use Rattle.mschap.specs.Call.{Fills, sized, bothSized};
-ghost use Rattle.mschap.specs.Layout.{digestSize, keySize, desBlockSize};
+ghost use Rattle.credentials.specs.Credentials.{responseOf};
+ghost use Rattle.layouts.specs.Call.{Fills, sized, bothSized};
+ghost use Rattle.mschap.specs.Sizes.{digestSize, keySize, desBlockSize};
 ghost use Rattle.packets.specs.Sizes.{hashSize, challengeSize, answerSize};
 
 const KEY_SIZE: usize = 7;
@@ -40,60 +40,34 @@ pub extern "C" fn mschap_rc4(key: &[u8], octets: &mut [u8]) -> u32
     wide(rc4::rc4(key, octets))
 }
 
-// DES of a block with a key of seven bytes.
+// DES of a block in place, with a key of seven bytes.
 #[no_mangle]
-pub extern "C" fn mschap_des_encrypt(key: &[u8], block: &[u8], out: &mut [u8]) -> u32
+pub extern "C" fn mschap_des_encrypt(key: &[u8], block: &mut [u8]) -> u32
     ensures { λ r. ⌜ Fills
-        (bothSized keySize (now (key .entry)) desBlockSize (now (block .entry))
-        && sized desBlockSize (now (out .entry)))
+        (bothSized keySize (now (key .entry)) desBlockSize (now (block .entry)))
         0 (desEncrypt (now (key .entry)) (now (block .entry)))
-        (now (out .entry)) r (now (out .exit)) ⌝ }
+        (now (block .entry)) r (now (block .exit)) ⌝ }
 {
     if !are_sized(key, KEY_SIZE, block, DES_BLOCK_SIZE) {
         return BAD_ARGUMENT;
     }
     let result = des::encrypt(octets::seven_at(key, 0), octets::eight_at(block, 0));
-    fill(0, &result, out)
+    fill(0, &result, block)
 }
 
 // The inverse of mschap_des_encrypt.
 #[no_mangle]
-pub extern "C" fn mschap_des_decrypt(key: &[u8], block: &[u8], out: &mut [u8]) -> u32
+pub extern "C" fn mschap_des_decrypt(key: &[u8], block: &mut [u8]) -> u32
     ensures { λ r. ⌜ Fills
-        (bothSized keySize (now (key .entry)) desBlockSize (now (block .entry))
-        && sized desBlockSize (now (out .entry)))
+        (bothSized keySize (now (key .entry)) desBlockSize (now (block .entry)))
         0 (desDecrypt (now (key .entry)) (now (block .entry)))
-        (now (out .entry)) r (now (out .exit)) ⌝ }
+        (now (block .entry)) r (now (block .exit)) ⌝ }
 {
     if !are_sized(key, KEY_SIZE, block, DES_BLOCK_SIZE) {
         return BAD_ARGUMENT;
     }
     let result = des::decrypt(octets::seven_at(key, 0), octets::eight_at(block, 0));
-    fill(0, &result, out)
-}
-
-// The NT hash of a password of 0 to 512 bytes, an even number. 8: another password.
-#[no_mangle]
-pub extern "C" fn mschap_nt_hash(password: &[u8], hash: &mut [u8]) -> u32
-    ensures { λ r. ⌜ Fills (sized hashSize (now (hash .entry)))
-        (ntHashed (now (password .entry)) .refusal) (ntHashed (now (password .entry)) .hash)
-        (now (hash .entry)) r (now (hash .exit)) ⌝ }
-{
-    let done = credentials::nt_hash(password);
-    let result = done.hash;
-    fill(done.refusal, &result, hash)
-}
-
-// The LM hash of a password of at most 14 bytes. 8: a longer password.
-#[no_mangle]
-pub extern "C" fn mschap_lm_hash(password: &[u8], hash: &mut [u8]) -> u32
-    ensures { λ r. ⌜ Fills (sized hashSize (now (hash .entry)))
-        (lmHashed (now (password .entry)) .refusal) (lmHashed (now (password .entry)) .hash)
-        (now (hash .entry)) r (now (hash .exit)) ⌝ }
-{
-    let done = credentials::lm_hash(password);
-    let result = done.hash;
-    fill(done.refusal, &result, hash)
+    fill(0, &result, block)
 }
 
 // The response of a hash to a challenge.

@@ -1,8 +1,28 @@
 // MS-CHAP for C: each exported function has its own name there, and host/include/mschap.h declares
 // it.
-mod buffers;
 mod ciphers;
 mod conversations;
-mod layouts;
-mod names;
+mod lists;
+mod opening;
+mod packet_parts;
+mod passwords;
 mod peers;
+mod records;
+mod steps;
+
+ghost use mathlib.Core.Path.{_≡_};
+ghost use Rattle.mschap.specs.Sizes.{interfaceVersion};
+
+// 0.2.0: major, minor and patch, a byte each.
+const INTERFACE_VERSION: u32 = 512;
+
+// What a function returns that has a value to return, and was passed none that is valid.
+pub(crate) const INVALID: u32 = 4294967295;
+
+// The version of the interface.
+#[no_mangle]
+pub extern "C" fn mschap_version() -> u32
+    ensures { λ r. ⌜ r ≡ interfaceVersion ⌝ }
+{
+    INTERFACE_VERSION
+}

@@ -1,21 +1,20 @@
 // The peer: what it reads, and its two packets. The caller keeps its encoding between the calls.
-use crate::buffers::BAD_ARGUMENT;
-use crate::layouts::fields::FIELDS_SIZE;
-use crate::layouts::fields::put_fields;
-use crate::layouts::peers::decode_peer;
-use crate::layouts::peers::is_encoded_peer;
-use crate::layouts::peers::put_peer;
-use message::Verdict;
+use layouts::BAD_ARGUMENT;
+use layouts::both;
+use layouts::decode_password;
+use layouts::decode_peer;
+use layouts::is_encoded_password;
+use layouts::is_encoded_peer;
+use layouts::put_peer;
+use layouts::wide;
+use numbers::call_in;
+use numbers::failure_reason;
+use numbers::verdict_number;
 use peer::Peer;
-use peer::ReplyRead;
 ghost use mathlib.Core.Path.{_≡_};
-ghost use lib.ListN.{length};
-ghost use Rattle.message.specs.Message.{verdictRefusal};
-ghost use Rattle.mschap.specs.Layout.{peerSize};
-ghost use Rattle.mschap.specs.Fields.{fieldsSize};
-ghost use Rattle.mschap.specs.Peers.{ChallengeCall, replyArguments, ReplyCall};
+ghost use Rattle.mschap.specs.Peers.{ChallengeCall};
+ghost use Rattle.mschap.specs.Peers.{ReplyCall, responseArguments, changeArguments};
 ghost use Rattle.mschap.specs.Peers.{responseFrom, changeFrom, WriteCall};
-ghost use Rattle.mschap.specs.Inner.{ReplyPut};
 
 // Reads a Challenge, and writes the peer that is to answer it. 3: the frame. 11: another kind, cut
 // short, or of a size other than 8.
@@ -31,57 +30,45 @@ pub extern "C" fn mschap_read_challenge(packet: &[u8], peer: &mut [u8]) -> u32
 
 // ---- a reply
 
-// The refusal number of a verdict; 0 is none.
-fn verdict_number(verdict: Verdict) -> u8
-    ensures { λ r. ⌜ r ≡ verdictRefusal verdict ⌝ }
-{
-    match verdict {
-        Verdict::Success => 0,
-        Verdict::Failure(_) => 0,
-        Verdict::Refused(n) => n,
-    }
-}
-
-fn are_reply_arguments(peer: &[u8], fields: &[u8]) -> bool
-    ensures { λ r. ⌜ r ≡ replyArguments (now (peer .entry)) (now (fields .entry)) ⌝ }
-{
-    is_encoded_peer(peer) && fields.len() == FIELDS_SIZE
-}
-
-// Writes the next peer and what the reply says, unless the reply is refused.
-fn put_reply(read: ReplyRead, peer: &mut [u8], fields: &mut [u8]) -> u32
-    requires { ⌜ length (now peer) ≡ peerSize ⌝ }
-    requires { ⌜ length (now fields) ≡ fieldsSize ⌝ }
-    ensures { λ r. ⌜ ReplyPut read (now (peer .entry)) (now (fields .entry)) r
-        (now (peer .exit)) (now (fields .exit)) ⌝ }
-{
-    let reading = read.reading;
-    let next = read.peer;
-    let verdict = reading.verdict;
-    let number = verdict_number(verdict);
-    put_peer(number, next, peer);
-    put_fields(number, reading, fields)
-}
-
-// Reads the reply to the last packet: writes what it says into fields, and the next turn into the
-// peer. 3: the frame. 5: another identifier. 11: another kind, or by the message.
+// Reads the reply to the last packet: writes what it calls for and its reason, and the next turn
+// into the peer. 3: the frame. 5: another identifier. 11: another kind, or by the message.
 #[no_mangle]
-pub extern "C" fn mschap_read_reply(peer: &mut [u8], packet: &[u8], fields: &mut [u8]) -> u32
-    ensures { λ r. ⌜ ReplyCall (now (peer .entry)) (now (packet .entry)) (now (fields .entry))
-        r (now (peer .exit)) (now (fields .exit)) ⌝ }
+pub extern "C" fn mschap_read_reply(
+    peer: &mut [u8],
+    packet: &[u8],
+    call: &mut u32,
+    reason: &mut u64,
+) -> u32
+    ensures { λ r. ⌜ ReplyCall (now (peer .entry)) (now (packet .entry)) (now (call .entry))
+        (now (reason .entry)) r (now (peer .exit)) (now (call .exit)) (now (reason .exit)) ⌝ }
 {
-    if !are_reply_arguments(peer, fields) {
+    if !is_encoded_peer(peer) {
         return BAD_ARGUMENT;
     }
     let before = decode_peer(peer);
     let read = before.read_reply(packet);
-    put_reply(read, peer, fields)
+    let reading = read.reading;
+    let verdict = reading.verdict;
+    let next = read.peer;
+    let number = verdict_number(verdict);
+    if number != 0 {
+        return wide(number);
+    }
+    *call = call_in(verdict);
+    *reason = failure_reason(verdict);
+    put_peer(0, next, peer)
 }
 
 // ---- the packets
 
-// Writes the Response of the turn at the front of out; the peer has then sent it. 8: the password.
-// 10: the name. 9: too little room.
+fn are_response_arguments(peer: &[u8], password: &[u8]) -> bool
+    ensures { λ r. ⌜ r ≡ responseArguments (now (peer .entry)) (now (password .entry)) ⌝ }
+{
+    both(is_encoded_peer(peer), is_encoded_password(password))
+}
+
+// Writes the Response of the turn at the front of out; the peer has then sent it. 10: the name. 9:
+// too little room.
 #[no_mangle]
 pub extern "C" fn mschap_write_response(
     peer: &mut [u8],
@@ -89,23 +76,33 @@ pub extern "C" fn mschap_write_response(
     name: &[u8],
     out: &mut [u8],
 ) -> u32
-    ensures { λ r. ⌜ WriteCall
+    ensures { λ r. ⌜ WriteCall (responseArguments (now (peer .entry)) (now (password .entry)))
         (responseFrom (now (peer .entry)) (now (password .entry)) (now (name .entry))
         (now (out .entry)))
         (now (peer .entry)) (now (out .entry)) r (now (peer .exit)) (now (out .exit)) ⌝ }
 {
-    if !is_encoded_peer(peer) {
+    if !are_response_arguments(peer, password) {
         return BAD_ARGUMENT;
     }
     let before = decode_peer(peer);
-    let wrote = before.write_response(password, name, out);
+    let wrote = before.write_response(decode_password(password), name, out);
     let written = wrote.written;
     let next = wrote.peer;
     put_peer(written.refusal, next, peer)
 }
 
-// Writes the version 2 change of the turn at the front of out; the peer has then sent it. 8: either
-// password. 12: the filler. 9: too little room.
+fn are_change_arguments(peer: &[u8], old: &[u8], new: &[u8]) -> bool
+    ensures { λ r. ⌜ r ≡ changeArguments (now (peer .entry)) (now (old .entry))
+        (now (new .entry)) ⌝ }
+{
+    both(
+        is_encoded_peer(peer),
+        both(is_encoded_password(old), is_encoded_password(new)),
+    )
+}
+
+// Writes the version 2 change of the turn at the front of out; the peer has then sent it. 12: the
+// filler. 9: too little room.
 #[no_mangle]
 pub extern "C" fn mschap_write_change(
     peer: &mut [u8],
@@ -115,15 +112,16 @@ pub extern "C" fn mschap_write_change(
     out: &mut [u8],
 ) -> u32
     ensures { λ r. ⌜ WriteCall
+        (changeArguments (now (peer .entry)) (now (old .entry)) (now (new .entry)))
         (changeFrom (now (peer .entry)) (now (old .entry)) (now (new .entry)) (now (filler .entry))
         (now (out .entry)))
         (now (peer .entry)) (now (out .entry)) r (now (peer .exit)) (now (out .exit)) ⌝ }
 {
-    if !is_encoded_peer(peer) {
+    if !are_change_arguments(peer, old, new) {
         return BAD_ARGUMENT;
     }
     let before = decode_peer(peer);
-    let wrote = before.write_change(old, new, filler, out);
+    let wrote = before.write_change(decode_password(old), decode_password(new), filler, out);
     let written = wrote.written;
     let next = wrote.peer;
     put_peer(written.refusal, next, peer)

@@ -6,8 +6,8 @@ use borrow.Author.Needs.{needs}
 use borrow.Author.Tests.{not-true, not-false}
 use lib.ListN.{length}
 use Rattle.credentials.specs.Credentials.{responseOf}
-use Rattle.mschap.specs.Call.{bothSized}
-use Rattle.mschap.proofs.Filling.{taken-whole, filled-behind}
+use Rattle.layouts.specs.Call.{bothSized}
+use Rattle.layouts.proofs.Filling.{taken-whole, filled-behind}
 use Rattle.mschap.proofs.ciphers.mschap_challenge_response.Statement.{statement}
 use Rattle.mschap.proofs.ciphers.mschap_challenge_response.Tie as tie
 

@@ -4,7 +4,7 @@ use mathlib.Core.Path.{_≡_, ap}
 use borrow.Author.Needs.{needs}
 use lib.ListN.{length}
 use Rattle.md4.specs.declared.Digested.{Digested}
-use Rattle.mschap.proofs.Filling.{filled-with}
+use Rattle.layouts.proofs.Filling.{filled-with}
 use Rattle.mschap.proofs.ciphers.mschap_md4.Statement.{statement}
 use Rattle.mschap.proofs.ciphers.mschap_md4.Tie as tie
 

@@ -1,13 +1,12 @@
 -- `mschap::peers::mschap_read_challenge` meets its contract.
 -- Assumes nothing.
-use mathlib.Core.Path.{ap}
-use borrow.Author.Needs.{needs}
+use mathlib.Core.Path.{refl, ap}
 use Rattle.peer.specs.declared.ChallengeRead.{ChallengeRead}
-use mathlib.Core.Path.{refl}
-use Rattle.mschap.specs.Layout.{encodePeer}
-use Rattle.mschap.proofs.Filling.{fills-as}
+use Rattle.layouts.specs.Peers.{encodePeer}
+use Rattle.layouts.proofs.Filling.{fills-as}
 use Rattle.mschap.proofs.peers.mschap_read_challenge.Statement.{statement}
 use Rattle.mschap.proofs.peers.mschap_read_challenge.Tie as tie
+use borrow.Author.Needs.{needs}
 
 returns : tie.Need-returns
 returns c =

@@ -1,39 +1,60 @@
 -- `mschap::peers::mschap_write_change` meets its contract.
 -- Assumes nothing.
-use mathlib.Core.Path.{refl, sym, _∙_}
-use borrow.Author.Needs.{needs}
+use mathlib.Core.Path.{_≡_, refl, sym, ap₂, _∙_}
+use mathlib.Core.Bool.{true}
 use borrow.Author.Tests.{not-true, not-false}
+use mathlib.Core.List.{List}
+use Prim.Native.Nat.{ℕ}
 use Rattle.peer.specs.Write.{writeChange}
 use Rattle.peer.specs.declared.Turn.{Turn}
-use Rattle.mschap.proofs.PeerCalls.{change-kept, wrote-called}
+use Rattle.layouts.specs.Passwords.{decodePassword}
+use Rattle.layouts.specs.Peers.{isEncodedPeer}
+use Rattle.layouts.proofs.Filling.{both}
+use Rattle.mschap.specs.Peers.{changeArguments}
+use Rattle.mschap.proofs.PeerCalls.{wrote-called, change-kept}
 use Rattle.mschap.proofs.peers.mschap_write_change.Statement.{statement}
 use Rattle.mschap.proofs.peers.mschap_write_change.Tie as tie
+use borrow.Author.Needs.{needs}
 
--- The peer is tested and decoded, the packet is written, and the next peer is put into the caller's
--- buffer: PeerCalls says what that makes the call return and leave.
+-- As mschap_write_response, with two passwords.
 
--- the peer is not valid
+-- the arguments are not valid
 returns : tie.Need-returns
 returns c =
     record {
-      number = simp (sym (c .before .is-encoded-peer .ensures) ∙ not-true _ (c .if1 .taken));
+      number = simp (sym (c .before .are-change-arguments .ensures) ∙ not-true _ (c .if1 .taken));
       next = refl;
       packet = refl;
     }
 
--- it is valid
+encoded : (peer old new : List ℕ) → changeArguments peer old new ≡ true → isEncodedPeer peer ≡ true
+unfolding changeArguments
+encoded peer old new e = both (isEncodedPeer peer) _ e .0
+
+-- they are valid
 returns-2 : tie.Need-returns-2
 returns-2 c =
     let put = c .before .before in
     let wrote = put .before .before .before .before .before .before in
-    let decoded = wrote .before .before in
+    let new-decoded = wrote .before .before in
+    let old-decoded = new-decoded .before in
+    let decoded = old-decoded .before in
     let passed = decoded .before .before in
     let a = passed .before .before .before .before .before .before .before .before .args in
+    let peer = a .peer .now in
     let out = a .out .now in
-    let valid = sym (passed .before .is-encoded-peer .ensures) ∙ not-false _ (passed .if1 .left) in
-    wrote-called (λ (t : Turn). writeChange t (a .old .now) (a .new .now) (a .filler .now) out)
-    (a .peer .now) out valid (change-kept (a .old .now) (a .new .now) (a .filler .now) out)
+    let filler = a .filler .now in
+    let old = decodePassword (a .old .now) in
+    let new = decodePassword (a .new .now) in
+    let turn = decoded .decode-peer .result .turn in
+    let valid =
+    sym (passed .before .are-change-arguments .ensures) ∙ not-false _ (passed .if1 .left) in
+    wrote-called (λ (t : Turn). writeChange t old new filler out) peer out
+    (changeArguments peer (a .old .now) (a .new .now)) valid
+    (encoded peer (a .old .now) (a .new .now) valid) (change-kept old new filler out)
     (decoded .decode-peer .ensures)
+    (ap₂ (λ (l k : List ℕ). writeChange turn l k filler out) (old-decoded .decode-password .ensures)
+    (new-decoded .decode-password2 .ensures))
     (wrote .write-change .ensures) (put .put-peer .ensures)
 
 pub mschap-write-change-spec : {M : Type 1} → statement M
@@ -41,5 +62,5 @@ mschap-write-change-spec =
     tie.close
     (tie.spec
     (λ c κs. search needs) (λ c. search needs) returns (λ c κs. search needs)
-    (λ c κs. search needs) (λ c κs. search needs) (λ c. search needs) (λ c. search needs)
-    returns-2)
+    (λ c κs. search needs) (λ c κs. search needs) (λ c κs. search needs) (λ c κs. search needs)
+    (λ c. search needs) (λ c. search needs) returns-2)

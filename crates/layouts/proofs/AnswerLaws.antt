@@ -1,0 +1,62 @@
+-- The layout of a step's answer, field by field: a value is its fields, and what is decoded from
+-- the encoding of a value is the value.
+-- Assumes nothing.
+use mathlib.Core.Path.{_≡_, ap, _∙_}
+use mathlib.Core.Bool.{true}
+use mathlib.Core.List.{List}
+use Prim.Native.Nat.{ℕ, suc, _<_}
+use native.Mathlib.Omega.{arith}
+use lib.ListN.{length}
+use lib.Seq.{take-all}
+use Rattle.octets.specs.Parts.{part}
+use Rattle.octets.proofs.Numbers.{fromBe-toBe}
+use Rattle.accounts.specs.declared.Lookup.{Lookup}
+use Rattle.layouts.specs.Values.{answerKind, bodyIn}
+use Rattle.layouts.specs.Records.{encodeLookup, decodeLookup, lookupSize}
+use Rattle.layouts.specs.Answers as layout
+use Rattle.layouts.specs.declared.StepResult.{StepResult}
+use Rattle.layouts.proofs.Encodings.{encoding-fits, tagged-back}
+use Rattle.layouts.proofs.RecordLaws.{SizedAccount, decoded-lookup-sized, length-lookup}
+use Rattle.layouts.proofs.RecordLaws.{lookup-back}
+
+pub result-same : {n n' : ℕ} {l l' : Lookup} → n ≡ n' → l ≡ l'
+    → _≡_ {A = StepResult} (record { reason = n; updated = l })
+    (record { reason = n'; updated = l' })
+result-same e₁ e₂ = cc
+
+-- ---- sizes
+
+pub length-result : (v : StepResult) → SizedAccount (v .updated .account)
+    → length (layout.encodeResult v) ≡ layout.resultSize
+unfolding layout.encodeResult
+length-result v s = ap (λ (n : ℕ). suc (suc n)) (length-lookup (v .updated) s)
+
+pub decoded-result-sized : (bytes : List ℕ)
+    → SizedAccount (layout.decodeResult bytes .updated .account)
+unfolding layout.decodeResult
+decoded-result-sized bytes = decoded-lookup-sized (part layout.updatedAt lookupSize bytes)
+
+pub decoded-answer-sized : (bytes : List ℕ)
+    → SizedAccount (layout.decodeAnswer bytes .updated .account)
+decoded-answer-sized bytes = decoded-result-sized (bodyIn layout.resultSize bytes)
+
+-- ---- round trip
+
+module _ (v : StepResult) (s : SizedAccount (v .updated .account)) (fits : v .reason < 65536) where
+  result-back : layout.decodeResult (layout.encodeResult v) ≡ v
+  unfolding layout.encodeResult layout.decodeResult
+  result-back =
+      let n = length-lookup (v .updated) s in
+      result-same (fromBe-toBe 2 (v .reason) ∙ omega (arith, fits))
+      (ap decodeLookup (take-all 39 (encodeLookup (v .updated)) (omega arith))
+      ∙ lookup-back (v .updated) s)
+
+  pub answer-back : layout.decodeAnswer (layout.encodeAnswer v) ≡ v
+  answer-back =
+      tagged-back layout.encodeResult layout.decodeResult answerKind 41 v (length-result v s)
+      result-back
+
+  -- the encoding of an answer is taken for one
+  pub answer-fits : layout.isEncodedAnswer (layout.encodeAnswer v) ≡ true
+  unfolding layout.isEncodedAnswer
+  answer-fits = encoding-fits layout.encodeAnswer layout.decodeAnswer v answer-back

@@ -1,0 +1,9 @@
+pub mod Filling
+pub mod Putting
+pub mod Encodings
+pub mod RecordLaws
+pub mod AnswerLaws
+pub mod ConversationLaws
+pub mod PeerLaws
+pub mod PasswordLaws
+pub mod Tags

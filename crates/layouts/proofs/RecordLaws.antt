@@ -1,0 +1,145 @@
+-- The layouts of an account and a record, field by field: a value is its fields, an encoding is its
+-- pieces, and what is decoded from the encoding of a value is the value.
+-- Assumes nothing.
+use mathlib.Core.Path.{_≡_, refl, sym, ap, _∙_}
+use mathlib.Core.Bool.{Bool, true, false}
+use mathlib.Core.List.{List, [], _∷_, _++_, append-assoc}
+use Prim.Native.Nat.{ℕ, suc, _+_}
+use native.Mathlib.Omega.{arith}
+use lib.ListN.{length, drop, getD, length-append}
+use lib.Seq.{take-all, getD-drop}
+use Rattle.octets.specs.Parts.{part}
+use Rattle.octets.proofs.Parts.{length-fixed, fixed-whole}
+use Rattle.packets.specs.Frame.{octet}
+use Rattle.packets.proofs.Framing.{field}
+use Rattle.accounts.specs.declared.Hash.{Hash}
+use Rattle.accounts.specs.declared.Account.{Account}
+use Rattle.accounts.specs.declared.Lookup.{Lookup}
+use Rattle.packets.specs.Sizes.{hashSize}
+use Rattle.layouts.specs.Values.{recordKind}
+use Rattle.layouts.specs.Records as layout
+use Rattle.layouts.proofs.Encodings.{encoding-fits, tagged-back}
+
+-- ---- a value is its fields
+
+pub hash-same : {p p' : Bool} {o o' : List ℕ} → p ≡ p' → o ≡ o'
+    → _≡_ {A = Hash} (record { present = p; octets = o }) (record { present = p'; octets = o' })
+hash-same e f = cc
+
+pub account-same : {n n' l l' : Hash} {d d' h h' o o' e e' : Bool} → n ≡ n' → l ≡ l' → d ≡ d'
+    → h ≡ h' → o ≡ o' → e ≡ e'
+    → _≡_ {A = Account}
+    (record { nt = n; lm = l; disabled = d; «hours_denied» = h; «dialin_denied» = o; expired = e })
+    (record { nt = n'; lm = l'; disabled = d'; «hours_denied» = h'; «dialin_denied» = o'; expired = e' })
+account-same e₁ e₂ e₃ e₄ e₅ e₆ = cc
+
+pub lookup-same : {f f' : Bool} {a a' : Account} → f ≡ f' → a ≡ a'
+    → _≡_ {A = Lookup} (record { found = f; account = a }) (record { found = f'; account = a' })
+lookup-same e₁ e₂ = cc
+
+-- ---- an encoding is its pieces
+
+pub account-pieces : (a : Account)
+    → ((((layout.encodeHash (a .nt) ++ layout.encodeHash (a .lm))
+    ++ (layout.flag (a .disabled) ∷ []))
+    ++ (layout.flag (a .«hours_denied») ∷ []))
+    ++ (layout.flag (a .«dialin_denied») ∷ []))
+    ++ (layout.flag (a .expired) ∷ [])
+    ≡ layout.encodeAccount a
+unfolding layout.encodeAccount
+account-pieces a = simp append-assoc
+
+-- ---- the sizes of a value's arrays, which the code's types fix
+
+pub record SizedAccount (a : Account) : Type 0 where
+  pub nt : length (a .nt .octets) ≡ hashSize
+  pub lm : length (a .lm .octets) ≡ hashSize
+
+pub decoded-account-sized : (bytes : List ℕ) → SizedAccount (layout.decodeAccount bytes)
+unfolding layout.decodeAccount
+decoded-account-sized bytes =
+    record {
+      nt = length-fixed 16 (part 1 16 (part layout.ntAt layout.optionalHashSize bytes));
+      lm = length-fixed 16 (part 1 16 (part layout.lmAt layout.optionalHashSize bytes));
+    }
+
+pub decoded-lookup-sized : (bytes : List ℕ) → SizedAccount (layout.decodeLookup bytes .account)
+unfolding layout.decodeLookup
+decoded-lookup-sized bytes =
+    decoded-account-sized (part layout.accountAt layout.accountSize bytes)
+
+pub length-account : (a : Account) → SizedAccount a
+    → length (layout.encodeAccount a) ≡ layout.accountSize
+unfolding layout.encodeAccount
+length-account a s = simp (length-append, s .nt, s .lm)
+
+pub length-lookup : (l : Lookup) → SizedAccount (l .account)
+    → length (layout.encodeLookup l) ≡ layout.lookupSize
+unfolding layout.encodeLookup
+length-lookup l s = ap suc (length-account (l .account) s)
+
+-- ---- round trips
+
+pub flag-back : (b : Bool) → layout.isFlag (layout.flag b) ≡ b
+flag-back true = refl
+flag-back false = refl
+
+hash-back : (h : Hash) → length (h .octets) ≡ hashSize
+    → layout.decodeHash (layout.encodeHash h) ≡ h
+hash-back h e = hash-same (flag-back (h .present)) (fixed-whole 16 (h .octets) e)
+
+pub account-back : (a : Account) → SizedAccount a
+    → layout.decodeAccount (layout.encodeAccount a) ≡ a
+unfolding layout.encodeAccount layout.decodeAccount
+account-back a s =
+    account-same (ap layout.decodeHash (first .0) ∙ hash-back (a .nt) (s .nt))
+    (ap layout.decodeHash (second .0) ∙ hash-back (a .lm) (s .lm))
+    (flagged 0 ∙ flag-back (a .disabled)) (flagged 1 ∙ flag-back (a .«hours_denied»))
+    (flagged 2 ∙ flag-back (a .«dialin_denied»)) (flagged 3 ∙ flag-back (a .expired))
+  where
+    nt : List ℕ
+    nt = layout.encodeHash (a .nt)
+
+    lm : List ℕ
+    lm = layout.encodeHash (a .lm)
+
+    flags : List ℕ
+    flags =
+        layout.flag (a .disabled) ∷ layout.flag (a .«hours_denied») ∷ layout.flag (a .«dialin_denied»)
+        ∷ layout.flag (a .expired) ∷ []
+
+    bytes : List ℕ
+    bytes = nt ++ (lm ++ flags)
+
+    first : (part 0 17 bytes ≡ nt) × (drop 17 bytes ≡ lm ++ flags)
+    first = field bytes 0 17 nt (lm ++ flags) refl (ap suc (s .nt))
+
+    second : (part 17 17 bytes ≡ lm) × (drop 34 bytes ≡ flags)
+    second = field bytes 17 17 lm flags (first .1) (ap suc (s .lm))
+
+    flagged : (i : ℕ) → layout.isFlag (octet (34 + i) bytes) ≡ layout.isFlag (octet i flags)
+    flagged i =
+        ap layout.isFlag
+        (sym (getD-drop 34 bytes i 0) ∙ ap (λ (l : List ℕ). getD l i 0) (second .1))
+
+pub lookup-back : (l : Lookup) → SizedAccount (l .account)
+    → layout.decodeLookup (layout.encodeLookup l) ≡ l
+unfolding layout.encodeLookup layout.decodeLookup
+lookup-back l s =
+    let n = length-account (l .account) s in
+    lookup-same (flag-back (l .found))
+    (ap layout.decodeAccount (take-all 38 (layout.encodeAccount (l .account)) (omega arith))
+    ∙ account-back (l .account) s)
+
+-- what is decoded from a record is what was encoded
+pub record-back : (l : Lookup) → SizedAccount (l .account)
+    → layout.decodeRecord (layout.encodeRecord l) ≡ l
+record-back l s =
+    tagged-back layout.encodeLookup layout.decodeLookup recordKind 39 l (length-lookup l s)
+    (lookup-back l s)
+
+-- the encoding of a record is taken for one
+pub record-fits : (l : Lookup) → SizedAccount (l .account)
+    → layout.isEncodedRecord (layout.encodeRecord l) ≡ true
+unfolding layout.isEncodedRecord
+record-fits l s = encoding-fits layout.encodeRecord layout.decodeRecord l (record-back l s)

@@ -1,0 +1,17 @@
+-- `layouts::buffers::are_sized` meets its contract.
+-- Assumes nothing.
+use borrow.Author.Tests.{eq-eqb, ne-eqb}
+use Rattle.layouts.proofs.buffers.are_sized.Statement.{statement}
+use Rattle.layouts.proofs.buffers.are_sized.Tie as tie
+
+returns : tie.Need-returns
+returns c = simp (eq-eqb _ _ (c .if1 .taken))
+
+returns-2 : tie.Need-returns-2
+returns-2 c = simp (ne-eqb _ _ (c .if1 .left))
+
+pub are-sized-spec : {M : Type 1} → statement M
+are-sized-spec =
+    tie.close
+    (tie.spec
+    returns returns-2)

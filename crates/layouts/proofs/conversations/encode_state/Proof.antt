@@ -1,0 +1,44 @@
+-- `layouts::conversations::encode_state` meets its contract.
+-- Assumes nothing.
+use mathlib.Core.Path.{_≡_, refl, ap₂, _∙_}
+use mathlib.Core.List.{[], _∷_}
+use borrow.Author.Needs.{needs}
+use lib.ListN.{length}
+use Rattle.octets.specs.Parts.{over}
+use Rattle.layouts.specs.Records.{flag, encodeAccount}
+use Rattle.layouts.proofs.Putting.{first, next, last}
+use Rattle.layouts.proofs.ConversationLaws.{state-pieces}
+use Rattle.layouts.proofs.conversations.encode_state.Statement.{statement}
+use Rattle.layouts.proofs.conversations.encode_state.Tie as tie
+
+long : (c : tie.Start) → length (c .args .conversation .challenge) ≡ 8
+long c = search needs
+
+-- each field in turn, the last first
+returns : tie.Need-returns
+returns c =
+    let challenge = c .before in
+    let retries = challenge .before in
+    let id = retries .before in
+    let lm = id .before in
+    let phase = lm .before in
+    let code = phase .before in
+    let empty = code .before in
+    let start = empty .before .before .before .before in
+    let v = start .args .conversation in
+    let room = empty .empty-room .result .bytes in
+    let s₁ = first 0 room (code .awaited-code .result ∷ []) 1 refl (phase .put-byte .ensures) in
+    let s₂ = next s₁ (flag (v .terms .lm) ∷ []) 1 refl (lm .put-flag .ensures) in
+    let s₃ = next s₂ (v .id ∷ []) 1 refl (id .put-byte2 .ensures) in
+    let s₄ = next s₃ (v .retries ∷ []) 1 refl (retries .put-byte3 .ensures) in
+    let s₅ = next s₄ (v .challenge) 8 (long start) (challenge .put-eight .ensures) in
+    last s₅ (encodeAccount (v .kept)) (c .encode-account .ensures)
+    ∙ ap₂ over (state-pieces v (code .awaited-code .ensures)) (empty .empty-room .ensures)
+
+pub encode-state-spec : {M : Type 1} → statement M
+encode-state-spec =
+    tie.close
+    (tie.spec
+    (λ c κs. search needs) (λ c κs. search needs) (λ c κs. search needs) (λ c κs. search needs)
+    (λ c κs. search needs) (λ c κs. search needs) (λ c κs. search needs) (λ c κs. search needs)
+    returns)

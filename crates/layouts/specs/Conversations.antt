@@ -1,0 +1,70 @@
+-- The layout of a conversation.
+-- Assumes nothing: these are definitions.
+use mathlib.Core.Bool.{Bool, cond}
+use mathlib.Core.List.{List, _∷_, _++_}
+use Prim.Native.Nat.{ℕ}
+use lib.Dec.{eqb}
+use Rattle.octets.specs.Parts.{part, fixed}
+use Rattle.packets.specs.Codes.{responseCode, changeCode}
+use Rattle.packets.specs.Sizes.{challengeSize}
+use Rattle.packets.specs.Frame.{octet}
+use Rattle.authenticator.specs.Conversation.{awaitedCode}
+use Rattle.authenticator.specs.declared.Conversation.{Conversation}
+use Rattle.authenticator.specs.declared.Phase.{Phase}
+use Rattle.authenticator.specs.declared.Phase.the-variants.{Response, Change, Ended}
+use Rattle.layouts.specs.Values.{conversationKind, tagged, bodyIn, isEncoding}
+use Rattle.layouts.specs.Records.{flag, isFlag, accountSize, encodeAccount, decodeAccount}
+
+-- the sizes, in bytes
+abbrev pub stateSize : ℕ
+stateSize = 50
+
+abbrev pub conversationSize : ℕ
+conversationSize = 52
+
+-- the phase that awaits a code: 2 is a Response, 6 a change; else the conversation has ended
+abbrev pub phaseOf : ℕ → Phase
+phaseOf n = cond (eqb n responseCode) Response (cond (eqb n changeCode) Change Ended)
+
+abbrev pub awaitedAt : ℕ
+awaitedAt = 0
+
+abbrev pub lmAllowedAt : ℕ
+lmAllowedAt = 1
+
+abbrev pub identifierAt : ℕ
+identifierAt = 2
+
+abbrev pub retriesAt : ℕ
+retriesAt = 3
+
+abbrev pub challengeAt : ℕ
+challengeAt = 4
+
+abbrev pub keptAt : ℕ
+keptAt = 12
+
+unfoldable pub encodeState : Conversation → List ℕ
+encodeState c =
+    awaitedCode (c .phase) ∷ flag (c .terms .lm) ∷ c .id ∷ c .retries
+    ∷ (c .challenge ++ encodeAccount (c .kept))
+
+unfoldable pub decodeState : List ℕ → Conversation
+decodeState bytes =
+    record {
+      terms = record { lm = isFlag (octet lmAllowedAt bytes) };
+      id = octet identifierAt bytes;
+      challenge = fixed challengeSize (part challengeAt challengeSize bytes);
+      retries = octet retriesAt bytes;
+      phase = phaseOf (octet awaitedAt bytes);
+      kept = decodeAccount (part keptAt accountSize bytes);
+    }
+
+abbrev pub encodeConversation : Conversation → List ℕ
+encodeConversation c = tagged conversationKind (encodeState c)
+
+abbrev pub decodeConversation : List ℕ → Conversation
+decodeConversation bytes = decodeState (bodyIn stateSize bytes)
+
+unfoldable pub isEncodedConversation : List ℕ → Bool
+isEncodedConversation bytes = isEncoding encodeConversation decodeConversation bytes

@@ -1,0 +1,9 @@
+pub mod Call
+pub mod Values
+pub mod Records
+pub mod Answers
+pub mod Conversations
+pub mod Peers
+pub mod Passwords
+pub mod Lists
+pub mod Inner

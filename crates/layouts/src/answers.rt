@@ -1,0 +1,67 @@
+// The layout of what C keeps of a step's answer.
+use crate::StepResult;
+use crate::records::LOOKUP_SIZE;
+use crate::records::decode_lookup;
+use crate::records::encode_lookup;
+use crate::room::Room;
+use crate::room::TAG_SIZE;
+use crate::room::empty_room;
+use crate::room::is_value;
+use crate::room::put_two;
+use crate::room::put_value;
+ghost use mathlib.Core.Path.{_≡_};
+ghost use Rattle.layouts.specs.Call.{Fills, sized};
+ghost use Rattle.layouts.specs.Answers.{encodeResult, decodeResult};
+ghost use Rattle.layouts.specs.Answers.{encodeAnswer, decodeAnswer};
+ghost use Rattle.layouts.specs.Answers.{isEncodedAnswer, answerSize};
+ghost use Rattle.layouts.specs.Inner.{inRoom};
+
+const RESULT_SIZE: usize = 41;
+
+pub const ANSWER_SIZE: usize = 43;
+
+// A
+const ANSWER_KIND: u8 = 65;
+
+const REASON_AT: usize = 0;
+
+const UPDATED_AT: usize = 2;
+
+fn encode_result(result: StepResult) -> Room
+    ensures { λ r. ⌜ r .bytes ≡ inRoom (encodeResult result) ⌝ }
+{
+    let updated = result.updated;
+    let room = put_two(empty_room(), REASON_AT, octets::u16_to_be(result.reason));
+    encode_lookup(room, UPDATED_AT, updated)
+}
+
+fn decode_result(bytes: &[u8]) -> StepResult
+    ensures { λ r. ⌜ r ≡ decodeResult (now (bytes .entry)) ⌝ }
+{
+    let reason = octets::u16_from_be(packets::octet(bytes, REASON_AT), packets::octet(bytes, 1));
+    let updated = decode_lookup(octets::part_of(bytes, UPDATED_AT, LOOKUP_SIZE));
+    StepResult { reason, updated }
+}
+
+pub fn decode_answer(bytes: &[u8]) -> StepResult
+    ensures { λ r. ⌜ r ≡ decodeAnswer (now (bytes .entry)) ⌝ }
+{
+    decode_result(octets::part_of(bytes, TAG_SIZE, RESULT_SIZE))
+}
+
+// Whether bytes are an answer's.
+pub fn is_encoded_answer(bytes: &[u8]) -> bool
+    ensures { λ r. ⌜ r ≡ isEncodedAnswer (now (bytes .entry)) ⌝ }
+{
+    let body = encode_result(decode_answer(bytes));
+    is_value(ANSWER_KIND, body, ANSWER_SIZE, bytes)
+}
+
+// Fills out with an answer, unless there is a refusal.
+pub fn put_answer(refusal: u8, result: StepResult, out: &mut [u8]) -> u32
+    ensures { λ r. ⌜ Fills (sized answerSize (now (out .entry))) refusal (encodeAnswer result)
+        (now (out .entry)) r (now (out .exit)) ⌝ }
+{
+    let body = encode_result(result);
+    put_value(ANSWER_KIND, refusal, body, ANSWER_SIZE, out)
+}

@@ -1,0 +1,110 @@
+// The layout of a conversation.
+use crate::records::ACCOUNT_SIZE;
+use crate::records::decode_account;
+use crate::records::encode_account;
+use crate::records::is_flag;
+use crate::room::Room;
+use crate::room::TAG_SIZE;
+use crate::room::empty_room;
+use crate::room::is_value;
+use crate::room::put_byte;
+use crate::room::put_eight;
+use crate::room::put_flag;
+use crate::room::put_value;
+use authenticator::Conversation;
+use authenticator::Phase;
+use verify::Terms;
+ghost use mathlib.Core.Path.{_≡_};
+ghost use Rattle.layouts.specs.Call.{Fills, sized};
+ghost use Rattle.layouts.specs.Conversations.{phaseOf, encodeState, decodeState};
+ghost use Rattle.layouts.specs.Conversations.{encodeConversation, decodeConversation};
+ghost use Rattle.layouts.specs.Conversations.{isEncodedConversation, conversationSize};
+ghost use Rattle.layouts.specs.Inner.{inRoom};
+
+const STATE_SIZE: usize = 50;
+
+pub const CONVERSATION_SIZE: usize = 52;
+
+// C
+const CONVERSATION_KIND: u8 = 67;
+
+const AWAITED_AT: usize = 0;
+
+const LM_ALLOWED_AT: usize = 1;
+
+const IDENTIFIER_AT: usize = 2;
+
+const RETRIES_AT: usize = 3;
+
+const CHALLENGE_AT: usize = 4;
+
+const KEPT_AT: usize = 12;
+
+fn phase_of(code: u8) -> Phase
+    ensures { λ r. ⌜ r ≡ phaseOf code ⌝ }
+{
+    if code == packets::RESPONSE_CODE {
+        return Phase::Response;
+    }
+    if code == packets::CHANGE_CODE {
+        return Phase::Change;
+    }
+    Phase::Ended
+}
+
+fn encode_state(conversation: Conversation) -> Room
+    ensures { λ r. ⌜ r .bytes ≡ inRoom (encodeState conversation) ⌝ }
+{
+    let phase = conversation.phase;
+    let terms = conversation.terms;
+    let challenge = conversation.challenge;
+    let kept = conversation.kept;
+    let mut room = put_byte(empty_room(), AWAITED_AT, authenticator::awaited_code(phase));
+    room = put_flag(room, LM_ALLOWED_AT, terms.lm);
+    room = put_byte(room, IDENTIFIER_AT, conversation.id);
+    room = put_byte(room, RETRIES_AT, conversation.retries);
+    room = put_eight(room, CHALLENGE_AT, challenge);
+    encode_account(room, KEPT_AT, kept)
+}
+
+fn decode_state(bytes: &[u8]) -> Conversation
+    ensures { λ r. ⌜ r ≡ decodeState (now (bytes .entry)) ⌝ }
+{
+    let phase = phase_of(packets::octet(bytes, AWAITED_AT));
+    let lm = is_flag(packets::octet(bytes, LM_ALLOWED_AT));
+    let id = packets::octet(bytes, IDENTIFIER_AT);
+    let retries = packets::octet(bytes, RETRIES_AT);
+    let challenge = octets::eight_at(bytes, CHALLENGE_AT);
+    let kept = decode_account(octets::part_of(bytes, KEPT_AT, ACCOUNT_SIZE));
+    Conversation {
+        terms: Terms { lm },
+        id,
+        challenge,
+        retries,
+        phase,
+        kept,
+    }
+}
+
+pub fn decode_conversation(bytes: &[u8]) -> Conversation
+    ensures { λ r. ⌜ r ≡ decodeConversation (now (bytes .entry)) ⌝ }
+{
+    decode_state(octets::part_of(bytes, TAG_SIZE, STATE_SIZE))
+}
+
+// Whether bytes are a conversation's.
+pub fn is_encoded_conversation(bytes: &[u8]) -> bool
+    ensures { λ r. ⌜ r ≡ isEncodedConversation (now (bytes .entry)) ⌝ }
+{
+    let body = encode_state(decode_conversation(bytes));
+    is_value(CONVERSATION_KIND, body, CONVERSATION_SIZE, bytes)
+}
+
+// Fills out with a conversation, unless there is a refusal.
+pub fn put_conversation(refusal: u8, conversation: Conversation, out: &mut [u8]) -> u32
+    ensures { λ r. ⌜ Fills (sized conversationSize (now (out .entry))) refusal
+        (encodeConversation conversation) (now (out .entry)) r (now (out .exit)) ⌝ }
+{
+    let body = encode_state(conversation);
+    put_value(CONVERSATION_KIND, refusal, body, CONVERSATION_SIZE, out)
+}

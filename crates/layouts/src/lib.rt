@@ -1,0 +1,49 @@
+// The layouts in which values cross to C: each value is encoded and decoded, bytes are tested for
+// being an encoding, and a buffer is filled with one. Every public function is total.
+mod answers;
+mod buffers;
+mod conversations;
+mod lists;
+mod passwords;
+mod peers;
+mod records;
+mod room;
+
+use accounts::Lookup;
+pub use answers::ANSWER_SIZE;
+pub use answers::decode_answer;
+pub use answers::is_encoded_answer;
+pub use answers::put_answer;
+pub use buffers::BAD_ARGUMENT;
+pub use buffers::are_sized;
+pub use buffers::both;
+pub use buffers::fill;
+pub use buffers::wide;
+pub use conversations::CONVERSATION_SIZE;
+pub use conversations::decode_conversation;
+pub use conversations::is_encoded_conversation;
+pub use conversations::put_conversation;
+pub use lists::LIST_HEAD_SIZE;
+pub use lists::is_list;
+pub use lists::places_in;
+pub use lists::put_list_head;
+pub use lists::used_in;
+pub use passwords::PASSWORD_SIZE;
+pub use passwords::decode_password;
+pub use passwords::is_encoded_password;
+pub use passwords::put_password;
+pub use peers::PEER_SIZE;
+pub use peers::decode_peer;
+pub use peers::is_encoded_peer;
+pub use peers::put_peer;
+pub use records::RECORD_SIZE;
+pub use records::decode_record;
+pub use records::is_encoded_record;
+pub use records::put_record;
+
+// What C keeps of a step's answer: the reason (0 is Success), and the record that an accepted
+// change updates, or none.
+pub struct StepResult {
+    pub reason: u16,
+    pub updated: Lookup,
+}

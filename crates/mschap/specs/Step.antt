@@ -1,0 +1,64 @@
+-- The step from C, over encodings, and what its answer and a conversation tell.
+-- Assumes nothing: these are definitions.
+use mathlib.Core.Bool.{Bool, _&&_}
+use mathlib.Core.List.{List}
+use mathlib.Core.Path.{_≡_}
+use Prim.Native.Nat.{ℕ}
+use Rattle.authenticator.specs.Conversation.{awaitedCode}
+use Rattle.authenticator.specs.Step.{Outcome, step, refusalIn}
+use Rattle.layouts.specs.Call.{Fills, sized, numbered, afterCall}
+use Rattle.layouts.specs.Records.{recordSize, encodeRecord, decodeRecord, isEncodedRecord}
+use Rattle.layouts.specs.Answers.{answerSize, encodeAnswer, decodeAnswer, isEncodedAnswer}
+use Rattle.layouts.specs.Conversations.{encodeConversation, decodeConversation}
+use Rattle.layouts.specs.Conversations.{isEncodedConversation}
+use Rattle.numbers.specs.Results.{resultOf, noRecordRefusal}
+use Rattle.mschap.specs.Sizes.{valueOr}
+
+-- ---- the call
+
+-- a step of the conversation that is encoded
+abbrev pub stepOf : List ℕ → List ℕ → List ℕ → List ℕ → Outcome
+stepOf conversation packet account buffer =
+    step (decodeConversation conversation) packet (decodeRecord account) buffer
+
+unfoldable pub stepArguments : List ℕ → List ℕ → List ℕ → Bool
+stepArguments conversation account out =
+    isEncodedConversation conversation && (isEncodedRecord account && sized answerSize out)
+
+-- what the call returns (r) and leaves in the conversation, the reply buffer and the answer
+pub record StepCall (conversation packet account buffer out : List ℕ) (r : ℕ)
+    (conversationAfter bufferAfter outAfter : List ℕ) : Type 0 where
+  pub number : r
+      ≡ numbered (stepArguments conversation account out)
+      (refusalIn (stepOf conversation packet account buffer .answer .kind))
+  pub next : conversationAfter
+      ≡ afterCall r (encodeConversation (stepOf conversation packet account buffer .answer .next))
+      conversation
+  pub sent : bufferAfter ≡ afterCall r (stepOf conversation packet account buffer .buffer) buffer
+  pub found : outAfter
+      ≡ afterCall r (encodeAnswer (resultOf (stepOf conversation packet account buffer .answer)))
+      out
+
+-- ---- what an answer tells
+
+unfoldable pub answerReason : List ℕ → ℕ
+answerReason answer = valueOr (isEncodedAnswer answer) (decodeAnswer answer .reason)
+
+unfoldable pub answerRecordArguments : List ℕ → List ℕ → Bool
+answerRecordArguments answer out = isEncodedAnswer answer && sized recordSize out
+
+abbrev pub AnswerRecordCall : List ℕ → List ℕ → ℕ → List ℕ → Type 0
+AnswerRecordCall answer out r outAfter =
+    Fills (answerRecordArguments answer out) (noRecordRefusal (decodeAnswer answer .updated))
+    (encodeRecord (decodeAnswer answer .updated)) out r outAfter
+
+-- ---- what a conversation tells
+
+unfoldable pub conversationAwaits : List ℕ → ℕ
+conversationAwaits c = valueOr (isEncodedConversation c) (awaitedCode (decodeConversation c .phase))
+
+unfoldable pub conversationIdentifier : List ℕ → ℕ
+conversationIdentifier c = valueOr (isEncodedConversation c) (decodeConversation c .id)
+
+unfoldable pub conversationRetries : List ℕ → ℕ
+conversationRetries c = valueOr (isEncodedConversation c) (decodeConversation c .retries)

@@ -1,0 +1,45 @@
+// The terms of an opening as C passes them.
+use authenticator::LmChoice;
+use authenticator::Retries;
+use layouts::both;
+ghost use mathlib.Core.Path.{_≡_};
+ghost use Rattle.numbers.specs.Terms.{isTerms, retriesFor, lmFor, retriesTerm, lmTerm};
+
+pub fn is_terms(terms: u32) -> bool
+    ensures { λ r. ⌜ r ≡ isTerms terms ⌝ }
+{
+    both(terms / 65536 == 1, terms / 256 % 256 < 3)
+}
+
+fn retries_for(n: u8) -> Retries
+    ensures { λ r. ⌜ r ≡ retriesFor n ⌝ }
+{
+    if n == 0 {
+        return Retries::Default;
+    }
+    Retries::Count(n - 1)
+}
+
+fn lm_for(n: u8) -> LmChoice
+    ensures { λ r. ⌜ r ≡ lmFor n ⌝ }
+{
+    if n == 0 {
+        return LmChoice::Silent;
+    }
+    if n == 1 {
+        return LmChoice::Allowed;
+    }
+    LmChoice::Disallowed
+}
+
+pub fn retries_in(terms: u32) -> Retries
+    ensures { λ r. ⌜ r ≡ retriesFor (retriesTerm terms) ⌝ }
+{
+    retries_for((terms % 256) as u8)
+}
+
+pub fn lm_in(terms: u32) -> LmChoice
+    ensures { λ r. ⌜ r ≡ lmFor (lmTerm terms) ⌝ }
+{
+    lm_for((terms / 256 % 256) as u8)
+}
