@@ -1,31 +1,65 @@
 /*
- * mschap.h: MS-CHAP (RFC 2433) in C, over a library whose every function is proved against its
- * promise.
+ * mschap.h: MS-CHAP version 1 (RFC 2433) for C, over a library whose every function is proved
+ * against its promise.
+ *
+ * QUICK START: the authenticator, with the account "user" and its password in UTF-8
+ *
+ *     static uint8_t list[MSCHAP_LIST_SIZE(300)];         // for 100 conversations, see mschap_open
+ *     mschap_conversation talk;  mschap_record record;  mschap_answer answer;
+ *     mschap_password password;  mschap_nthash hash;
+ *     uint8_t reply[MSCHAP_REPLY_SIZE], challenge[MSCHAP_CHALLENGE_SIZE];
+ *
+ *     mschap_make_list(list, sizeof list);                // once
+ *     mschap_make_password(text, text_size, &password, sizeof password);
+ *     mschap_nt_hash(&password, sizeof password, &hash, sizeof hash);
+ *     mschap_make_record(MSCHAP_FOUND | MSCHAP_HAS_NT_HASH, &hash, sizeof hash, NULL, 0,
+ *                        &record, sizeof record);
+ *     getrandom(challenge, sizeof challenge, 0);          // unpredictable: from a CSPRNG
+ *     mschap_open(1, MSCHAP_TERMS, challenge, sizeof challenge, list, sizeof list,
+ *                 &talk, sizeof talk, reply, sizeof reply);
+ *     send(reply, mschap_packet_length(reply, sizeof reply));
+ *     while (mschap_conversation_awaits(&talk, sizeof talk) != MSCHAP_AWAITS_NOTHING) {
+ *         size = receive(packet);       // who it is: mschap_account_offset, mschap_account_length
+ *         if (mschap_step(&talk, sizeof talk, packet, size, &record, sizeof record,
+ *                         reply, sizeof reply, &answer, sizeof answer) != MSCHAP_OK)
+ *             continue;                                   // refused: nothing has changed
+ *         if (mschap_answer_record(&answer, sizeof answer, &record, sizeof record) == MSCHAP_OK)
+ *             store(record);                              // an accepted change of the password
+ *         send(reply, mschap_packet_length(reply, sizeof reply));
+ *     }
+ *     // in, if mschap_answer_reason(&answer, sizeof answer) is MSCHAP_SUCCESS
+ *
+ * Check each return value. examples/authenticator.c and examples/peer.c are whole programs.
  *
  * LINKING
- *   `rt staticlib mschap` writes target/staticlib/libmschap.a, for x86-64 Linux:
- *       cc -I host/include program.c target/staticlib/libmschap.a
+ *   `make lib` writes libmschap.a, this header and mschap.pc below target/lib-mschap, for x86-64
+ *   Linux; `make install PREFIX=/usr/local` copies them. Then
+ *       cc program.c $(pkg-config --cflags --libs mschap)
+ *   The archive needs no other library, and may be linked into a shared one.
  *
  * BUFFERS
- *   A buffer is passed as a pointer and, right behind it, its size in bytes. A const buffer is only
- *   read; any other is read or written as said at the function. No two buffers of a call may
- *   overlap, unless both are const. An empty buffer may have any pointer, NULL too. The counts of
- *   mschap_open are no bytes: their size is their number. Its used points to a size_t, which no
- *   buffer of the call overlaps.
+ *   A buffer is passed as a pointer and, right behind it, its size in bytes, which is sizeof for
+ *   every type below. A const buffer is only read; any other is read or written as said at the
+ *   function. No two buffers of a call may overlap, unless both are const. An empty buffer may have
+ *   any pointer, NULL too. A pointer without a size (flags, length, call, reason) is never NULL,
+ *   and no buffer of the call overlaps what it points to.
+ *
+ * VALUES
+ *   Accounts, conversations and so on are passed as values of the types below: bytes that only this
+ *   library makes and reads. They hold no pointer, so they may be copied, stored and read again.
+ *   Each begins with its kind and the version of its layout, MSCHAP_LAYOUT_VERSION; one of another
+ *   kind or version, of another size or with bytes that no value has is refused with
+ *   MSCHAP_BAD_ARGUMENT. Bytes are not signed: store values where nobody else writes.
  *
  * WHAT A FUNCTION RETURNS
- *   0             MSCHAP_OK: done
- *   1 to 24       refused, by the numbers below
- *   100           MSCHAP_BAD_ARGUMENT: a buffer of a fixed size was passed with another size (for
- *                 the counts of mschap_open that is 24), or it holds an invalid encoding (a flag
- *                 that is neither 0 nor 1, an awaited code that is not 0, 2 or 6), or the number
- *                 for LM is not one of the three
- *   (The four functions on the parts of a name return an offset or a length instead.)
- *   100 comes before any refusal. On every return but 0, every buffer is unchanged.
+ *   MSCHAP_OK (0), or the number of the first thing that is wrong, by the macros below.
+ *   MSCHAP_BAD_ARGUMENT comes before any other. On every return but MSCHAP_OK, every buffer is
+ *   unchanged, and so is whatever a pointer without a size points to.
+ *   A function that returns a value instead, as mschap_conversation_awaits, says so.
  *
  * STATE
  *   Nothing is allocated and there is no state in the library: all that a conversation or a peer
- *   knows is in the buffer that the caller keeps, and which challenges were issued is in the list
+ *   knows is in the value that the caller keeps, and which challenges were issued is in the list
  *   that the caller passes. So calls on different buffers may be made at the same time, and a
  *   conversation or a peer may be stored and continued later. Do not continue a conversation from
  *   two copies: each would take an answer to the same challenge. Secrets that pass through are left
@@ -33,10 +67,10 @@
  *
  * STACK
  *   Provide MSCHAP_STACK_SIZE bytes of stack for any call, whatever its input is. That is at least
- *   4 KiB more than any function takes: a test measures each on its worst inputs, and
- *   docs/PERFORMANCE.md has a row for each. The rest is for others: where memcpy and memset are
- *   bound at their first call, the loader runs there and takes about 3 KiB (none where the program
- *   is linked with -z now), and a signal's handler may run there.
+ *   4 KiB more than any function takes: a test measures each on its worst inputs, and the comment
+ *   of each has its figure. The rest is for others: where memcpy and memset are bound at their
+ *   first call, the loader runs there and takes about 3 KiB (none where the program is linked with
+ *   -z now), and a signal's handler may run there.
  */
 #ifndef MSCHAP_H
 #define MSCHAP_H
@@ -48,28 +82,84 @@
 extern "C" {
 #endif
 
+/* ---- versions */
+
+#define MSCHAP_VERSION 0x000200      /* of this interface: major, minor, patch, a byte each */
+#define MSCHAP_VERSION_TEXT "0.2.0"
+#define MSCHAP_LAYOUT_VERSION 1      /* of the values that are stored */
+
 /* ---- what a function returns */
 
 #define MSCHAP_OK 0
 #define MSCHAP_ENDED 1           /* the conversation has ended */
-#define MSCHAP_REPLY_ROOM 2      /* the reply buffer has under 17 bytes */
-#define MSCHAP_FRAME 3           /* a packet under 4 bytes, or Length under 4 or over packet_size */
+#define MSCHAP_REPLY_ROOM 2      /* the reply buffer is under MSCHAP_REPLY_SIZE bytes */
+#define MSCHAP_FRAME 3           /* a packet under 4 bytes, its Length under 4 or over its size */
 #define MSCHAP_CODE 4            /* another code than the awaited one */
 #define MSCHAP_IDENTIFIER 5      /* another identifier than the awaited one */
-#define MSCHAP_SIZE 6            /* sizes within the packet */
-#define MSCHAP_FLAGS 7           /* a flag or flags out of range */
-#define MSCHAP_INPUT 8           /* a password, key or input of a size that is not accepted */
-#define MSCHAP_ROOM 9            /* too little room for the packet to be written */
-#define MSCHAP_NAME 10           /* a name that is empty or over 256 bytes */
+#define MSCHAP_SIZE 6            /* wrong sizes within the packet */
+#define MSCHAP_FLAGS 7           /* a flag or flags of the packet out of range */
+#define MSCHAP_INPUT 8           /* a password, key or input of a length that is not accepted */
+#define MSCHAP_ROOM 9            /* the buffer is too small for what is to be written */
+#define MSCHAP_NAME 10           /* a name that is empty or over MSCHAP_NAME_MAX bytes */
 #define MSCHAP_READING 11        /* no Challenge, Success or Failure, or one that cannot be read */
-#define MSCHAP_FILLER 12         /* a filler that is not 512 bytes */
-#define MSCHAP_RETRIES 13        /* over 7 retries */
+#define MSCHAP_FILLER 12         /* a filler that is not MSCHAP_FILLER_SIZE bytes */
+#define MSCHAP_RETRIES_RANGE 13  /* over 7 retries */
 #define MSCHAP_SPENT 16          /* the challenge or one of its successors was issued before */
 #define MSCHAP_LIST_FULL 17      /* too few places left in the list of issued challenges */
-#define MSCHAP_LIST 24           /* a bad list of issued challenges: its size, used, or counts */
-#define MSCHAP_BAD_ARGUMENT 100  /* see above */
+#define MSCHAP_LIST 24           /* a bad list: its size, or more places used than it has */
+#define MSCHAP_BAD_ARGUMENT 100  /* a value or buffer of another size, kind or version than the
+                                    function takes, bytes that no value has, or a number (terms,
+                                    identifier, flags) that is none */
+#define MSCHAP_MALFORMED 101     /* text that is not UTF-8, or characters that are not UTF-16 */
+#define MSCHAP_NO_RECORD 102     /* the answer has no record to be stored */
 
-/* ---- the sizes of buffers, in bytes */
+/* What a function that returns a value returns instead, if it was passed an invalid one. */
+#define MSCHAP_INVALID 0xffffffffu
+
+/* ---- the reasons of a Failure (RFC 2433, section 6); MSCHAP_SUCCESS stands for Success */
+
+#define MSCHAP_SUCCESS 0
+#define MSCHAP_E_RESTRICTED_LOGON_HOURS 646
+#define MSCHAP_E_ACCT_DISABLED 647
+#define MSCHAP_E_PASSWD_EXPIRED 648
+#define MSCHAP_E_NO_DIALIN_PERMISSION 649
+#define MSCHAP_E_AUTHENTICATION_FAILURE 691
+#define MSCHAP_E_CHANGING_PASSWORD 709
+
+/* ---- what a conversation awaits */
+
+#define MSCHAP_AWAITS_NOTHING 0  /* it has ended */
+#define MSCHAP_AWAITS_RESPONSE 2
+#define MSCHAP_AWAITS_CHANGE 6
+
+/* ---- what a reply calls for */
+
+#define MSCHAP_CALL_NONE 0       /* Success: the peer is in */
+#define MSCHAP_CALL_RESPONSE 1   /* another Response: mschap_write_response */
+#define MSCHAP_CALL_CHANGE 2     /* a new password: mschap_write_change */
+#define MSCHAP_CALL_CHANGE_1 3   /* a version 1 change of the password, which is not written here */
+#define MSCHAP_CALL_END 4        /* hang up */
+
+/* ---- the flags of a record */
+
+#define MSCHAP_FOUND 0x01          /* there is such an account; else the others have no effect */
+#define MSCHAP_HAS_NT_HASH 0x02
+#define MSCHAP_HAS_LM_HASH 0x04
+#define MSCHAP_DISABLED 0x08       /* nobody may log on */
+#define MSCHAP_HOURS_DENIED 0x10   /* the hours do not allow a logon */
+#define MSCHAP_DIALIN_DENIED 0x20  /* there is no permission to dial in */
+#define MSCHAP_EXPIRED 0x40        /* the password has expired: it must be changed */
+
+/* ---- the terms of a conversation: MSCHAP_TERMS alone for the defaults, or joined by |
+        with MSCHAP_RETRIES(n) and one of the two choices about LM, each at most once */
+
+#define MSCHAP_TERMS 0x10000u
+/* how often a wrong password may be tried again, 0 to 7; the default is 2 */
+#define MSCHAP_RETRIES(n) ((uint32_t)(n) < 254u ? (uint32_t)(n) + 1u : 255u)
+#define MSCHAP_LM_ALLOWED 0x100u  /* a response by LM is judged; the default */
+#define MSCHAP_LM_REFUSED 0x200u  /* it is never valid */
+
+/* ---- sizes, in bytes */
 
 #define MSCHAP_DIGEST_SIZE 16
 #define MSCHAP_HASH_SIZE 16
@@ -78,207 +168,210 @@ extern "C" {
 #define MSCHAP_CHALLENGE_SIZE 8
 #define MSCHAP_RESPONSE_SIZE 24
 #define MSCHAP_FILLER_SIZE 512
-#define MSCHAP_ACCOUNT_SIZE 38
-#define MSCHAP_RECORD_SIZE 39
-#define MSCHAP_CONVERSATION_SIZE 50
-#define MSCHAP_LIST_PLACES 4096       /* the most places of a list, MSCHAP_CHALLENGE_SIZE each */
-#define MSCHAP_COUNTS_SIZE 256        /* counts, not bytes */
-#define MSCHAP_PEER_SIZE 19
-#define MSCHAP_FIELDS_SIZE 35
-#define MSCHAP_REPLY_SIZE 17          /* the longest packet of the authenticator */
-#define MSCHAP_RESPONSE_PACKET 310    /* the longest Response */
-#define MSCHAP_CHANGE_PACKET 1118     /* every change */
+#define MSCHAP_RECORD_SIZE 41
+#define MSCHAP_CONVERSATION_SIZE 52
+#define MSCHAP_ANSWER_SIZE 43
+#define MSCHAP_PEER_SIZE 21
+#define MSCHAP_PASSWORD_SIZE 516
+#define MSCHAP_LIST_PLACES 4096                        /* the most places of a list */
+#define MSCHAP_LIST_SIZE(places) (4 + 8 * (places))    /* a list of so many places */
+#define MSCHAP_REPLY_SIZE 17                           /* the longest packet of the authenticator */
+#define MSCHAP_RESPONSE_PACKET 310                     /* the longest Response */
+#define MSCHAP_CHANGE_PACKET 1118                      /* every change */
 
 /* ---- the longest inputs, in bytes */
 
 #define MSCHAP_MD4_INPUT_MAX 4096
 #define MSCHAP_RC4_KEY_MAX 256
-#define MSCHAP_NT_PASSWORD_MAX 512
+#define MSCHAP_NT_PASSWORD_MAX 512                     /* 256 characters of 16 bits */
 #define MSCHAP_LM_PASSWORD_MAX 14
+#define MSCHAP_TEXT_MAX 768                            /* the longest password, in UTF-8 */
 #define MSCHAP_NAME_MAX 256
 
 /* ---- the size of the stack to provide, in bytes (see STACK) */
 
 #define MSCHAP_STACK_SIZE 12288
 
-/*
- * ---- layouts
- *
- * A flag is 1 for yes and 0 for no.
- *
- * An account, 38 bytes:
- *    0       there is an NT hash (flag)
- *    1 .. 16 the NT hash; of no effect unless there is one
- *   17       there is an LM hash (flag)
- *   18 .. 33 the LM hash; of no effect unless there is one
- *   34       the account is disabled (flag)
- *   35       the hours do not allow a logon (flag)
- *   36       there is no permission to dial in (flag)
- *   37       the password has expired (flag)
- *
- * A record, 39 bytes: what the lookup of a name found.
- *    0       an account was found (flag)
- *    1 .. 38 the account; of no effect unless it was found, yet each flag is 0 or 1
- *
- * A conversation, 50 bytes: written by mschap_open and mschap_step; a caller may read it.
- *    0       the code of the packet that is awaited: 2 is a Response, 6 is a change of the
- *            password, 0 is none: the conversation has ended
- *    1       LM is allowed (flag)
- *    2       the awaited identifier
- *    3       the retries that are left
- *    4 .. 11 the challenge in force
- *   12 .. 49 the account that was kept, while a change is awaited
- *
- * A list of issued challenges is passed as three things, which belong together:
- *   list      places of 8 bytes each, at most 4,096 of them
- *   used      how many of the places are used, the first ones: each holds a challenge. What is in
- *             the others has no meaning
- *   counts    256 counts: counts[x] is how many of the used places end in the byte x
- * An empty list has 0 places used and all counts 0. mschap_open alone adds to a list, and only the
- * caller empties it: used and counts together.
- *
- * A peer, 19 bytes: written by mschap_read_challenge and changed by the three functions below it; a
- * caller may read it.
- *    0       a packet was written since the Challenge was read (flag)
- *    1       the identifier of the packet that was written last; of no effect before the first one
- *    2 ..  9 the challenge of the last Response; of no effect before the first packet
- *   10       the identifier of the next packet
- *   11 .. 18 the challenge of the next packet
- *
- * What a reply says ("fields"), 35 bytes; a number has its most significant byte first:
- *    0       0 is Success, 1 is a Failure
- *    1       what a Failure calls for: 1 is another Response, 2 is a version 2 change of the
- *            password, 3 is a version 1 change (which is not written here), 4 is the end; 0 with
- *            Success
- *    2 ..  9 E, the reason; 0 with Success
- *   10 .. 17 R
- *   18 .. 25 V
- *   26       a challenge C was given (flag)
- *   27 .. 34 C, or bytes 0
- */
+/* ---- values (see VALUES), and arrays that have types of their own so that a compiler tells them
+        apart: what is in those four is the caller's to read and write */
 
-/* ---- ciphers, hashes and the challenge response */
+typedef struct { uint8_t bytes[MSCHAP_RECORD_SIZE]; } mschap_record;
+typedef struct { uint8_t bytes[MSCHAP_CONVERSATION_SIZE]; } mschap_conversation;
+typedef struct { uint8_t bytes[MSCHAP_ANSWER_SIZE]; } mschap_answer;
+typedef struct { uint8_t bytes[MSCHAP_PEER_SIZE]; } mschap_peer;
+typedef struct { uint8_t bytes[MSCHAP_PASSWORD_SIZE]; } mschap_password;
+typedef struct { mschap_password password; } mschap_new_password;
 
-/* The MD4 digest (RFC 1320) of at most 4,096 bytes, into digest (16).
-   Returns 0; 8 for more bytes; 100 unless digest is 16 bytes. */
-uint32_t mschap_md4(const uint8_t *input, size_t input_size,
-                    uint8_t *digest, size_t digest_size);
+typedef struct { uint8_t bytes[MSCHAP_HASH_SIZE]; } mschap_nthash;
+typedef struct { uint8_t bytes[MSCHAP_HASH_SIZE]; } mschap_lmhash;
+typedef struct { uint8_t bytes[MSCHAP_DIGEST_SIZE]; } mschap_digest;
+typedef struct { uint8_t bytes[MSCHAP_RC4_KEY_MAX]; } mschap_rc4_key;
 
-/* RC4 over octets in place, from the start of the stream of a key of 1 to 256 bytes.
-   Returns 0; 8 for another key. */
-uint32_t mschap_rc4(const uint8_t *key, size_t key_size,
-                    uint8_t *octets, size_t octets_size);
+/* Returns the version of the archive that is linked: MSCHAP_VERSION of its header. */
+uint32_t mschap_version(void);
 
-/* DES of a block (8) under a key of 56 bits (7 bytes, without parity), into out (8).
-   Returns 0; 100 for another size. */
-uint32_t mschap_des_encrypt(const uint8_t *key, size_t key_size,
-                            const uint8_t *block, size_t block_size,
-                            uint8_t *out, size_t out_size);
+/* ---- passwords */
 
-/* The inverse of mschap_des_encrypt: block (8) decrypted under the key (7), into out (8).
-   Returns 0; 100 for another size. */
-uint32_t mschap_des_decrypt(const uint8_t *key, size_t key_size,
-                            const uint8_t *block, size_t block_size,
-                            uint8_t *out, size_t out_size);
+/* Makes a password of a text in UTF-8, as people type it: its characters in 16 bits each, two for
+   a character beyond U+FFFF (RFC 3629, RFC 2781). Bytes are taken as they are: a program that
+   wants one form of composed letters normalises before (NFC is what Windows keyboards write).
+   Returns MSCHAP_OK; MSCHAP_BAD_ARGUMENT unless password is MSCHAP_PASSWORD_SIZE bytes;
+   MSCHAP_MALFORMED if text is not UTF-8; MSCHAP_INPUT if it has over 256 characters of 16 bits. */
+uint32_t mschap_make_password(const uint8_t *text, size_t text_size,
+                              mschap_password *password, size_t password_size);
 
-/* NtPasswordHash() of RFC 2433, A.6, into hash (16): password is in 16-bit characters, the least
-   significant byte first, with no terminator.
-   Returns 0; 8 for an odd number of bytes or over 512; 100 unless hash is 16 bytes. */
-uint32_t mschap_nt_hash(const uint8_t *password, size_t password_size,
-                        uint8_t *hash, size_t hash_size);
+/* The same of characters that are in 16 bits already, the least significant byte first, with no
+   terminator; any characters, unpaired surrogates too.
+   Returns MSCHAP_OK; MSCHAP_BAD_ARGUMENT unless password is MSCHAP_PASSWORD_SIZE bytes;
+   MSCHAP_INPUT for an odd number of bytes or over MSCHAP_NT_PASSWORD_MAX. */
+uint32_t mschap_make_password_utf16(const uint8_t *characters, size_t characters_size,
+                                    mschap_password *password, size_t password_size);
 
-/* LmPasswordHash() of RFC 2433, A.2, into hash (16): a to z count as A to Z, and no other byte is
-   changed.
-   Returns 0; 8 for over 14 bytes; 100 unless hash is 16 bytes. */
+/* The inverse of mschap_make_password: the password in UTF-8 at the front of text, and its length
+   in bytes in *length. The bytes behind it are unchanged.
+   Returns MSCHAP_OK; MSCHAP_BAD_ARGUMENT for an invalid password; MSCHAP_MALFORMED if a surrogate
+   has no partner; MSCHAP_ROOM if text is too small (MSCHAP_TEXT_MAX bytes are enough for any). */
+uint32_t mschap_read_password(const mschap_password *password, size_t password_size,
+                              uint8_t *text, size_t text_size, size_t *length);
+
+/* NtPasswordHash() of RFC 2433, A.6, of a password.
+   Returns MSCHAP_OK; MSCHAP_BAD_ARGUMENT for an invalid password, or unless hash is
+   MSCHAP_HASH_SIZE bytes. */
+uint32_t mschap_nt_hash(const mschap_password *password, size_t password_size,
+                        mschap_nthash *hash, size_t hash_size);
+
+/* LmPasswordHash() of RFC 2433, A.2, of a password of at most MSCHAP_LM_PASSWORD_MAX bytes in the
+   OEM code page of the account's owner (for instance 437 or 850), which is the caller's to know:
+   convert the text to that code page first, to upper case where it has letters beyond a to z, and
+   make no LM hash of a password that has a character outside it. Here a to z count as A to Z, and
+   no other byte is changed. For a password of ASCII alone its bytes will do.
+   Returns MSCHAP_OK; MSCHAP_BAD_ARGUMENT unless hash is MSCHAP_HASH_SIZE bytes; MSCHAP_INPUT for a
+   longer password. */
 uint32_t mschap_lm_hash(const uint8_t *password, size_t password_size,
-                        uint8_t *hash, size_t hash_size);
+                        mschap_lmhash *hash, size_t hash_size);
 
-/* ChallengeResponse() of RFC 2433, A.7: the response of a hash (16) to a challenge (8), into
-   response (24).
-   Returns 0; 100 for another size. */
-uint32_t mschap_challenge_response(const uint8_t *hash, size_t hash_size,
-                                   const uint8_t *challenge, size_t challenge_size,
-                                   uint8_t *response, size_t response_size);
+/* ---- records: what the lookup of a name found */
+
+/* Makes a record of flags (MSCHAP_FOUND and so on, joined by |) and hashes. A hash is passed if
+   and only if its flag says so; else pass NULL and 0. A name that is not known has the record of
+   no flags: mschap_make_record(0, NULL, 0, NULL, 0, &record, sizeof record).
+   Returns MSCHAP_OK; MSCHAP_BAD_ARGUMENT for another bit in flags, a hash that is not
+   MSCHAP_HASH_SIZE bytes, one without its flag or a flag without its hash, or unless record is
+   MSCHAP_RECORD_SIZE bytes. */
+uint32_t mschap_make_record(uint32_t flags,
+                            const mschap_nthash *nt_hash, size_t nt_hash_size,
+                            const mschap_lmhash *lm_hash, size_t lm_hash_size,
+                            mschap_record *record, size_t record_size);
+
+/* Reads a record: the inverse of mschap_make_record. A hash that there is not is all bytes 0.
+   Returns MSCHAP_OK; MSCHAP_BAD_ARGUMENT for an invalid record, or unless both hashes are
+   MSCHAP_HASH_SIZE bytes. */
+uint32_t mschap_read_record(const mschap_record *record, size_t record_size,
+                            uint32_t *flags,
+                            mschap_nthash *nt_hash, size_t nt_hash_size,
+                            mschap_lmhash *lm_hash, size_t lm_hash_size);
 
 /* ---- the authenticator */
 
-/* Opens a conversation with an identifier and a challenge (8), which must be unpredictable: from a
-   CSPRNG. retries is how often a wrong password may be tried again, 0 to 7, or 255 for the default,
-   2. lm is 1 if a response by LM is allowed, 0 if it is not, or 255 for the default, allowed.
-   Writes the conversation (50) and, at the front of reply (17 or more), the Challenge to send. The
-   packet's size is its own Length field: reply[2] * 256 + reply[3]; the bytes behind it are
-   unchanged.
+/* Makes list an empty list of issued challenges, of as many places as fit: MSCHAP_LIST_SIZE(n)
+   bytes for n places. To empty a list, make it again: from then on a challenge may be issued that
+   was issued before.
+   Returns MSCHAP_OK; MSCHAP_LIST unless list is whole places, at most MSCHAP_LIST_PLACES. */
+uint32_t mschap_make_list(uint8_t *list, size_t list_size);
 
-   list, used (never NULL) and counts (256) are the list of issued challenges. It keeps a Response
-   that was recorded at one box from opening another: pass the same list to all boxes that know the
-   same accounts, one opening at a time. A conversation with r retries may use its challenge and r
-   successors: the first byte of each is that of the one before plus 23, modulo 256, and the other
-   seven are the same. If one of these r + 1 is in the list, the opening is refused. On 0 they stand
-   in that order right behind the places that were used, *used and counts[challenge[7]] have grown
-   by r + 1, and the other places and counts are unchanged. So a list needs r + 1 places for each
-   opening; when it is full every opening is refused, until the caller empties it: from then on a
-   challenge may be issued that was issued before. Each opening makes one pass over all used places.
-   If the list is kept over a restart, store it before the Challenge is sent. There is no opening
-   without a list; an empty one for 100 openings with 2 retries is
-       static uint8_t list[100 * 3 * MSCHAP_CHALLENGE_SIZE];
-       static uint16_t counts[MSCHAP_COUNTS_SIZE];
-       static size_t used;
-   passed as list, sizeof list, &used, counts, MSCHAP_COUNTS_SIZE.
+/* Returns how many places of a list are used, 0 to MSCHAP_LIST_PLACES; MSCHAP_INVALID if list is
+   no list, or a bad one. */
+uint32_t mschap_list_used(const uint8_t *list, size_t list_size);
 
-   Returns 0; or the first of these that applies: 100 for another size of challenge or conversation,
-   or another lm; 13 for 8 to 254 retries; 2 if reply has under 17 bytes; 24 if list is not whole
-   places, or over 4,096 of them, if used is more than the places, or if counts are not 256 or one
-   of them is not true of the used places; 16 if the challenge or a successor was issued before; 17
-   if under r + 1 places are left. */
-uint32_t mschap_open(uint8_t identifier,
+/* Opens a conversation with an identifier, 0 to 255, terms (MSCHAP_TERMS and what is joined to it)
+   and a challenge of MSCHAP_CHALLENGE_SIZE bytes, which must be unpredictable: from a CSPRNG.
+   Writes the conversation and, at the front of reply, the Challenge to send; the bytes behind it
+   are unchanged.
+
+   The list of issued challenges keeps a Response that was recorded at one authenticator from being
+   accepted by another: pass the same list for all that know the same accounts, one opening at a
+   time. A conversation with r retries may use its challenge and r successors: the first byte of
+   each is that of the one before plus 23, modulo 256, and the other seven are the same. If one of
+   these r + 1 is in the list, the opening is refused; else they are added. So each opening takes r
+   + 1 places, and makes one pass over the used ones. If the list is kept over a restart, store it
+   before the Challenge is sent.
+
+   Returns MSCHAP_OK; or the first of these that applies: MSCHAP_BAD_ARGUMENT for another
+   identifier or other terms, for a challenge or a conversation of another size, or if list is no
+   list; MSCHAP_RETRIES_RANGE; MSCHAP_REPLY_ROOM; MSCHAP_LIST; MSCHAP_SPENT; MSCHAP_LIST_FULL. */
+uint32_t mschap_open(uint32_t identifier, uint32_t terms,
                      const uint8_t *challenge, size_t challenge_size,
-                     uint8_t retries, uint8_t lm,
                      uint8_t *list, size_t list_size,
-                     size_t *used,
-                     uint16_t *counts, size_t counts_size,
-                     uint8_t *conversation, size_t conversation_size,
+                     mschap_conversation *conversation, size_t conversation_size,
                      uint8_t *reply, size_t reply_size);
 
-/* One step of a conversation (50): packet was received, and record (39) is what the lookup of its
-   name found (mschap_account_offset and the three functions below it tell where the parts of the
-   name are). While a change is awaited record is ignored, yet it must be valid: 39 bytes 0 will do.
-   Writes the next conversation over this one; at the front of reply (17 or more) the Success or
-   Failure to send, whose size is its own Length field, reply[2] * 256 + reply[3]; and into updated
-   (39) the record after an accepted change of the password, for the caller to store, or else one
-   that is not found.
-   Returns 0 if the packet is judged, with Success or Failure: reply[0] is 3 or 4. Returns 1 to 7 if
-   the packet is refused, in that order: send no reply; the conversation goes on as if the packet
-   had not come. Returns 100 for another size of conversation, record or updated, or if conversation
-   or record is an invalid encoding. */
-uint32_t mschap_step(uint8_t *conversation, size_t conversation_size,
+/* One step of a conversation: packet was received, and record is what the lookup of its name found
+   (mschap_account_offset and the three functions below it tell where the parts of the name are).
+   Writes the next conversation over this one; at the front of reply the Success or Failure to
+   send; and the answer, which tells the reason and whether there is a record to be stored.
+
+   A change of the password has no name. While one is awaited, record is ignored (it must be valid,
+   and any will do): the account is the one whose Response drew MSCHAP_E_PASSWD_EXPIRED. So
+   remember with the conversation whose it is: its record is the one that mschap_answer_record
+   gives after an accepted change.
+
+   Returns MSCHAP_OK if the packet is judged, with Success or Failure. Returns MSCHAP_ENDED,
+   MSCHAP_REPLY_ROOM, MSCHAP_FRAME, MSCHAP_CODE, MSCHAP_IDENTIFIER, MSCHAP_SIZE or MSCHAP_FLAGS,
+   the first that applies, if the packet is refused: send no reply; the conversation goes on as if
+   it had not come. Returns MSCHAP_BAD_ARGUMENT for an invalid conversation or record, or an answer
+   of another size. */
+uint32_t mschap_step(mschap_conversation *conversation, size_t conversation_size,
                      const uint8_t *packet, size_t packet_size,
-                     const uint8_t *record, size_t record_size,
+                     const mschap_record *record, size_t record_size,
                      uint8_t *reply, size_t reply_size,
-                     uint8_t *updated, size_t updated_size);
+                     mschap_answer *answer, size_t answer_size);
+
+/* Returns the reason that a step's reply gives: MSCHAP_SUCCESS, or the Failure's, one of
+   MSCHAP_E_..; MSCHAP_INVALID for an invalid answer. */
+uint32_t mschap_answer_reason(const mschap_answer *answer, size_t answer_size);
+
+/* The record after an accepted change of the password: store it in the place of the account's.
+   Returns MSCHAP_OK, with the record; MSCHAP_NO_RECORD if nothing is to be stored;
+   MSCHAP_BAD_ARGUMENT for an invalid answer, or unless record is MSCHAP_RECORD_SIZE bytes. */
+uint32_t mschap_answer_record(const mschap_answer *answer, size_t answer_size,
+                              mschap_record *record, size_t record_size);
+
+/* Returns what a conversation awaits: MSCHAP_AWAITS_RESPONSE, MSCHAP_AWAITS_CHANGE or
+   MSCHAP_AWAITS_NOTHING; MSCHAP_INVALID for an invalid conversation. */
+uint32_t mschap_conversation_awaits(const mschap_conversation *conversation,
+                                    size_t conversation_size);
+
+/* Returns the identifier of the packet that is awaited, 0 to 255 (of the last one, if none is);
+   MSCHAP_INVALID for an invalid conversation. */
+uint32_t mschap_conversation_identifier(const mschap_conversation *conversation,
+                                        size_t conversation_size);
+
+/* Returns how many retries are left; MSCHAP_INVALID for an invalid conversation. */
+uint32_t mschap_conversation_retries(const mschap_conversation *conversation,
+                                     size_t conversation_size);
+
+/* ---- packets */
+
+/* Returns the length of a packet, which is its own Length field: the bytes to send of a buffer
+   that this library has written a packet into. 0 if it is no packet (as MSCHAP_FRAME). */
+size_t mschap_packet_length(const uint8_t *packet, size_t packet_size);
 
 /* Where the account is in a Response: what follows the first backslash of its name or, if there is
-   none, the whole name. It ends at the packet's Length.
-   Returns its offset in packet, 54 or more; 0 if the packet is refused as a Response (by 3, 4, 6 or
-   7, in any conversation). */
+   none, the whole name.
+   Returns its offset in packet; 0 if the packet is refused as a Response (by MSCHAP_FRAME,
+   MSCHAP_CODE, MSCHAP_SIZE or MSCHAP_FLAGS, in any conversation). */
 size_t mschap_account_offset(const uint8_t *packet, size_t packet_size);
 
 /* The length of the account at that offset, in bytes.
-   Returns 0 to 256; 0 if the packet is refused as a Response. Offset and length together are at
-   most packet_size. */
+   Returns 0 to MSCHAP_NAME_MAX; 0 if the packet is refused as a Response. Offset and length
+   together are at most packet_size. */
 size_t mschap_account_length(const uint8_t *packet, size_t packet_size);
 
 /* Where the domain is in a Response: what precedes the first backslash of its name.
-   Returns its offset in packet, 54; 0 if the domain is not in the packet. Then either the packet is
-   refused as a Response, and mschap_account_offset returns 0 too, or the name has no backslash, and
-   the caller takes the home domain:
-       size_t at = mschap_domain_offset(packet, packet_size);
-       if (mschap_account_offset(packet, packet_size) == 0)
-           .. there is nobody to look up: mschap_step will refuse the packet
-       else if (at == 0)
-           .. the domain is the home domain
-       else
-           .. the domain is at packet + at, of mschap_domain_length(packet, packet_size) bytes
-   A leading backslash has the empty domain before it, at offset 54, and not the home domain. */
+   Returns its offset in packet; 0 if the domain is not in the packet. Then either the packet is
+   refused as a Response, and mschap_account_offset returns 0 too, or the name has no backslash,
+   and the caller takes the home domain. A leading backslash has the empty domain before it: an
+   offset, and the length 0. */
 size_t mschap_domain_offset(const uint8_t *packet, size_t packet_size);
 
 /* The length of the domain at that offset, in bytes.
@@ -288,48 +381,85 @@ size_t mschap_domain_length(const uint8_t *packet, size_t packet_size);
 
 /* ---- the peer
 
-   Keep one buffer of 19 bytes, the peer, and pass it to each call: mschap_read_challenge writes it,
-   and the others change it. A packet that was written counts as sent: send exactly what was
-   written, and to send it again send the same bytes again. */
+   Keep one mschap_peer, and pass it to each call: mschap_read_challenge writes it, and the others
+   change it. A packet that was written counts as sent: send exactly what was written, and to send
+   it again send the same bytes again. */
 
-/* Reads a Challenge, and writes the peer (19) that is to answer it: its next packet is a Response
-   with the Challenge's identifier. Call it for each new Challenge.
-   Returns 0; 3 for a bad frame; 11 for another kind of packet, one that is cut short, or a
-   challenge that is not 8 bytes; 100 unless peer is 19 bytes. */
+/* Reads a Challenge, and writes the peer that is to answer it: its next packet is a Response with
+   the Challenge's identifier. Call it for each new Challenge.
+   Returns MSCHAP_OK; MSCHAP_BAD_ARGUMENT unless peer is MSCHAP_PEER_SIZE bytes; MSCHAP_FRAME;
+   MSCHAP_READING for another kind of packet, one that is cut short, or a challenge that is not
+   MSCHAP_CHALLENGE_SIZE bytes. */
 uint32_t mschap_read_challenge(const uint8_t *packet, size_t packet_size,
-                               uint8_t *peer, size_t peer_size);
+                               mschap_peer *peer, size_t peer_size);
 
-/* Reads the reply to the packet that the peer (19) wrote last: a Success or a Failure. Writes what
-   it says into fields (35), and the identifier and the challenge of the next packet into the peer.
-   Write that packet only if fields[1] is 1 (mschap_write_response) or 2 (mschap_write_change).
-   A reply that comes twice may be read twice: it says the same, and gives the same peer. A packet
-   that is refused changes nothing; so an old reply, which is refused by 5, does no harm.
-   Returns 0; 3 for a bad frame; 5 for another identifier than that of the packet that was written
-   last, or if none was written; 11 for another kind of packet, or a message that cannot be read;
-   100 unless peer is 19 bytes, the first 0 or 1, and fields is 35 bytes. */
-uint32_t mschap_read_reply(uint8_t *peer, size_t peer_size,
+/* Reads the reply to the packet that the peer wrote last: a Success or a Failure. Writes what it
+   calls for, MSCHAP_CALL_NONE and so on, into *call, and the reason, MSCHAP_SUCCESS or the
+   Failure's (any number; the known ones are MSCHAP_E_..), into *reason, and readies the peer for
+   its next packet, which is written only if *call is MSCHAP_CALL_RESPONSE or MSCHAP_CALL_CHANGE. A
+   reply that comes twice may be read twice: it says the same, and gives the same peer. A packet
+   that is refused changes nothing; so an old reply, which is refused by MSCHAP_IDENTIFIER, does no
+   harm.
+   Returns MSCHAP_OK; MSCHAP_BAD_ARGUMENT for an invalid peer; MSCHAP_FRAME; MSCHAP_IDENTIFIER for
+   another identifier than that of the packet that was written last, or if none was written;
+   MSCHAP_READING for another kind of packet, or a message that cannot be read. */
+uint32_t mschap_read_reply(mschap_peer *peer, size_t peer_size,
                            const uint8_t *packet, size_t packet_size,
-                           uint8_t *fields, size_t fields_size);
+                           uint32_t *call, uint64_t *reason);
 
-/* Writes the peer's (19) Response by an NT password, with a name of 1 to 256 bytes, at the front of
-   out. The packet is 54 bytes longer than its name; the bytes behind it are unchanged.
-   Returns 0; 8 for the password (as mschap_nt_hash); 10 for the name; 9 for too little room; 100
-   unless peer is 19 bytes, the first 0 or 1. */
-uint32_t mschap_write_response(uint8_t *peer, size_t peer_size,
-                               const uint8_t *password, size_t password_size,
+/* Writes the peer's Response by a password, with a name of 1 to MSCHAP_NAME_MAX bytes, at the
+   front of out. The packet is 54 bytes longer than its name; the bytes behind it are unchanged.
+   Returns MSCHAP_OK; MSCHAP_BAD_ARGUMENT for an invalid peer or password; MSCHAP_NAME; MSCHAP_ROOM
+   if out is too small. */
+uint32_t mschap_write_response(mschap_peer *peer, size_t peer_size,
+                               const mschap_password *password, size_t password_size,
                                const uint8_t *name, size_t name_size,
                                uint8_t *out, size_t out_size);
 
-/* Writes the peer's (19) version 2 change from an old to a new NT password, at the front of out:
-   1,118 bytes. filler (512) fills the block that hides the new password's length; it must be
-   unpredictable: from a CSPRNG.
-   Returns 0; 8 for either password; 12 for a filler that is not 512 bytes; 9 for too little room;
-   100 unless peer is 19 bytes, the first 0 or 1. */
-uint32_t mschap_write_change(uint8_t *peer, size_t peer_size,
-                             const uint8_t *old_password, size_t old_password_size,
-                             const uint8_t *new_password, size_t new_password_size,
+/* Writes the peer's version 2 change from an old to a new password, at the front of out:
+   MSCHAP_CHANGE_PACKET bytes; those behind it are unchanged. The new password has a type of its
+   own, so that the two cannot be exchanged: make it by mschap_make_password into its field.
+   filler, MSCHAP_FILLER_SIZE bytes, fills the block that hides the new password's length; it must
+   be unpredictable: from a CSPRNG.
+   Returns MSCHAP_OK; MSCHAP_BAD_ARGUMENT for an invalid peer or password; MSCHAP_FILLER;
+   MSCHAP_ROOM if out is too small. */
+uint32_t mschap_write_change(mschap_peer *peer, size_t peer_size,
+                             const mschap_password *old_password, size_t old_password_size,
+                             const mschap_new_password *new_password, size_t new_password_size,
                              const uint8_t *filler, size_t filler_size,
                              uint8_t *out, size_t out_size);
+
+/* ---- ciphers, hashes and the challenge response, for those who need the parts */
+
+/* The MD4 digest (RFC 1320) of at most MSCHAP_MD4_INPUT_MAX bytes.
+   Returns MSCHAP_OK; MSCHAP_BAD_ARGUMENT unless digest is MSCHAP_DIGEST_SIZE bytes; MSCHAP_INPUT
+   for more bytes. */
+uint32_t mschap_md4(const uint8_t *input, size_t input_size,
+                    mschap_digest *digest, size_t digest_size);
+
+/* RC4 over bytes in place, from the start of the stream of a key: the first key_size bytes of it,
+   1 to MSCHAP_RC4_KEY_MAX. The key has a type of its own, so that the two cannot be exchanged.
+   Returns MSCHAP_OK; MSCHAP_INPUT for another key_size. */
+uint32_t mschap_rc4(const mschap_rc4_key *key, size_t key_size,
+                    uint8_t *bytes, size_t bytes_size);
+
+/* DES of a block (MSCHAP_BLOCK_SIZE bytes) in place, under a key of 56 bits: MSCHAP_KEY_SIZE
+   bytes, without parity.
+   Returns MSCHAP_OK; MSCHAP_BAD_ARGUMENT for another size. */
+uint32_t mschap_des_encrypt(const uint8_t *key, size_t key_size,
+                            uint8_t *block, size_t block_size);
+
+/* The inverse of mschap_des_encrypt.
+   Returns MSCHAP_OK; MSCHAP_BAD_ARGUMENT for another size. */
+uint32_t mschap_des_decrypt(const uint8_t *key, size_t key_size,
+                            uint8_t *block, size_t block_size);
+
+/* ChallengeResponse() of RFC 2433, A.7: the response (MSCHAP_RESPONSE_SIZE bytes) of a hash, NT or
+   LM (MSCHAP_HASH_SIZE), to a challenge (MSCHAP_CHALLENGE_SIZE).
+   Returns MSCHAP_OK; MSCHAP_BAD_ARGUMENT for another size. */
+uint32_t mschap_challenge_response(const uint8_t *hash, size_t hash_size,
+                                   const uint8_t *challenge, size_t challenge_size,
+                                   uint8_t *response, size_t response_size);
 
 #ifdef __cplusplus
 }
