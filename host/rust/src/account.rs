@@ -1,72 +1,74 @@
 //! What the authenticator knows of an account.
 
-use crate::{part, sys, Hash};
+use crate::{sys, LmHash, NtHash, Refusal};
 
 /// An account. What a lookup finds is an `Option<Account>`.
 #[derive(Clone, Copy, Debug, Default, PartialEq, Eq)]
 pub struct Account {
     /// The NT hash, if there is one.
-    pub nt_hash: Option<Hash>,
+    pub nt_hash: Option<NtHash>,
     /// The LM hash, if there is one.
-    pub lm_hash: Option<Hash>,
-    /// The account is disabled.
+    pub lm_hash: Option<LmHash>,
+    /// Nobody may log on.
     pub disabled: bool,
     /// The hours do not allow a logon.
-    pub barred_hours: bool,
+    pub hours_denied: bool,
     /// There is no permission to dial in.
-    pub no_dial_in: bool,
-    /// The password has expired.
+    pub dialin_denied: bool,
+    /// The password has expired: it must be changed.
     pub expired: bool,
 }
 
 impl Account {
-    /// The bytes by which the archive knows the account.
-    pub fn octets(&self) -> [u8; sys::ACCOUNT_SIZE] {
-        let mut out = [0; sys::ACCOUNT_SIZE];
-        if let Some(hash) = &self.nt_hash {
-            out[0] = 1;
-            out[1..17].copy_from_slice(hash);
-        }
-        if let Some(hash) = &self.lm_hash {
-            out[17] = 1;
-            out[18..34].copy_from_slice(hash);
-        }
-        out[34] = self.disabled.into();
-        out[35] = self.barred_hours.into();
-        out[36] = self.no_dial_in.into();
-        out[37] = self.expired.into();
-        out
+    /// The account's record, to be stored: it holds the hashes.
+    pub fn to_bytes(&self) -> Result<[u8; sys::RECORD_SIZE], Refusal> {
+        Account::record(Some(self))
     }
 
-    /// The account of these bytes; none where a flag is neither 0 nor 1.
-    pub fn from_octets(octets: &[u8; sys::ACCOUNT_SIZE]) -> Option<Account> {
-        let hash = |at: usize| flag(octets[at]).map(|there| there.then(|| part(octets, at + 1)));
-        Some(Account {
-            nt_hash: hash(0)?,
-            lm_hash: hash(17)?,
-            disabled: flag(octets[34])?,
-            barred_hours: flag(octets[35])?,
-            no_dial_in: flag(octets[36])?,
-            expired: flag(octets[37])?,
-        })
+    /// The account of a stored record; none if it is the record of a name that is not known. Bytes
+    /// that no record has are refused as [`Refusal::BadArgument`].
+    pub fn from_bytes(record: &[u8]) -> Result<Option<Account>, Refusal> {
+        let mut flags = 0;
+        let (mut nt, mut lm) = ([0; sys::HASH_SIZE], [0; sys::HASH_SIZE]);
+        Refusal::check(sys::read_record(record, &mut flags, &mut nt, &mut lm))?;
+        let set = |flag: u32| flags & flag != 0;
+        let account = Account {
+            nt_hash: set(sys::HAS_NT_HASH).then_some(NtHash(nt)),
+            lm_hash: set(sys::HAS_LM_HASH).then_some(LmHash(lm)),
+            disabled: set(sys::DISABLED),
+            hours_denied: set(sys::HOURS_DENIED),
+            dialin_denied: set(sys::DIALIN_DENIED),
+            expired: set(sys::EXPIRED),
+        };
+        Ok(set(sys::FOUND).then_some(account))
     }
 
     /// The record of what a lookup found.
-    pub(crate) fn record(found: Option<&Account>) -> [u8; sys::RECORD_SIZE] {
-        let mut out = [0; sys::RECORD_SIZE];
-        if let Some(account) = found {
-            out[0] = 1;
-            out[1..].copy_from_slice(&account.octets());
-        }
-        out
+    pub(crate) fn record(found: Option<&Account>) -> Result<[u8; sys::RECORD_SIZE], Refusal> {
+        let mut record = [0; sys::RECORD_SIZE];
+        let number = match found {
+            None => sys::make_record(0, &[], &[], &mut record),
+            Some(account) => {
+                let nt: &[u8] = account.nt_hash.as_ref().map_or(&[], |hash| &hash.0);
+                let lm: &[u8] = account.lm_hash.as_ref().map_or(&[], |hash| &hash.0);
+                sys::make_record(account.flags(), nt, lm, &mut record)
+            }
+        };
+        Refusal::check(number)?;
+        Ok(record)
     }
-}
 
-/// What a flag says; none where it is neither 0 nor 1.
-pub(crate) fn flag(octet: u8) -> Option<bool> {
-    match octet {
-        0 => Some(false),
-        1 => Some(true),
-        _ => None,
+    fn flags(&self) -> u32 {
+        [
+            (self.nt_hash.is_some(), sys::HAS_NT_HASH),
+            (self.lm_hash.is_some(), sys::HAS_LM_HASH),
+            (self.disabled, sys::DISABLED),
+            (self.hours_denied, sys::HOURS_DENIED),
+            (self.dialin_denied, sys::DIALIN_DENIED),
+            (self.expired, sys::EXPIRED),
+        ]
+        .into_iter()
+        .filter(|(set, _)| *set)
+        .fold(sys::FOUND, |flags, (_, flag)| flags | flag)
     }
 }

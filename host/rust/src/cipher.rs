@@ -9,10 +9,10 @@ pub fn md4(input: &[u8]) -> Result<[u8; sys::DIGEST_SIZE], Refusal> {
     Ok(digest)
 }
 
-/// RC4 over octets in place, from the start of the stream of a key of 1 to 256 bytes. Another key
+/// RC4 over bytes in place, from the start of the stream of a key of 1 to 256 bytes. Another key
 /// is refused as [`Refusal::Input`].
-pub fn rc4(key: &[u8], octets: &mut [u8]) -> Result<(), Refusal> {
-    Refusal::check(sys::rc4(key, octets))
+pub fn rc4(key: &[u8], bytes: &mut [u8]) -> Result<(), Refusal> {
+    Refusal::check(sys::rc4(key, bytes))
 }
 
 /// DES of a block under a key of 56 bits, without parity.
@@ -20,8 +20,8 @@ pub fn des_encrypt(
     key: &[u8; sys::KEY_SIZE],
     block: &[u8; sys::BLOCK_SIZE],
 ) -> Result<[u8; sys::BLOCK_SIZE], Refusal> {
-    let mut out = [0; sys::BLOCK_SIZE];
-    Refusal::check(sys::des_encrypt(key, block, &mut out))?;
+    let mut out = *block;
+    Refusal::check(sys::des_encrypt(key, &mut out))?;
     Ok(out)
 }
 
@@ -30,7 +30,7 @@ pub fn des_decrypt(
     key: &[u8; sys::KEY_SIZE],
     block: &[u8; sys::BLOCK_SIZE],
 ) -> Result<[u8; sys::BLOCK_SIZE], Refusal> {
-    let mut out = [0; sys::BLOCK_SIZE];
-    Refusal::check(sys::des_decrypt(key, block, &mut out))?;
+    let mut out = *block;
+    Refusal::check(sys::des_decrypt(key, &mut out))?;
     Ok(out)
 }

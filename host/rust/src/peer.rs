@@ -1,7 +1,6 @@
 //! The peer: it reads Challenge, Success and Failure, and writes Response and change.
 
-use crate::account::flag;
-use crate::{length, part, sys, Challenge, Refusal};
+use crate::{sys, Password, Refusal};
 
 /// All that the peer keeps from one packet to the next: what it sent last, and the identifier and
 /// the challenge of the next packet. A packet that was written counts as sent. It may be stored and
@@ -9,37 +8,30 @@ use crate::{length, part, sys, Challenge, Refusal};
 #[derive(Clone, Copy, Debug, PartialEq, Eq)]
 pub struct Peer([u8; sys::PEER_SIZE]);
 
-/// What a Failure calls for.
+/// What a reply calls for.
 #[derive(Clone, Copy, Debug, PartialEq, Eq)]
 pub enum Call {
+    /// Nothing: it is Success.
+    Nothing,
     /// Another Response.
     Response,
     /// A version 2 change of the password.
     Change,
     /// A version 1 change, which is not written here.
     ChangeVersion1,
-    /// The end.
+    /// The end: hang up.
     End,
 }
 
 /// What a reply says.
 #[derive(Clone, Copy, Debug, PartialEq, Eq)]
-pub enum Reading {
-    /// Success, whatever its message.
-    Success,
-    /// A Failure.
-    Failure {
-        /// What it calls for.
-        call: Call,
-        /// E, the reason.
-        reason: u64,
-        /// R: 1 where a retry is allowed.
-        retry: u64,
-        /// V, the version of the change.
-        version: u64,
-        /// C, the new challenge, if there is one.
-        challenge: Option<Challenge>,
-    },
+pub struct Reading {
+    /// What it calls for.
+    pub call: Call,
+    /// The reason: 0 for Success, else the Failure's E, any number. [`Reason::of`] knows some.
+    ///
+    /// [`Reason::of`]: crate::Reason::of
+    pub reason: u64,
 }
 
 impl Peer {
@@ -51,87 +43,65 @@ impl Peer {
         Ok(Peer(peer))
     }
 
-    /// The identifier of the next packet.
-    pub fn identifier(&self) -> u8 {
-        self.0[10]
-    }
-
-    /// The challenge of the next packet.
-    pub fn challenge(&self) -> Challenge {
-        part(&self.0, 11)
-    }
-
-    /// Writes the Response by an NT password, with a name of 1 to 256 bytes, at the front of
-    /// `out`. Gives its size. A refusal changes nothing.
+    /// Writes the Response by a password, with a name of 1 to 256 bytes, at the front of `out`.
+    /// Gives its size. A refusal changes nothing.
     pub fn write_response(
         &mut self,
-        password: &[u8],
+        password: &Password,
         name: &[u8],
         out: &mut [u8],
     ) -> Result<usize, Refusal> {
-        Refusal::check(sys::write_response(&mut self.0, password, name, out))?;
-        Ok(length(out))
+        let number = sys::write_response(&mut self.0, password.as_bytes(), name, out);
+        Refusal::check(number)?;
+        Ok(sys::packet_length(out))
     }
 
-    /// Writes the change from an old to a new NT password at the front of `out`. The filler hides
-    /// the new password's length: pass bytes that are unpredictable, from a cryptographic random
-    /// number generator. Gives the size. A refusal changes nothing.
+    /// Writes the change from an old to a new password at the front of `out`. The filler hides the
+    /// new password's length: pass bytes that are unpredictable, from a CSPRNG. Gives the size. A
+    /// refusal changes nothing.
     pub fn write_change(
         &mut self,
-        old: &[u8],
-        new: &[u8],
+        old: &Password,
+        new: &Password,
         filler: &[u8; sys::FILLER_SIZE],
         out: &mut [u8],
     ) -> Result<usize, Refusal> {
+        let (old, new) = (old.as_bytes(), new.as_bytes());
         Refusal::check(sys::write_change(&mut self.0, old, new, filler, out))?;
-        Ok(length(out))
+        Ok(sys::packet_length(out))
     }
 
     /// Reads the reply to the packet that was written last. The next packet is to be written only
-    /// where it calls for another Response or a change. A reply may be read twice: it says the same
+    /// if it calls for another Response or a change. A reply may be read twice: it says the same
     /// and gives the same peer. A refusal changes nothing.
     pub fn read_reply(&mut self, packet: &[u8]) -> Result<Reading, Refusal> {
-        let mut next = self.0;
-        let mut fields = [0; sys::FIELDS_SIZE];
-        Refusal::check(sys::read_reply(&mut next, packet, &mut fields))?;
-        let reading = Reading::of(&fields).ok_or(Refusal::Unexpected(sys::BAD_ARGUMENT))?;
+        let (mut next, mut call, mut reason) = (self.0, 0, 0);
+        Refusal::check(sys::read_reply(&mut next, packet, &mut call, &mut reason))?;
+        let call = match call {
+            sys::CALL_NONE => Call::Nothing,
+            sys::CALL_RESPONSE => Call::Response,
+            sys::CALL_CHANGE => Call::Change,
+            sys::CALL_CHANGE_1 => Call::ChangeVersion1,
+            sys::CALL_END => Call::End,
+            other => return Err(Refusal::Unexpected(other)),
+        };
         self.0 = next;
-        Ok(reading)
+        Ok(Reading { call, reason })
     }
 
     /// The bytes to be stored.
-    pub fn octets(&self) -> &[u8; sys::PEER_SIZE] {
+    pub fn as_bytes(&self) -> &[u8; sys::PEER_SIZE] {
         &self.0
     }
 
-    /// The peer of stored bytes; none where no peer has them.
-    pub fn from_octets(octets: [u8; sys::PEER_SIZE]) -> Option<Peer> {
-        flag(octets[0])?;
-        Some(Peer(octets))
-    }
-}
-
-impl Reading {
-    /// What the fields say. No other number is ever written there: it is none of these then.
-    fn of(fields: &[u8; sys::FIELDS_SIZE]) -> Option<Reading> {
-        let number = |at: usize| u64::from_be_bytes(part(fields, at));
-        if !flag(fields[0])? {
-            return Some(Reading::Success);
+    /// The peer of stored bytes. Bytes that no peer has are refused as [`Refusal::BadArgument`].
+    pub fn from_bytes(bytes: &[u8]) -> Result<Peer, Refusal> {
+        let peer = Peer(bytes.try_into().map_err(|_| Refusal::BadArgument)?);
+        // A packet of no bytes is refused by each peer that there is, and changes none.
+        match { peer }.read_reply(&[]) {
+            Err(Refusal::Frame) => Ok(peer),
+            Err(refusal) => Err(refusal),
+            Ok(_) => Err(Refusal::Unexpected(sys::OK)),
         }
-        let call = match fields[1] {
-            1 => Call::Response,
-            2 => Call::Change,
-            3 => Call::ChangeVersion1,
-            4 => Call::End,
-            _ => return None,
-        };
-        let given = flag(fields[26])?;
-        Some(Reading::Failure {
-            call,
-            reason: number(2),
-            retry: number(10),
-            version: number(18),
-            challenge: given.then(|| part(fields, 27)),
-        })
     }
 }

@@ -1,4 +1,4 @@
-//! Why a call is refused.
+//! Why a call is refused, and why a Failure was sent.
 
 use crate::sys;
 use std::fmt;
@@ -8,86 +8,86 @@ use std::fmt;
 pub enum Refusal {
     /// 1: the conversation has ended.
     Ended,
-    /// 2: the reply buffer has under 17 bytes.
+    /// 2: the reply buffer is under [`REPLY_SIZE`](crate::REPLY_SIZE) bytes.
     ReplyRoom,
-    /// 3: a packet under 4 bytes, or Length under 4 or over its size.
+    /// 3: a packet under 4 bytes, its Length under 4 or over its size.
     Frame,
     /// 4: another code than the awaited one.
     Code,
     /// 5: another identifier than the awaited one.
     Identifier,
-    /// 6: sizes within the packet.
+    /// 6: wrong sizes within the packet.
     Size,
-    /// 7: a flag or flags out of range.
+    /// 7: a flag or flags of the packet out of range.
     Flags,
-    /// 8: a password, key or input of a size that is not taken.
+    /// 8: a password, key or input of a length that is not accepted.
     Input,
-    /// 9: too little room for the packet to be written.
+    /// 9: the buffer is too small for what is to be written.
     Room,
     /// 10: a name that is empty or over 256 bytes.
     Name,
     /// 11: no Challenge, Success or Failure, or one that cannot be read.
     Reading,
-    /// 12: a filler that is not 512 bytes.
+    /// 12: a filler that is not 512 bytes. The types here leave no way to it.
     Filler,
     /// 13: over 7 retries.
-    Retries,
+    RetriesRange,
     /// 16: the challenge or one of its successors was issued before.
     Spent,
     /// 17: too few places left in the list of issued challenges.
     ListFull,
     /// 24: a bad list of issued challenges. An [`Issued`](crate::Issued) never is one.
     List,
+    /// 100: bytes that no such value has, of another kind, layout version or size.
+    BadArgument,
+    /// 101: text that is not UTF-8, or characters that are not UTF-16.
+    Malformed,
+    /// 102: the answer has no record to be stored. The types here leave no way to it.
+    NoRecord,
     /// Any other number. The types here leave no way to it.
     Unexpected(u32),
 }
 
+/// Each refusal that has a number of its own.
+const NUMBERS: [(u32, Refusal); 19] = [
+    (1, Refusal::Ended),
+    (2, Refusal::ReplyRoom),
+    (3, Refusal::Frame),
+    (4, Refusal::Code),
+    (5, Refusal::Identifier),
+    (6, Refusal::Size),
+    (7, Refusal::Flags),
+    (8, Refusal::Input),
+    (9, Refusal::Room),
+    (10, Refusal::Name),
+    (11, Refusal::Reading),
+    (12, Refusal::Filler),
+    (13, Refusal::RetriesRange),
+    (16, Refusal::Spent),
+    (17, Refusal::ListFull),
+    (24, Refusal::List),
+    (sys::BAD_ARGUMENT, Refusal::BadArgument),
+    (101, Refusal::Malformed),
+    (102, Refusal::NoRecord),
+];
+
 impl Refusal {
     /// The number of this refusal in the C interface.
     pub fn number(self) -> u32 {
-        match self {
-            Refusal::Ended => 1,
-            Refusal::ReplyRoom => 2,
-            Refusal::Frame => 3,
-            Refusal::Code => 4,
-            Refusal::Identifier => 5,
-            Refusal::Size => 6,
-            Refusal::Flags => 7,
-            Refusal::Input => 8,
-            Refusal::Room => 9,
-            Refusal::Name => 10,
-            Refusal::Reading => 11,
-            Refusal::Filler => 12,
-            Refusal::Retries => 13,
-            Refusal::Spent => 16,
-            Refusal::ListFull => 17,
-            Refusal::List => 24,
-            Refusal::Unexpected(number) => number,
+        if let Refusal::Unexpected(number) = self {
+            return number;
         }
+        let known = NUMBERS.iter().find(|(_, refusal)| *refusal == self);
+        known.map_or(sys::INVALID, |(number, _)| *number)
     }
 
     /// The result that a returned number stands for.
     pub(crate) fn check(number: u32) -> Result<(), Refusal> {
-        Err(match number {
-            sys::OK => return Ok(()),
-            1 => Refusal::Ended,
-            2 => Refusal::ReplyRoom,
-            3 => Refusal::Frame,
-            4 => Refusal::Code,
-            5 => Refusal::Identifier,
-            6 => Refusal::Size,
-            7 => Refusal::Flags,
-            8 => Refusal::Input,
-            9 => Refusal::Room,
-            10 => Refusal::Name,
-            11 => Refusal::Reading,
-            12 => Refusal::Filler,
-            13 => Refusal::Retries,
-            16 => Refusal::Spent,
-            17 => Refusal::ListFull,
-            24 => Refusal::List,
-            other => Refusal::Unexpected(other),
-        })
+        if number == sys::OK {
+            return Ok(());
+        }
+        let known = NUMBERS.iter().find(|(other, _)| *other == number);
+        Err(known.map_or(Refusal::Unexpected(number), |(_, refusal)| *refusal))
     }
 }
 
@@ -98,3 +98,52 @@ impl fmt::Display for Refusal {
 }
 
 impl std::error::Error for Refusal {}
+
+/// The reason that a reply of the authenticator gives (RFC 2433, section 6).
+#[derive(Clone, Copy, Debug, PartialEq, Eq, Hash)]
+pub enum Reason {
+    /// It is Success.
+    Success,
+    /// 646: the hours do not allow a logon.
+    RestrictedLogonHours,
+    /// 647: the account is disabled.
+    AccountDisabled,
+    /// 648: the password has expired.
+    PasswordExpired,
+    /// 649: there is no permission to dial in.
+    NoDialinPermission,
+    /// 691: the Response is not valid.
+    AuthenticationFailure,
+    /// 709: the change of the password is not accepted.
+    ChangingPassword,
+}
+
+impl Reason {
+    /// The number of this reason; 0 is Success.
+    pub fn number(self) -> u32 {
+        match self {
+            Reason::Success => 0,
+            Reason::RestrictedLogonHours => 646,
+            Reason::AccountDisabled => 647,
+            Reason::PasswordExpired => 648,
+            Reason::NoDialinPermission => 649,
+            Reason::AuthenticationFailure => 691,
+            Reason::ChangingPassword => 709,
+        }
+    }
+
+    /// The reason with this number; none for one that RFC 2433 does not have.
+    pub fn of(number: u64) -> Option<Reason> {
+        [
+            Reason::Success,
+            Reason::RestrictedLogonHours,
+            Reason::AccountDisabled,
+            Reason::PasswordExpired,
+            Reason::NoDialinPermission,
+            Reason::AuthenticationFailure,
+            Reason::ChangingPassword,
+        ]
+        .into_iter()
+        .find(|reason| u64::from(reason.number()) == number)
+    }
+}

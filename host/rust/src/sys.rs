@@ -1,15 +1,71 @@
 //! The archive's functions: as C declares them in `raw`, and over slices.
 //!
-//! A slice is a pointer and a size that fit each other, and no slice that may be written overlaps
-//! another one. That is all the archive asks of its caller, so the functions over slices are safe.
-//! They return the number of the C interface; `mschap.h` says what each one does.
+//! A slice is a pointer and a size that fit each other, a reference points to one number, and
+//! nothing that may be written overlaps another. That is all the archive asks of its caller, so the
+//! functions over slices are safe. They return the number of the C interface; `mschap.h` says what
+//! each one does. Here every value is bytes: the types around this module tell them apart.
+
+/// The version of the interface that is declared here: major, minor and patch, a byte each.
+pub const VERSION: u32 = 0x000200;
+/// The version of the layout of values that are stored.
+pub const LAYOUT_VERSION: u8 = 1;
 
 /// Done.
 pub const OK: u32 = 0;
-/// A buffer of another size than its fixed one, or an invalid encoding.
+/// A value or a buffer of another size, kind or version, bytes that no value has, or a number that
+/// is none.
 pub const BAD_ARGUMENT: u32 = 100;
-/// A number of retries, or a choice for LM, that stands for the default.
-pub const DEFAULT: u8 = 255;
+/// What a function that returns a value returns instead, if it was passed an invalid one.
+pub const INVALID: u32 = 0xffff_ffff;
+
+/// What a conversation awaits: nothing, it has ended.
+pub const AWAITS_NOTHING: u32 = 0;
+/// What a conversation awaits: a Response.
+pub const AWAITS_RESPONSE: u32 = 2;
+/// What a conversation awaits: a change of the password.
+pub const AWAITS_CHANGE: u32 = 6;
+
+/// What a reply calls for: nothing, as it is Success.
+pub const CALL_NONE: u32 = 0;
+/// What a reply calls for: another Response.
+pub const CALL_RESPONSE: u32 = 1;
+/// What a reply calls for: a version 2 change of the password.
+pub const CALL_CHANGE: u32 = 2;
+/// What a reply calls for: a version 1 change of the password, which is not written here.
+pub const CALL_CHANGE_1: u32 = 3;
+/// What a reply calls for: the end.
+pub const CALL_END: u32 = 4;
+
+/// A record's flag: there is such an account.
+pub const FOUND: u32 = 0x01;
+/// A record's flag: it has an NT hash.
+pub const HAS_NT_HASH: u32 = 0x02;
+/// A record's flag: it has an LM hash.
+pub const HAS_LM_HASH: u32 = 0x04;
+/// A record's flag: the account is disabled.
+pub const DISABLED: u32 = 0x08;
+/// A record's flag: the hours do not allow a logon.
+pub const HOURS_DENIED: u32 = 0x10;
+/// A record's flag: there is no permission to dial in.
+pub const DIALIN_DENIED: u32 = 0x20;
+/// A record's flag: the password has expired.
+pub const EXPIRED: u32 = 0x40;
+
+/// The terms of a conversation: the defaults.
+pub const TERMS: u32 = 0x10000;
+/// To be joined to the terms: a response by LM is judged.
+pub const LM_ALLOWED: u32 = 0x100;
+/// To be joined to the terms: a response by LM is never valid.
+pub const LM_REFUSED: u32 = 0x200;
+
+/// To be joined to the terms: how often a wrong password may be tried again.
+pub const fn retries(count: u32) -> u32 {
+    if count < 254 {
+        count + 1
+    } else {
+        255
+    }
+}
 
 /// Bytes of an MD4 digest.
 pub const DIGEST_SIZE: usize = 16;
@@ -25,20 +81,18 @@ pub const CHALLENGE_SIZE: usize = 8;
 pub const RESPONSE_SIZE: usize = 24;
 /// Bytes of a filler.
 pub const FILLER_SIZE: usize = 512;
-/// Bytes of an account.
-pub const ACCOUNT_SIZE: usize = 38;
 /// Bytes of a record.
-pub const RECORD_SIZE: usize = 39;
+pub const RECORD_SIZE: usize = 41;
 /// Bytes of a conversation.
-pub const CONVERSATION_SIZE: usize = 50;
-/// The most places of a list of issued challenges, of [`CHALLENGE_SIZE`] bytes each.
-pub const LIST_PLACES: usize = 4096;
-/// The counts beside a list: their number, not their bytes.
-pub const COUNTS_SIZE: usize = 256;
+pub const CONVERSATION_SIZE: usize = 52;
+/// Bytes of a step's answer.
+pub const ANSWER_SIZE: usize = 43;
 /// Bytes of a peer.
-pub const PEER_SIZE: usize = 19;
-/// Bytes of what a reply says.
-pub const FIELDS_SIZE: usize = 35;
+pub const PEER_SIZE: usize = 21;
+/// Bytes of a password.
+pub const PASSWORD_SIZE: usize = 516;
+/// The most places of a list of issued challenges.
+pub const LIST_PLACES: usize = 4096;
 /// Bytes of the authenticator's longest packet.
 pub const REPLY_SIZE: usize = 17;
 /// Bytes of the longest Response.
@@ -49,50 +103,49 @@ pub const CHANGE_PACKET: usize = 1118;
 pub const MD4_INPUT_MAX: usize = 4096;
 /// Bytes of the longest key of RC4.
 pub const RC4_KEY_MAX: usize = 256;
-/// Bytes of the longest NT password.
+/// Bytes of the longest password in characters of 16 bits.
 pub const NT_PASSWORD_MAX: usize = 512;
 /// Bytes of the longest LM password.
 pub const LM_PASSWORD_MAX: usize = 14;
+/// Bytes of the longest password in UTF-8.
+pub const TEXT_MAX: usize = 768;
 /// Bytes of the longest name.
 pub const NAME_MAX: usize = 256;
 /// Bytes of stack that any call of the library may take, with room for the loader and a signal's
 /// handler.
 pub const STACK_SIZE: usize = 12288;
 
+/// Bytes of a list of so many places.
+pub const fn list_size(places: usize) -> usize {
+    4 + CHALLENGE_SIZE * places
+}
+
 /// The C interface itself. Each pointer goes with the size behind it.
 pub mod raw {
     extern "C" {
-        /// The MD4 digest of input, into digest.
-        pub fn mschap_md4(
-            input: *const u8,
-            input_size: usize,
-            digest: *mut u8,
-            digest_size: usize,
+        /// The version of the archive that is linked.
+        pub fn mschap_version() -> u32;
+        /// Makes a password of a text in UTF-8.
+        pub fn mschap_make_password(
+            text: *const u8,
+            text_size: usize,
+            password: *mut u8,
+            password_size: usize,
         ) -> u32;
-        /// RC4 over octets in place.
-        pub fn mschap_rc4(
-            key: *const u8,
-            key_size: usize,
-            octets: *mut u8,
-            octets_size: usize,
+        /// Makes a password of characters in 16 bits, the least significant byte first.
+        pub fn mschap_make_password_utf16(
+            characters: *const u8,
+            characters_size: usize,
+            password: *mut u8,
+            password_size: usize,
         ) -> u32;
-        /// DES of a block under a key of 7 bytes, into out.
-        pub fn mschap_des_encrypt(
-            key: *const u8,
-            key_size: usize,
-            block: *const u8,
-            block_size: usize,
-            out: *mut u8,
-            out_size: usize,
-        ) -> u32;
-        /// The inverse of `des_encrypt`, into out.
-        pub fn mschap_des_decrypt(
-            key: *const u8,
-            key_size: usize,
-            block: *const u8,
-            block_size: usize,
-            out: *mut u8,
-            out_size: usize,
+        /// The text of a password in UTF-8, at the front of text, and its length.
+        pub fn mschap_read_password(
+            password: *const u8,
+            password_size: usize,
+            text: *mut u8,
+            text_size: usize,
+            length: *mut usize,
         ) -> u32;
         /// The NT hash of a password, into hash.
         pub fn mschap_nt_hash(
@@ -101,34 +154,45 @@ pub mod raw {
             hash: *mut u8,
             hash_size: usize,
         ) -> u32;
-        /// The LM hash of a password, into hash.
+        /// The LM hash of a password in an OEM code page, into hash.
         pub fn mschap_lm_hash(
             password: *const u8,
             password_size: usize,
             hash: *mut u8,
             hash_size: usize,
         ) -> u32;
-        /// The response of a hash to a challenge, into response.
-        pub fn mschap_challenge_response(
-            hash: *const u8,
-            hash_size: usize,
-            challenge: *const u8,
-            challenge_size: usize,
-            response: *mut u8,
-            response_size: usize,
+        /// Makes a record of flags and hashes.
+        pub fn mschap_make_record(
+            flags: u32,
+            nt_hash: *const u8,
+            nt_hash_size: usize,
+            lm_hash: *const u8,
+            lm_hash_size: usize,
+            record: *mut u8,
+            record_size: usize,
         ) -> u32;
+        /// The flags and the hashes of a record.
+        pub fn mschap_read_record(
+            record: *const u8,
+            record_size: usize,
+            flags: *mut u32,
+            nt_hash: *mut u8,
+            nt_hash_size: usize,
+            lm_hash: *mut u8,
+            lm_hash_size: usize,
+        ) -> u32;
+        /// Makes list an empty list of issued challenges.
+        pub fn mschap_make_list(list: *mut u8, list_size: usize) -> u32;
+        /// How many places of a list are used; [`INVALID`] for no list.
+        pub fn mschap_list_used(list: *const u8, list_size: usize) -> u32;
         /// Opens a conversation, adds its challenges to list, and writes its Challenge into reply.
         pub fn mschap_open(
-            identifier: u8,
+            identifier: u32,
+            terms: u32,
             challenge: *const u8,
             challenge_size: usize,
-            retries: u8,
-            lm: u8,
             list: *mut u8,
             list_size: usize,
-            used: *mut usize,
-            counts: *mut u16,
-            counts_size: usize,
             conversation: *mut u8,
             conversation_size: usize,
             reply: *mut u8,
@@ -144,14 +208,38 @@ pub mod raw {
             record_size: usize,
             reply: *mut u8,
             reply_size: usize,
-            updated: *mut u8,
-            updated_size: usize,
+            answer: *mut u8,
+            answer_size: usize,
         ) -> u32;
-        /// Where the account stands in a Response; 0 where the packet is refused as one.
+        /// The reason of a step's reply; [`INVALID`] for an invalid answer.
+        pub fn mschap_answer_reason(answer: *const u8, answer_size: usize) -> u32;
+        /// The record after an accepted change of the password.
+        pub fn mschap_answer_record(
+            answer: *const u8,
+            answer_size: usize,
+            record: *mut u8,
+            record_size: usize,
+        ) -> u32;
+        /// What a conversation awaits; [`INVALID`] for an invalid one.
+        pub fn mschap_conversation_awaits(conversation: *const u8, conversation_size: usize)
+            -> u32;
+        /// The awaited identifier; [`INVALID`] for an invalid conversation.
+        pub fn mschap_conversation_identifier(
+            conversation: *const u8,
+            conversation_size: usize,
+        ) -> u32;
+        /// The retries that are left; [`INVALID`] for an invalid conversation.
+        pub fn mschap_conversation_retries(
+            conversation: *const u8,
+            conversation_size: usize,
+        ) -> u32;
+        /// The length of a packet; 0 for bytes that are none.
+        pub fn mschap_packet_length(packet: *const u8, packet_size: usize) -> usize;
+        /// Where the account is in a Response; 0 if the packet is refused as one.
         pub fn mschap_account_offset(packet: *const u8, packet_size: usize) -> usize;
         /// The length of the account there, in bytes.
         pub fn mschap_account_length(packet: *const u8, packet_size: usize) -> usize;
-        /// Where the domain stands in a Response; 0 where it is not in the packet.
+        /// Where the domain is in a Response; 0 if it is not in the packet.
         pub fn mschap_domain_offset(packet: *const u8, packet_size: usize) -> usize;
         /// The length of the domain there, in bytes.
         pub fn mschap_domain_length(packet: *const u8, packet_size: usize) -> usize;
@@ -162,14 +250,14 @@ pub mod raw {
             peer: *mut u8,
             peer_size: usize,
         ) -> u32;
-        /// Reads a reply, and writes what it says into fields, and the next turn into the peer.
+        /// Reads a reply: what it calls for, the reason, and the peer for the next packet.
         pub fn mschap_read_reply(
             peer: *mut u8,
             peer_size: usize,
             packet: *const u8,
             packet_size: usize,
-            fields: *mut u8,
-            fields_size: usize,
+            call: *mut u32,
+            reason: *mut u64,
         ) -> u32;
         /// Writes the peer's Response into out.
         pub fn mschap_write_response(
@@ -195,54 +283,88 @@ pub mod raw {
             out: *mut u8,
             out_size: usize,
         ) -> u32;
+        /// The MD4 digest of input, into digest.
+        pub fn mschap_md4(
+            input: *const u8,
+            input_size: usize,
+            digest: *mut u8,
+            digest_size: usize,
+        ) -> u32;
+        /// RC4 over bytes in place.
+        pub fn mschap_rc4(
+            key: *const u8,
+            key_size: usize,
+            bytes: *mut u8,
+            bytes_size: usize,
+        ) -> u32;
+        /// DES of a block in place, under a key of 7 bytes.
+        pub fn mschap_des_encrypt(
+            key: *const u8,
+            key_size: usize,
+            block: *mut u8,
+            block_size: usize,
+        ) -> u32;
+        /// The inverse of `des_encrypt`.
+        pub fn mschap_des_decrypt(
+            key: *const u8,
+            key_size: usize,
+            block: *mut u8,
+            block_size: usize,
+        ) -> u32;
+        /// The response of a hash to a challenge, into response.
+        pub fn mschap_challenge_response(
+            hash: *const u8,
+            hash_size: usize,
+            challenge: *const u8,
+            challenge_size: usize,
+            response: *mut u8,
+            response_size: usize,
+        ) -> u32;
     }
 }
 
-/// The MD4 digest of input, into digest.
-pub fn md4(input: &[u8], digest: &mut [u8]) -> u32 {
+/// The version of the archive that is linked.
+pub fn version() -> u32 {
+    // SAFETY: nothing is passed.
+    unsafe { raw::mschap_version() }
+}
+
+/// Makes a password of a text in UTF-8.
+pub fn make_password(text: &[u8], password: &mut [u8]) -> u32 {
     // SAFETY: slices, as said above.
     unsafe {
-        raw::mschap_md4(
-            input.as_ptr(),
-            input.len(),
-            digest.as_mut_ptr(),
-            digest.len(),
+        raw::mschap_make_password(
+            text.as_ptr(),
+            text.len(),
+            password.as_mut_ptr(),
+            password.len(),
         )
     }
 }
 
-/// RC4 over octets in place.
-pub fn rc4(key: &[u8], octets: &mut [u8]) -> u32 {
-    // SAFETY: slices, as said above.
-    unsafe { raw::mschap_rc4(key.as_ptr(), key.len(), octets.as_mut_ptr(), octets.len()) }
-}
-
-/// DES of a block under a key of 7 bytes, into out.
-pub fn des_encrypt(key: &[u8], block: &[u8], out: &mut [u8]) -> u32 {
+/// Makes a password of characters in 16 bits, the least significant byte first.
+pub fn make_password_utf16(characters: &[u8], password: &mut [u8]) -> u32 {
     // SAFETY: slices, as said above.
     unsafe {
-        raw::mschap_des_encrypt(
-            key.as_ptr(),
-            key.len(),
-            block.as_ptr(),
-            block.len(),
-            out.as_mut_ptr(),
-            out.len(),
+        raw::mschap_make_password_utf16(
+            characters.as_ptr(),
+            characters.len(),
+            password.as_mut_ptr(),
+            password.len(),
         )
     }
 }
 
-/// The inverse of `des_encrypt`, into out.
-pub fn des_decrypt(key: &[u8], block: &[u8], out: &mut [u8]) -> u32 {
-    // SAFETY: slices, as said above.
+/// The text of a password in UTF-8, at the front of text, and its length.
+pub fn read_password(password: &[u8], text: &mut [u8], length: &mut usize) -> u32 {
+    // SAFETY: slices and references, as said above.
     unsafe {
-        raw::mschap_des_decrypt(
-            key.as_ptr(),
-            key.len(),
-            block.as_ptr(),
-            block.len(),
-            out.as_mut_ptr(),
-            out.len(),
+        raw::mschap_read_password(
+            password.as_ptr(),
+            password.len(),
+            text.as_mut_ptr(),
+            text.len(),
+            length,
         )
     }
 }
@@ -260,7 +382,7 @@ pub fn nt_hash(password: &[u8], hash: &mut [u8]) -> u32 {
     }
 }
 
-/// The LM hash of a password, into hash.
+/// The LM hash of a password in an OEM code page, into hash.
 pub fn lm_hash(password: &[u8], hash: &mut [u8]) -> u32 {
     // SAFETY: slices, as said above.
     unsafe {
@@ -273,47 +395,68 @@ pub fn lm_hash(password: &[u8], hash: &mut [u8]) -> u32 {
     }
 }
 
-/// The response of a hash to a challenge, into response.
-pub fn challenge_response(hash: &[u8], challenge: &[u8], response: &mut [u8]) -> u32 {
+/// Makes a record of flags and hashes.
+pub fn make_record(flags: u32, nt_hash: &[u8], lm_hash: &[u8], record: &mut [u8]) -> u32 {
     // SAFETY: slices, as said above.
     unsafe {
-        raw::mschap_challenge_response(
-            hash.as_ptr(),
-            hash.len(),
-            challenge.as_ptr(),
-            challenge.len(),
-            response.as_mut_ptr(),
-            response.len(),
+        raw::mschap_make_record(
+            flags,
+            nt_hash.as_ptr(),
+            nt_hash.len(),
+            lm_hash.as_ptr(),
+            lm_hash.len(),
+            record.as_mut_ptr(),
+            record.len(),
         )
     }
 }
 
+/// The flags and the hashes of a record.
+pub fn read_record(record: &[u8], flags: &mut u32, nt_hash: &mut [u8], lm_hash: &mut [u8]) -> u32 {
+    // SAFETY: slices and references, as said above.
+    unsafe {
+        raw::mschap_read_record(
+            record.as_ptr(),
+            record.len(),
+            flags,
+            nt_hash.as_mut_ptr(),
+            nt_hash.len(),
+            lm_hash.as_mut_ptr(),
+            lm_hash.len(),
+        )
+    }
+}
+
+/// Makes list an empty list of issued challenges.
+pub fn make_list(list: &mut [u8]) -> u32 {
+    // SAFETY: slices, as said above.
+    unsafe { raw::mschap_make_list(list.as_mut_ptr(), list.len()) }
+}
+
+/// How many places of a list are used; [`INVALID`] for no list.
+pub fn list_used(list: &[u8]) -> u32 {
+    // SAFETY: slices, as said above.
+    unsafe { raw::mschap_list_used(list.as_ptr(), list.len()) }
+}
+
 /// Opens a conversation, adds its challenges to list, and writes its Challenge into reply.
-#[allow(clippy::too_many_arguments)]
 pub fn open(
-    identifier: u8,
+    identifier: u32,
+    terms: u32,
     challenge: &[u8],
-    retries: u8,
-    lm: u8,
     list: &mut [u8],
-    used: &mut usize,
-    counts: &mut [u16],
     conversation: &mut [u8],
     reply: &mut [u8],
 ) -> u32 {
-    // SAFETY: slices, as said above, and `used` is a reference of its own.
+    // SAFETY: slices, as said above.
     unsafe {
         raw::mschap_open(
             identifier,
+            terms,
             challenge.as_ptr(),
             challenge.len(),
-            retries,
-            lm,
             list.as_mut_ptr(),
             list.len(),
-            used,
-            counts.as_mut_ptr(),
-            counts.len(),
             conversation.as_mut_ptr(),
             conversation.len(),
             reply.as_mut_ptr(),
@@ -328,7 +471,7 @@ pub fn step(
     packet: &[u8],
     record: &[u8],
     reply: &mut [u8],
-    updated: &mut [u8],
+    answer: &mut [u8],
 ) -> u32 {
     // SAFETY: slices, as said above.
     unsafe {
@@ -341,33 +484,76 @@ pub fn step(
             record.len(),
             reply.as_mut_ptr(),
             reply.len(),
-            updated.as_mut_ptr(),
-            updated.len(),
+            answer.as_mut_ptr(),
+            answer.len(),
         )
     }
 }
 
-/// Where the account stands in a Response; 0 where the packet is refused as one.
+/// The reason of a step's reply; [`INVALID`] for an invalid answer.
+pub fn answer_reason(answer: &[u8]) -> u32 {
+    // SAFETY: slices, as said above.
+    unsafe { raw::mschap_answer_reason(answer.as_ptr(), answer.len()) }
+}
+
+/// The record after an accepted change of the password.
+pub fn answer_record(answer: &[u8], record: &mut [u8]) -> u32 {
+    // SAFETY: slices, as said above.
+    unsafe {
+        raw::mschap_answer_record(
+            answer.as_ptr(),
+            answer.len(),
+            record.as_mut_ptr(),
+            record.len(),
+        )
+    }
+}
+
+/// What a conversation awaits; [`INVALID`] for an invalid one.
+pub fn conversation_awaits(conversation: &[u8]) -> u32 {
+    // SAFETY: slices, as said above.
+    unsafe { raw::mschap_conversation_awaits(conversation.as_ptr(), conversation.len()) }
+}
+
+/// The awaited identifier; [`INVALID`] for an invalid conversation.
+pub fn conversation_identifier(conversation: &[u8]) -> u32 {
+    // SAFETY: slices, as said above.
+    unsafe { raw::mschap_conversation_identifier(conversation.as_ptr(), conversation.len()) }
+}
+
+/// The retries that are left; [`INVALID`] for an invalid conversation.
+pub fn conversation_retries(conversation: &[u8]) -> u32 {
+    // SAFETY: slices, as said above.
+    unsafe { raw::mschap_conversation_retries(conversation.as_ptr(), conversation.len()) }
+}
+
+/// The length of a packet; 0 for bytes that are none.
+pub fn packet_length(packet: &[u8]) -> usize {
+    // SAFETY: slices, as said above.
+    unsafe { raw::mschap_packet_length(packet.as_ptr(), packet.len()) }
+}
+
+/// Where the account is in a Response; 0 if the packet is refused as one.
 pub fn account_offset(packet: &[u8]) -> usize {
-    // SAFETY: a slice, as said above.
+    // SAFETY: slices, as said above.
     unsafe { raw::mschap_account_offset(packet.as_ptr(), packet.len()) }
 }
 
 /// The length of the account there, in bytes.
 pub fn account_length(packet: &[u8]) -> usize {
-    // SAFETY: a slice, as said above.
+    // SAFETY: slices, as said above.
     unsafe { raw::mschap_account_length(packet.as_ptr(), packet.len()) }
 }
 
-/// Where the domain stands in a Response; 0 where it is not in the packet.
+/// Where the domain is in a Response; 0 if it is not in the packet.
 pub fn domain_offset(packet: &[u8]) -> usize {
-    // SAFETY: a slice, as said above.
+    // SAFETY: slices, as said above.
     unsafe { raw::mschap_domain_offset(packet.as_ptr(), packet.len()) }
 }
 
 /// The length of the domain there, in bytes.
 pub fn domain_length(packet: &[u8]) -> usize {
-    // SAFETY: a slice, as said above.
+    // SAFETY: slices, as said above.
     unsafe { raw::mschap_domain_length(packet.as_ptr(), packet.len()) }
 }
 
@@ -379,17 +565,17 @@ pub fn read_challenge(packet: &[u8], peer: &mut [u8]) -> u32 {
     }
 }
 
-/// Reads a reply, and writes what it says into fields, and the next turn into the peer.
-pub fn read_reply(peer: &mut [u8], packet: &[u8], fields: &mut [u8]) -> u32 {
-    // SAFETY: slices, as said above.
+/// Reads a reply: what it calls for, the reason, and the peer for the next packet.
+pub fn read_reply(peer: &mut [u8], packet: &[u8], call: &mut u32, reason: &mut u64) -> u32 {
+    // SAFETY: slices and references, as said above.
     unsafe {
         raw::mschap_read_reply(
             peer.as_mut_ptr(),
             peer.len(),
             packet.as_ptr(),
             packet.len(),
-            fields.as_mut_ptr(),
-            fields.len(),
+            call,
+            reason,
         )
     }
 }
@@ -432,6 +618,52 @@ pub fn write_change(
             filler.len(),
             out.as_mut_ptr(),
             out.len(),
+        )
+    }
+}
+
+/// The MD4 digest of input, into digest.
+pub fn md4(input: &[u8], digest: &mut [u8]) -> u32 {
+    // SAFETY: slices, as said above.
+    unsafe {
+        raw::mschap_md4(
+            input.as_ptr(),
+            input.len(),
+            digest.as_mut_ptr(),
+            digest.len(),
+        )
+    }
+}
+
+/// RC4 over bytes in place.
+pub fn rc4(key: &[u8], bytes: &mut [u8]) -> u32 {
+    // SAFETY: slices, as said above.
+    unsafe { raw::mschap_rc4(key.as_ptr(), key.len(), bytes.as_mut_ptr(), bytes.len()) }
+}
+
+/// DES of a block in place, under a key of 7 bytes.
+pub fn des_encrypt(key: &[u8], block: &mut [u8]) -> u32 {
+    // SAFETY: slices, as said above.
+    unsafe { raw::mschap_des_encrypt(key.as_ptr(), key.len(), block.as_mut_ptr(), block.len()) }
+}
+
+/// The inverse of `des_encrypt`.
+pub fn des_decrypt(key: &[u8], block: &mut [u8]) -> u32 {
+    // SAFETY: slices, as said above.
+    unsafe { raw::mschap_des_decrypt(key.as_ptr(), key.len(), block.as_mut_ptr(), block.len()) }
+}
+
+/// The response of a hash to a challenge, into response.
+pub fn challenge_response(hash: &[u8], challenge: &[u8], response: &mut [u8]) -> u32 {
+    // SAFETY: slices, as said above.
+    unsafe {
+        raw::mschap_challenge_response(
+            hash.as_ptr(),
+            hash.len(),
+            challenge.as_ptr(),
+            challenge.len(),
+            response.as_mut_ptr(),
+            response.len(),
         )
     }
 }

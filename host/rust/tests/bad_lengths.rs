@@ -1,7 +1,11 @@
-//! Wrong sizes and wrong bytes at the C interface: each is answered with 100 before any refusal,
-//! and changes nothing; a bad list of issued challenges is refused with 24, and changes
-//! nothing either. An empty buffer may have any pointer, the null pointer too.
+//! Wrong sizes and wrong numbers at the C interface: each is answered with 100 before any refusal,
+//! and changes nothing; a bad list of issued challenges is refused with 24, and changes nothing
+//! either. An empty buffer may have any pointer, the null pointer too. Wrong bytes of the right
+//! size are in stored.rs.
 
+mod layout;
+
+use layout::LIST_HEAD;
 use mschap::sys;
 use std::ptr::{null, null_mut};
 
@@ -13,119 +17,227 @@ fn others(right: usize) -> impl Iterator<Item = usize> {
 }
 
 /// Passes a buffer of each wrong size: the answer is 100, and the buffer is unchanged.
-fn bad_sizes(right: usize, mut call: impl FnMut(&mut [u8]) -> u32) {
-    for size in others(right) {
-        let mut buffer = vec![FILL; size];
-        assert_eq!(
-            call(&mut buffer),
-            sys::BAD_ARGUMENT,
-            "size {size} for {right}"
-        );
-        assert!(buffer.iter().all(|octet| *octet == FILL), "size {size}");
+fn bad_sizes(right: usize, call: impl FnMut(&mut [u8]) -> u32) {
+    bad_sizes_of(&vec![FILL; right], call);
+}
+
+/// Passes what is valid in each wrong size: cut short, or with bytes 0 behind it.
+fn bad_sizes_of(valid: &[u8], mut call: impl FnMut(&mut [u8]) -> u32) {
+    for size in others(valid.len()) {
+        let mut buffer = valid.to_vec();
+        buffer.resize(size, 0);
+        let before = buffer.clone();
+        let number = call(&mut buffer);
+        assert_eq!(number, sys::BAD_ARGUMENT, "size {size} for {}", valid.len());
+        assert_eq!(buffer, before, "size {size}");
     }
 }
 
+/// A password of two characters.
+fn password() -> [u8; sys::PASSWORD_SIZE] {
+    layout::password(b"P\0w\0")
+}
+
 #[test]
-fn ciphers_and_hashes() {
+fn ciphers() {
     let challenge = [0; 8];
     bad_sizes(16, |digest| sys::md4(b"abc", digest));
-    bad_sizes(16, |hash| sys::nt_hash(b"a\0", hash));
-    bad_sizes(16, |hash| sys::lm_hash(b"a", hash));
     // 100 comes before the refusal of the input
     bad_sizes(16, |digest| sys::md4(&[0; 4097], digest));
-    bad_sizes(16, |hash| sys::nt_hash(b"a", hash));
-    bad_sizes(16, |hash| sys::lm_hash(&[0; 15], hash));
     for des in [sys::des_encrypt, sys::des_decrypt] {
-        bad_sizes(7, |key| des(key, &[0; 8], &mut [0; 8]));
-        bad_sizes(8, |block| des(&[0; 7], block, &mut [0; 8]));
-        bad_sizes(8, |out| des(&[0; 7], &[0; 8], out));
+        let mut block = [FILL; 8];
+        bad_sizes(7, |key| des(key, &mut block));
+        assert_eq!(block, [FILL; 8]);
+        bad_sizes(8, |block| des(&[0; 7], block));
     }
+    let mut response = [FILL; 24];
     bad_sizes(16, |hash| {
-        sys::challenge_response(hash, &challenge, &mut [0; 24])
+        sys::challenge_response(hash, &challenge, &mut response)
     });
     bad_sizes(8, |value| {
-        sys::challenge_response(&[0; 16], value, &mut [0; 24])
+        sys::challenge_response(&[0; 16], value, &mut response)
     });
+    assert_eq!(response, [FILL; 24]);
     bad_sizes(24, |out| sys::challenge_response(&[0; 16], &challenge, out));
 }
 
-/// A list of issued challenges as it is passed.
-#[derive(Clone, Debug, PartialEq)]
-struct Passed {
-    list: Vec<u8>,
-    used: usize,
-    counts: Vec<u16>,
-}
+#[test]
+fn passwords() {
+    bad_sizes(516, |out| sys::make_password(b"a", out));
+    bad_sizes(516, |out| sys::make_password_utf16(b"a\0", out));
+    // 100 comes before the refusals of the text
+    bad_sizes(516, |out| sys::make_password(b"\xff", out));
+    bad_sizes(516, |out| sys::make_password(&[b'a'; 257], out));
+    bad_sizes(516, |out| sys::make_password_utf16(b"a", out));
 
-impl Passed {
-    /// A list whose used places, if it has any, hold bytes FILL, as do the others.
-    fn new(places: usize, used: usize) -> Passed {
-        let mut counts = vec![0; sys::COUNTS_SIZE];
-        counts[usize::from(FILL)] = used as u16;
-        Passed {
-            list: vec![FILL; places * sys::CHALLENGE_SIZE],
-            used,
-            counts,
-        }
-    }
+    let mut text = [FILL; sys::TEXT_MAX];
+    let mut length = usize::MAX;
+    bad_sizes_of(&password(), |password| {
+        sys::read_password(password, &mut text, &mut length)
+    });
+    // before that of an unpaired surrogate, and of too little room
+    bad_sizes_of(&layout::password(b"\0\xd8"), |password| {
+        sys::read_password(password, &mut [], &mut length)
+    });
+    assert_eq!((text, length), ([FILL; sys::TEXT_MAX], usize::MAX));
 
-    /// An opening over this list.
-    fn open(
-        &mut self,
-        challenge: &[u8],
-        retries: u8,
-        lm: u8,
-        conversation: &mut [u8],
-        reply: &mut [u8],
-    ) -> u32 {
-        sys::open(
-            7,
-            challenge,
-            retries,
-            lm,
-            &mut self.list,
-            &mut self.used,
-            &mut self.counts,
-            conversation,
-            reply,
-        )
-    }
-
-    /// One opening with this answer, which is not 0: everything that was passed is unchanged.
-    fn refused(&self, challenge: &[u8], retries: u8, lm: u8, size: usize, answer: u32) {
-        let mut after = self.clone();
-        let mut conversation = [FILL; 50];
-        let mut reply = vec![FILL; size];
-        let number = after.open(challenge, retries, lm, &mut conversation, &mut reply);
-        assert_eq!(number, answer, "retries {retries}, LM {lm}, reply {size}");
-        assert_eq!(&after, self);
-        assert_eq!(conversation, [FILL; 50]);
-        assert_eq!(reply, vec![FILL; size]);
-    }
+    let mut hash = [FILL; 16];
+    bad_sizes_of(&password(), |password| sys::nt_hash(password, &mut hash));
+    bad_sizes(16, |hash| sys::nt_hash(&password(), hash));
+    bad_sizes(16, |hash| sys::lm_hash(b"a", hash));
+    bad_sizes(16, |hash| sys::lm_hash(&[0; 15], hash));
+    assert_eq!(hash, [FILL; 16]);
 }
 
 #[test]
+fn records() {
+    let (nt, lm) = ([1; 16], [2; 16]);
+    let (both, no_nt, no_lm) = (0x7f, 0x7d, 0x7b);
+    let mut record = [FILL; 41];
+    for (flags, nt, lm) in [
+        (both, &nt[..], &lm[..]),
+        (no_nt, &[], &lm),
+        (no_lm, &nt, &[]),
+        (0x79, &[], &[]),
+    ] {
+        bad_sizes(41, |record| sys::make_record(flags, nt, lm, record));
+        bad_sizes_of(nt, |nt| sys::make_record(flags, nt, lm, &mut record));
+        bad_sizes_of(lm, |lm| sys::make_record(flags, nt, lm, &mut record));
+        // other bits
+        for bit in 7..32 {
+            let number = sys::make_record(flags | 1 << bit, nt, lm, &mut record);
+            assert_eq!(number, sys::BAD_ARGUMENT, "bit {bit}");
+        }
+    }
+    assert_eq!(record, [FILL; 41]);
+
+    // all that can be made reads back
+    for flags in 0..0x80 {
+        let nt = if flags & sys::HAS_NT_HASH != 0 {
+            &nt[..]
+        } else {
+            &[]
+        };
+        let lm = if flags & sys::HAS_LM_HASH != 0 {
+            &lm[..]
+        } else {
+            &[]
+        };
+        assert_eq!(sys::make_record(flags, nt, lm, &mut record), sys::OK);
+        let hash = |hash: &[u8]| <[u8; 16]>::try_from(hash).unwrap_or([0; 16]);
+        let parts = (flags, hash(nt), hash(lm));
+        assert_eq!(layout::record_parts(&record), Some(parts));
+        let mut read = (FILL.into(), [FILL; 16], [FILL; 16]);
+        let number = sys::read_record(&record, &mut read.0, &mut read.1, &mut read.2);
+        assert_eq!((number, read), (sys::OK, parts));
+    }
+
+    let (mut flags, mut hash) = (FILL.into(), [FILL; 16]);
+    bad_sizes_of(&record, |record| {
+        sys::read_record(record, &mut flags, &mut hash, &mut [0; 16])
+    });
+    bad_sizes(16, |nt| {
+        sys::read_record(&record, &mut flags, nt, &mut hash)
+    });
+    bad_sizes(16, |lm| {
+        sys::read_record(&record, &mut flags, &mut hash, lm)
+    });
+    assert_eq!((flags, hash), (FILL.into(), [FILL; 16]));
+}
+
+/// One opening with this answer, which is not 0: everything that was passed is unchanged.
+fn refused(list: &[u8], identifier: u32, terms: u32, size: usize, answer: u32) {
+    let mut after = list.to_vec();
+    let mut conversation = [FILL; 52];
+    let mut reply = vec![FILL; size];
+    let number = sys::open(
+        identifier,
+        terms,
+        &[0; 8],
+        &mut after,
+        &mut conversation,
+        &mut reply,
+    );
+    let what = format!("identifier {identifier}, terms {terms:#x}, reply {size}");
+    assert_eq!(number, answer, "{what}, list of {}", list.len());
+    assert_eq!(after, list, "{what}");
+    assert_eq!(
+        (conversation, reply),
+        ([FILL; 52], vec![FILL; size]),
+        "{what}"
+    );
+}
+
+/// A list of so many places; what is in them is bytes FILL.
+fn list(places: usize, used: u16) -> Vec<u8> {
+    layout::list(used, &vec![FILL; places * 8])
+}
+
+const TERMS: u32 = sys::TERMS | sys::LM_ALLOWED | sys::retries(2);
+
+#[test]
 fn openings() {
-    let fresh = Passed::new(3, 0);
+    let (fresh, unfit) = (list(3, 0), list(3, 4));
     // 100 comes before the refusals: of the retries, the reply and the list
-    let unfit = Passed::new(3, 4);
-    for (passed, retries, size) in [(&fresh, 2, 17), (&unfit, 2, 17), (&unfit, 8, 16)] {
-        let open = |challenge: &[u8], conversation: &mut [u8]| {
-            let mut after = passed.clone();
-            let number = after.open(challenge, retries, 1, conversation, &mut vec![0; size]);
-            assert_eq!(&after, passed);
+    for (passed, terms, size) in [
+        (&fresh, TERMS, 17),
+        (&unfit, TERMS, 17),
+        (&unfit, sys::TERMS | sys::retries(8), 16),
+    ] {
+        let mut after = passed.clone();
+        let mut open = |challenge: &[u8], conversation: &mut [u8]| {
+            let mut reply = vec![FILL; size];
+            let number = sys::open(7, terms, challenge, &mut after, conversation, &mut reply);
+            assert_eq!((&after, reply), (passed, vec![FILL; size]));
             number
         };
-        bad_sizes(8, |challenge| open(challenge, &mut [0; 50]));
-        bad_sizes(50, |conversation| open(&[0; 8], conversation));
-        for lm in 2..255 {
-            passed.refused(&[0; 8], retries, lm, size, sys::BAD_ARGUMENT);
+        bad_sizes(8, |challenge| open(challenge, &mut [0; 52]));
+        bad_sizes(52, |conversation| open(&[0; 8], conversation));
+        for identifier in [256, 257, 0x107, 65_536, sys::TERMS | 7, u32::MAX] {
+            refused(passed, identifier, terms, size, sys::BAD_ARGUMENT);
+        }
+        // what stands where the mark of terms does, and where the choice about LM does
+        for mark in (0..=0xff).chain([0x100, 0xffff]).filter(|mark| *mark != 1) {
+            refused(
+                passed,
+                7,
+                mark << 16 | terms & 0xffff,
+                size,
+                sys::BAD_ARGUMENT,
+            );
+        }
+        for lm in 3..=0xff {
+            let terms = sys::TERMS | lm << 8 | terms & 0xff;
+            refused(passed, 7, terms, size, sys::BAD_ARGUMENT);
         }
     }
     // a refusal leaves all alone too, and these two come before that of the list
     for passed in [&fresh, &unfit] {
-        for (retries, size, refusal) in [(8, 0, 13), (254, 17, 13), (7, 16, 2), (255, 0, 2)] {
-            passed.refused(&[0; 8], retries, 255, size, refusal);
+        for (retries, size, refusal) in [(8, 0, 13), (253, 17, 13), (254, 17, 13), (7, 16, 2)] {
+            refused(passed, 7, sys::TERMS | sys::retries(retries), size, refusal);
+        }
+        refused(passed, 7, sys::TERMS, 0, 2);
+    }
+    // every choice that there is: what the conversation is then
+    for lm in [0, sys::LM_ALLOWED, sys::LM_REFUSED] {
+        for retries in [None, Some(0), Some(2), Some(7)] {
+            let terms = sys::TERMS | lm | retries.map_or(0, sys::retries);
+            let mut conversation = [FILL; 52];
+            let mut list = list(8, 0);
+            let number = sys::open(
+                255,
+                terms,
+                &[9; 8],
+                &mut list,
+                &mut conversation,
+                &mut [0; 17],
+            );
+            assert_eq!(number, sys::OK, "{terms:#x}");
+            let opened = layout::to_conversation(&conversation).expect("a conversation");
+            let count = retries.unwrap_or(2);
+            assert_eq!((u32::from(opened.retries), opened.id), (count, 255));
+            assert_eq!(opened.lm, lm != sys::LM_REFUSED, "{terms:#x}");
+            assert_eq!(sys::list_used(&list), count + 1);
         }
     }
 }
@@ -133,273 +245,313 @@ fn openings() {
 #[test]
 fn lists() {
     // whole places only, and 4,096 of them at most
-    for size in (0..=64).chain(32_756..=32_780).chain([65_536]) {
-        let mut passed = Passed::new(0, 0);
-        passed.list.resize(size, FILL);
-        let whole = size % 8 == 0 && size <= 32_768;
+    for size in (0..=64).chain(32_756..=32_790).chain([65_536, 65_540]) {
+        let mut bytes = vec![FILL; size];
+        let whole = size >= 4 && (size - 4) % 8 == 0 && size - 4 <= 32_768;
+        let number = sys::make_list(&mut bytes);
         if !whole {
-            passed.refused(&[0; 8], 2, 1, 17, 24);
-        } else if size < 24 {
-            passed.refused(&[0; 8], 2, 1, 17, 17);
-        } else {
-            let before = passed.clone();
-            let number = passed.open(&[0; 8], 2, 1, &mut [0; 50], &mut [0; 17]);
-            assert_eq!((number, passed.used, passed.counts[0]), (sys::OK, 3, 3));
-            assert_eq!(passed.list[..8], [0; 8]);
-            assert_eq!(passed.list[8..16], [23, 0, 0, 0, 0, 0, 0, 0]);
-            assert_eq!(passed.list[16..24], [46, 0, 0, 0, 0, 0, 0, 0]);
-            assert_eq!(passed.list[24..], before.list[24..]);
-            assert_eq!(passed.counts[1..], before.counts[1..]);
+            assert_eq!(number, 24, "{size}");
+            assert_eq!(bytes, vec![FILL; size], "{size}");
+            assert_eq!(sys::list_used(&bytes), sys::INVALID);
+            if size >= LIST_HEAD {
+                let bad = layout::list(0, &vec![FILL; size - LIST_HEAD]);
+                assert_eq!(sys::list_used(&bad), sys::INVALID);
+                refused(&bad, 7, TERMS, 17, 24);
+            } else {
+                refused(
+                    &layout::list(0, &[])[..size],
+                    7,
+                    TERMS,
+                    17,
+                    sys::BAD_ARGUMENT,
+                );
+            }
+            continue;
         }
+        assert_eq!(number, sys::OK, "{size}");
+        assert_eq!(bytes, list((size - 4) / 8, 0), "{size}");
+        assert_eq!(sys::list_used(&bytes), 0);
+        if size < 28 {
+            refused(&bytes, 7, TERMS, 17, 17);
+            continue;
+        }
+        let mut after = bytes.clone();
+        let number = sys::open(7, TERMS, &[0; 8], &mut after, &mut [0; 52], &mut [0; 17]);
+        assert_eq!((number, sys::list_used(&after)), (sys::OK, 3));
+        let (used, places) = layout::to_list(&after).expect("a list");
+        assert_eq!(used, 3);
+        assert_eq!(places[..8], [0; 8]);
+        assert_eq!(places[8..16], [23, 0, 0, 0, 0, 0, 0, 0]);
+        assert_eq!(places[16..24], [46, 0, 0, 0, 0, 0, 0, 0]);
+        assert_eq!(after[28..], bytes[28..]);
     }
     // more places used than there are
-    for used in [4, 5, 255, 256, 4096, 4097, 65_536, usize::MAX] {
-        Passed::new(3, used).refused(&[0; 8], 2, 1, 17, 24);
-        let mut passed = Passed::new(3, 3);
-        passed.used = used;
-        passed.refused(&[0; 8], 2, 1, 17, 24);
+    for used in [4, 5, 255, 256, 4096, 4097, 65_535] {
+        refused(&list(3, used), 7, TERMS, 17, 24);
+        assert_eq!(sys::list_used(&list(3, used)), sys::INVALID);
     }
-    // another number of counts
-    for size in others(sys::COUNTS_SIZE) {
-        for used in [0, 1] {
-            let mut passed = Passed::new(4, used);
-            passed.counts.resize(size, 0);
-            passed.refused(&[0; 8], 2, 1, 17, 24);
-        }
-    }
-    // a count that is not true, and all of them true
-    for octet in 0..sys::COUNTS_SIZE {
-        let mut passed = Passed::new(5, 2);
-        for untrue in [1, 2, 3, 256, 65_535] {
-            let count = passed.counts[octet];
-            passed.counts[octet] = count.wrapping_add(untrue);
-            passed.refused(&[0; 8], 2, 1, 17, 24);
-            passed.counts[octet] = count;
-        }
-        let number = passed.open(&[0; 8], 2, 1, &mut [0; 50], &mut [0; 17]);
-        assert_eq!((number, passed.used), (sys::OK, 5));
-    }
+    assert_eq!(sys::list_used(&list(4096, 4096)), 4096);
+    assert_eq!(sys::list_used(&list(4096, 4097)), sys::INVALID);
     // a challenge that was issued before comes before too few places
-    Passed::new(2, 2).refused(&[FILL; 8], 2, 1, 17, 16);
-    Passed::new(2, 2).refused(&[0; 8], 2, 1, 17, 17);
-    Passed::new(3, 1).refused(&[0; 8], 2, 1, 17, 17);
+    let mut spent = list(2, 2);
+    spent[LIST_HEAD..][..8].fill(0);
+    refused(&spent, 7, TERMS, 17, 16);
+    refused(&list(2, 2), 7, TERMS, 17, 17);
+    refused(&list(3, 1), 7, TERMS, 17, 17);
+    // a list that was used is made empty
+    let mut used = list(5, 4);
+    assert_eq!(sys::make_list(&mut used), sys::OK);
+    assert_eq!(used, list(5, 0));
 }
 
 /// A conversation that awaits a Response, and a Response for it.
-fn opened() -> ([u8; 50], Vec<u8>) {
-    let (mut conversation, mut reply, mut peer) = ([0; 50], [0; 17], [0; 19]);
-    let number = Passed::new(3, 0).open(&[0; 8], 2, 1, &mut conversation, &mut reply);
+fn opened() -> ([u8; 52], Vec<u8>) {
+    let (mut conversation, mut reply, mut peer) = ([0; 52], [0; 17], [0; 21]);
+    let mut list = list(3, 0);
+    let number = sys::open(7, TERMS, &[0; 8], &mut list, &mut conversation, &mut reply);
     assert_eq!(number, sys::OK);
     assert_eq!(sys::read_challenge(&reply, &mut peer), sys::OK);
     let mut packet = vec![0; 55];
-    let number = sys::write_response(&mut peer, b"", b"u", &mut packet);
+    let number = sys::write_response(&mut peer, &layout::password(b""), b"u", &mut packet);
     assert_eq!(number, sys::OK);
     (conversation, packet)
 }
 
 /// One step with 100 for its answer, after which each buffer is unchanged.
-fn bad_step(conversation: &[u8], record: &[u8], updated: usize) {
+fn bad_step(conversation: &[u8], record: &[u8], answer: usize) {
     let (_, packet) = opened();
     let mut after = conversation.to_vec();
     let mut reply = [FILL; 17];
-    let mut out = vec![FILL; updated];
+    let mut out = vec![FILL; answer];
     let number = sys::step(&mut after, &packet, record, &mut reply, &mut out);
     assert_eq!(number, sys::BAD_ARGUMENT);
     assert_eq!(after, conversation);
     assert_eq!(reply, [FILL; 17]);
-    assert_eq!(out, vec![FILL; updated]);
+    assert_eq!(out, vec![FILL; answer]);
 }
 
 #[test]
 fn steps() {
-    let (conversation, _) = opened();
-    for size in others(50) {
-        let mut cut = conversation.to_vec();
-        cut.resize(size, 0);
-        bad_step(&cut, &[0; 39], 39);
+    let (mut conversation, packet) = opened();
+    let nobody = layout::record(None);
+    let resized = |valid: &[u8], size| {
+        let mut bytes = valid.to_vec();
+        bytes.resize(size, 0);
+        bytes
+    };
+    for size in others(52) {
+        bad_step(&resized(&conversation, size), &nobody, 43);
     }
-    for size in others(39) {
-        bad_step(&conversation, &vec![0; size], 39);
-        bad_step(&conversation, &[0; 39], size);
+    for size in others(41) {
+        bad_step(&conversation, &resized(&nobody, size), 43);
     }
-    // bytes that no value writes
-    for code in (0..=255).filter(|code| ![0, 2, 6].contains(code)) {
-        let mut bad = conversation;
-        bad[0] = code;
-        bad_step(&bad, &[0; 39], 39);
-    }
-    for value in 2..=255 {
-        for flag in [1, 12, 29, 46, 47, 48, 49] {
-            let mut bad = conversation;
-            bad[flag] = value;
-            bad_step(&bad, &[0; 39], 39);
-        }
-        for flag in [0, 1, 18, 35, 36, 37, 38] {
-            let mut bad = [0; 39];
-            bad[flag] = value;
-            bad_step(&conversation, &bad, 39);
-        }
+    for size in others(43) {
+        bad_step(&conversation, &nobody, size);
     }
     // the right buffers draw an answer: the account is not found
-    let (mut conversation, packet) = opened();
     let mut reply = [FILL; 17];
-    let mut updated = [FILL; 39];
-    let number = sys::step(
-        &mut conversation,
-        &packet,
-        &[0; 39],
-        &mut reply,
-        &mut updated,
-    );
-    assert_eq!((number, updated[0]), (sys::OK, 0));
+    let mut answer = [FILL; 43];
+    let number = sys::step(&mut conversation, &packet, &nobody, &mut reply, &mut answer);
+    assert_eq!((number, answer), (sys::OK, layout::answer(691, None)));
     assert_eq!(&reply, b"\x04\x07\x00\x11E=691 R=1 V=2");
+
+    // the functions that read a value
+    let told = [
+        sys::conversation_awaits,
+        sys::conversation_identifier,
+        sys::conversation_retries,
+    ];
+    assert_eq!(told.map(|tell| tell(&conversation)), [2, 8, 1]);
+    for size in others(52) {
+        let bytes = resized(&conversation, size);
+        assert_eq!(told.map(|tell| tell(&bytes)), [sys::INVALID; 3]);
+    }
+    assert_eq!(sys::answer_reason(&answer), 691);
+    for size in others(43) {
+        assert_eq!(sys::answer_reason(&resized(&answer, size)), sys::INVALID);
+    }
+    let account = Default::default();
+    let updated = layout::answer(0, Some(&account));
+    let mut record = [FILL; 41];
+    for answer in [&answer, &updated] {
+        bad_sizes(41, |record| sys::answer_record(answer, record));
+        bad_sizes_of(answer, |answer| sys::answer_record(answer, &mut record));
+    }
+    assert_eq!(sys::answer_record(&answer, &mut record), 102);
+    assert_eq!(record, [FILL; 41]);
+    assert_eq!(sys::answer_record(&updated, &mut record), sys::OK);
+    assert_eq!(record, layout::record(Some(layout::account(&account))));
 }
 
 /// A peer that sent a packet with the identifier 7.
-const PEER: [u8; 19] = [1, 7, 7, 7, 7, 7, 7, 7, 7, 7, 7, 7, 7, 7, 7, 7, 7, 7, 7];
+fn peer() -> [u8; 21] {
+    let turn = reference::peer::Turn {
+        id: 7,
+        challenge: [7; 8],
+    };
+    layout::peer(Some(&turn), &turn)
+}
 
 #[test]
 fn peers() {
     let challenge = [1, 7, 0, 13, 8, 1, 2, 3, 4, 5, 6, 7, 8];
     let success = [3, 7, 0, 4];
-    bad_sizes(19, |peer| sys::read_challenge(&challenge, peer));
-    bad_sizes(19, |peer| sys::read_challenge(&[], peer));
+    let password = password();
+    bad_sizes(21, |peer| sys::read_challenge(&challenge, peer));
+    bad_sizes(21, |peer| sys::read_challenge(&[], peer));
+    let (mut call, mut reason) = (FILL.into(), FILL.into());
     for packet in [&success[..], &[]] {
-        let (mut peer, mut fields) = (PEER, [FILL; 35]);
-        bad_sizes(19, |other| sys::read_reply(other, packet, &mut fields));
-        bad_sizes(35, |other| sys::read_reply(&mut peer, packet, other));
-        assert_eq!((peer, fields), (PEER, [FILL; 35]));
+        bad_sizes_of(&peer(), |peer| {
+            sys::read_reply(peer, packet, &mut call, &mut reason)
+        });
     }
+    assert_eq!((call, reason), (FILL.into(), FILL.into()));
     let mut out = [FILL; 1118];
-    bad_sizes(19, |peer| sys::write_response(peer, b"", b"u", &mut out));
-    bad_sizes(19, |peer| sys::write_response(peer, b"a", b"", &mut []));
-    bad_sizes(19, |peer| {
-        sys::write_change(peer, b"", b"", &[0; 512], &mut out)
-    });
-    // a flag that is neither 0 nor 1
-    for value in 2..=255 {
-        let mut peer = PEER;
-        peer[0] = value;
-        let (before, mut fields) = (peer, [FILL; 35]);
-        let numbers = [
-            sys::read_reply(&mut peer, &success, &mut fields),
-            sys::write_response(&mut peer, b"", b"u", &mut out),
-            sys::write_change(&mut peer, b"", b"", &[0; 512], &mut out),
-        ];
-        assert_eq!(numbers, [sys::BAD_ARGUMENT; 3]);
-        assert_eq!((peer, fields), (before, [FILL; 35]));
+    // 100 comes before the refusals of name, filler and room
+    for (name, filler, room) in [(&b"u"[..], 512, 1118), (b"", 511, 0)] {
+        let filler = vec![0; filler];
+        let out = &mut out[..room];
+        bad_sizes_of(&peer(), |peer| {
+            sys::write_response(peer, &password, name, out)
+        });
+        bad_sizes_of(&peer(), |peer| {
+            sys::write_change(peer, &password, &password, &filler, out)
+        });
+        let mut peer = peer();
+        let before = peer;
+        bad_sizes_of(&password, |password| {
+            sys::write_response(&mut peer, password, name, out)
+        });
+        bad_sizes_of(&password, |old| {
+            sys::write_change(&mut peer, old, &password, &filler, out)
+        });
+        bad_sizes_of(&password, |new| {
+            sys::write_change(&mut peer, &password, new, &filler, out)
+        });
+        assert_eq!(peer, before);
     }
-    // a filler of another size is refused by 12, behind the passwords and before the room
+    // a filler of another size is refused by 12, before the room
     for size in [0, 1, 511, 513, 1024] {
         let filler = vec![0; size];
-        let mut peer = PEER;
-        let number = sys::write_change(&mut peer, b"", b"", &filler, &mut out);
-        assert_eq!(number, 12);
-        assert_eq!(sys::write_change(&mut peer, b"", b"", &filler, &mut []), 12);
-        let number = sys::write_change(&mut peer, b"a", b"", &filler, &mut out);
-        assert_eq!(number, 8);
-        let number = sys::write_change(&mut peer, b"", b"a", &filler, &mut out);
-        assert_eq!(number, 8);
-        assert_eq!(peer, PEER);
+        let mut peer = peer();
+        let before = peer;
+        for room in [1118, 0] {
+            let out = &mut out[..room];
+            let number = sys::write_change(&mut peer, &password, &password, &filler, out);
+            assert_eq!(number, 12);
+        }
+        assert_eq!(peer, before);
     }
     assert_eq!(out, [FILL; 1118]);
 }
 
 #[test]
-fn null_with_no_octets() {
+fn null_with_no_bytes() {
     use sys::raw::*;
+    const BAD: u32 = sys::BAD_ARGUMENT;
     let (n, m) = (null(), null_mut());
     let mut hash = [0; 16];
     let mut same = [0; 16];
-    let mut buffer = [FILL; 50];
+    let mut buffer = [FILL; 52];
     let mut out = [FILL; 64];
+    let mut password = [FILL; 516];
     let (conversation, packet) = opened();
     let mut next = conversation;
-    // SAFETY: each pointer is null with size 0, or that of an array with its size or less.
+    // SAFETY: each pointer is null with size 0, or that of an array with its size or less; each
+    // pointer without a size is that of a number.
     unsafe {
+        assert_eq!(mschap_make_password(n, 0, m, 0), BAD);
+        assert_eq!(mschap_make_password_utf16(n, 0, m, 0), BAD);
+        let w = password.as_mut_ptr();
+        assert_eq!(mschap_make_password_utf16(n, 0, w, 516), sys::OK);
+        assert_eq!(mschap_make_password(n, 0, w, 516), sys::OK);
+        let mut length = 9;
+        let l: *mut usize = &mut length;
+        assert_eq!(mschap_read_password(n, 0, m, 0, l), BAD);
+        assert_eq!(*l, 9);
+        assert_eq!(mschap_read_password(w, 516, m, 0, l), sys::OK);
+        assert_eq!(*l, 0);
+
         assert_eq!(mschap_md4(n, 0, hash.as_mut_ptr(), 16), sys::OK);
-        assert_eq!(mschap_nt_hash(n, 0, same.as_mut_ptr(), 16), sys::OK);
+        assert_eq!(mschap_nt_hash(w, 516, same.as_mut_ptr(), 16), sys::OK);
         assert_eq!(hash, same);
         assert_eq!(hash[..4], [0x31, 0xd6, 0xcf, 0xe0]);
         assert_eq!(mschap_lm_hash(n, 0, hash.as_mut_ptr(), 16), sys::OK);
         assert_eq!(hash[..4], [0xaa, 0xd3, 0xb4, 0x35]);
         assert_eq!(mschap_rc4([1].as_ptr(), 1, m, 0), sys::OK);
         assert_eq!(mschap_rc4(n, 0, m, 0), 8);
-        assert_eq!(mschap_md4(n, 0, m, 0), sys::BAD_ARGUMENT);
-        assert_eq!(mschap_nt_hash(n, 0, m, 0), sys::BAD_ARGUMENT);
-        assert_eq!(mschap_lm_hash(n, 0, m, 0), sys::BAD_ARGUMENT);
-        assert_eq!(mschap_des_encrypt(n, 0, n, 0, m, 0), sys::BAD_ARGUMENT);
-        assert_eq!(mschap_des_decrypt(n, 0, n, 0, m, 0), sys::BAD_ARGUMENT);
-        assert_eq!(
-            mschap_challenge_response(n, 0, n, 0, m, 0),
-            sys::BAD_ARGUMENT
-        );
+        assert_eq!(mschap_md4(n, 0, m, 0), BAD);
+        assert_eq!(mschap_nt_hash(n, 0, m, 0), BAD);
+        assert_eq!(mschap_nt_hash(w, 516, m, 0), BAD);
+        assert_eq!(mschap_lm_hash(n, 0, m, 0), BAD);
+        assert_eq!(mschap_des_encrypt(n, 0, m, 0), BAD);
+        assert_eq!(mschap_des_decrypt(n, 0, m, 0), BAD);
+        assert_eq!(mschap_challenge_response(n, 0, n, 0, m, 0), BAD);
 
-        let nc = null_mut();
-        let mut used = 0;
-        let u: *mut usize = &mut used;
-        assert_eq!(
-            mschap_open(7, n, 0, 2, 1, m, 0, u, nc, 0, m, 0, m, 0),
-            sys::BAD_ARGUMENT
-        );
+        let mut record = [FILL; 41];
+        let r = record.as_mut_ptr();
+        assert_eq!(mschap_make_record(0, n, 0, n, 0, m, 0), BAD);
+        assert_eq!(mschap_make_record(0, n, 0, n, 0, r, 41), sys::OK);
+        let mut flags = 9;
+        let f: *mut u32 = &mut flags;
+        assert_eq!(mschap_read_record(n, 0, f, m, 0, m, 0), BAD);
+        assert_eq!(mschap_read_record(r, 41, f, m, 0, m, 0), BAD);
+        assert_eq!(*f, 9);
+
+        assert_eq!(mschap_make_list(m, 0), 24);
+        assert_eq!(mschap_list_used(n, 0), sys::INVALID);
+        assert_eq!(mschap_open(7, TERMS, n, 0, m, 0, m, 0, m, 0), BAD);
         let challenge = [0; 8];
-        let mut counts = [0; sys::COUNTS_SIZE];
-        let (q, c, r) = (challenge.as_ptr(), buffer.as_mut_ptr(), out.as_mut_ptr());
-        let full = counts.as_mut_ptr();
-        // no reply, no counts, no place
-        assert_eq!(mschap_open(7, q, 8, 2, 1, m, 0, u, nc, 0, c, 50, m, 0), 2);
-        assert_eq!(mschap_open(7, q, 8, 2, 1, m, 0, u, nc, 0, c, 50, r, 17), 24);
-        assert_eq!(
-            mschap_open(7, q, 8, 2, 1, m, 0, u, full, 256, c, 50, r, 17),
-            17
-        );
-        assert_eq!((buffer, out), ([FILL; 50], [FILL; 64]));
-        assert_eq!((used, counts), (0, [0; sys::COUNTS_SIZE]));
-        assert_eq!(mschap_step(m, 0, n, 0, n, 0, m, 0, m, 0), sys::BAD_ARGUMENT);
-        let record = [0; 39];
-        let (c, r, o) = (next.as_mut_ptr(), record.as_ptr(), out.as_mut_ptr());
-        assert_eq!(
-            mschap_step(c, 50, n, 0, r, 39, buffer.as_mut_ptr(), 17, o, 39),
-            3
-        );
-        assert_eq!(
-            mschap_step(c, 50, packet.as_ptr(), 55, r, 39, m, 0, o, 39),
-            2
-        );
-        assert_eq!((next, buffer, out), (conversation, [FILL; 50], [FILL; 64]));
+        let mut list = list(0, 0);
+        let (q, c, o) = (challenge.as_ptr(), buffer.as_mut_ptr(), out.as_mut_ptr());
+        let full = list.as_mut_ptr();
+        // no list, no reply, no place
+        assert_eq!(mschap_open(7, TERMS, q, 8, m, 0, c, 52, o, 17), BAD);
+        assert_eq!(mschap_open(7, TERMS, q, 8, full, 4, c, 52, m, 0), 2);
+        assert_eq!(mschap_open(7, TERMS, q, 8, full, 4, c, 52, o, 17), 17);
+        assert_eq!((buffer, out), ([FILL; 52], [FILL; 64]));
 
+        assert_eq!(mschap_step(m, 0, n, 0, n, 0, m, 0, m, 0), BAD);
+        let (c, o) = (next.as_mut_ptr(), out.as_mut_ptr());
+        let reply = buffer.as_mut_ptr();
+        assert_eq!(mschap_step(c, 52, n, 0, r, 41, reply, 17, o, 43), 3);
+        let packet = packet.as_ptr();
+        assert_eq!(mschap_step(c, 52, packet, 55, r, 41, m, 0, o, 43), 2);
+        assert_eq!((next, buffer, out), (conversation, [FILL; 52], [FILL; 64]));
+        assert_eq!(mschap_answer_reason(n, 0), sys::INVALID);
+        assert_eq!(mschap_answer_record(n, 0, m, 0), BAD);
+        assert_eq!(mschap_conversation_awaits(n, 0), sys::INVALID);
+        assert_eq!(mschap_conversation_identifier(n, 0), sys::INVALID);
+        assert_eq!(mschap_conversation_retries(n, 0), sys::INVALID);
+
+        assert_eq!(mschap_packet_length(n, 0), 0);
         assert_eq!(mschap_account_offset(n, 0), 0);
         assert_eq!(mschap_account_length(n, 0), 0);
         assert_eq!(mschap_domain_offset(n, 0), 0);
         assert_eq!(mschap_domain_length(n, 0), 0);
 
-        assert_eq!(mschap_read_challenge(n, 0, m, 0), sys::BAD_ARGUMENT);
-        assert_eq!(mschap_read_reply(m, 0, n, 0, m, 0), sys::BAD_ARGUMENT);
-        assert_eq!(mschap_read_challenge(n, 0, buffer.as_mut_ptr(), 19), 3);
-        let mut peer = PEER;
+        assert_eq!(mschap_read_challenge(n, 0, m, 0), BAD);
+        let mut peer = peer();
+        let before = peer;
+        let (mut call, mut reason) = (9, 9);
+        let (a, b): (*mut u32, *mut u64) = (&mut call, &mut reason);
+        assert_eq!(mschap_read_reply(m, 0, n, 0, a, b), BAD);
+        assert_eq!(mschap_read_challenge(n, 0, buffer.as_mut_ptr(), 21), 3);
         let p = peer.as_mut_ptr();
-        assert_eq!(mschap_read_reply(p, 19, n, 0, m, 0), sys::BAD_ARGUMENT);
-        assert_eq!(mschap_read_reply(p, 19, n, 0, buffer.as_mut_ptr(), 35), 3);
-        assert_eq!(buffer, [FILL; 50]);
-        assert_eq!(
-            mschap_write_response(m, 0, n, 0, n, 0, m, 0),
-            sys::BAD_ARGUMENT
-        );
-        assert_eq!(mschap_write_response(p, 19, n, 0, n, 0, m, 0), 10);
-        assert_eq!(
-            mschap_write_response(p, 19, n, 0, [b'u'].as_ptr(), 1, m, 0),
-            9
-        );
-        assert_eq!(
-            mschap_write_change(m, 0, n, 0, n, 0, n, 0, m, 0),
-            sys::BAD_ARGUMENT
-        );
-        assert_eq!(mschap_write_change(p, 19, n, 0, n, 0, n, 0, m, 0), 12);
+        assert_eq!(mschap_read_reply(p, 21, n, 0, a, b), 3);
+        assert_eq!((*a, *b, buffer), (9, 9, [FILL; 52]));
+        assert_eq!(mschap_write_response(m, 0, n, 0, n, 0, m, 0), BAD);
+        assert_eq!(mschap_write_response(p, 21, n, 0, n, 0, m, 0), BAD);
+        assert_eq!(mschap_write_response(p, 21, w, 516, n, 0, m, 0), 10);
+        let name = [b'u'];
+        let u = name.as_ptr();
+        assert_eq!(mschap_write_response(p, 21, w, 516, u, 1, m, 0), 9);
+        assert_eq!(mschap_write_change(m, 0, n, 0, n, 0, n, 0, m, 0), BAD);
+        assert_eq!(mschap_write_change(p, 21, w, 516, n, 0, n, 0, m, 0), BAD);
+        assert_eq!(mschap_write_change(p, 21, w, 516, w, 516, n, 0, m, 0), 12);
         let filler = [0; 512];
-        assert_eq!(
-            mschap_write_change(p, 19, n, 0, n, 0, filler.as_ptr(), 512, m, 0),
-            9
-        );
-        assert_eq!(peer, PEER);
+        let q = filler.as_ptr();
+        assert_eq!(mschap_write_change(p, 21, w, 516, w, 516, q, 512, m, 0), 9);
+        assert_eq!(peer, before);
     }
 }

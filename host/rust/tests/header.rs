@@ -1,21 +1,41 @@
-//! The numbers of the C header are those of `sys` and of `Refusal`, and its functions are declared.
+//! The numbers of the C header are those of `sys`, of `Refusal` and of `Reason`; its functions are
+//! declared, with as many arguments; and the archive that is linked is of its version.
 
-use mschap::{sys, Refusal};
+use mschap::{sys, Reason, Refusal};
 
 const HEADER: &str = include_str!("../../include/mschap.h");
 
 /// The number that the header defines for a name.
-fn defined(name: &str) -> usize {
+fn defined(name: &str) -> u64 {
     let mut numbers = HEADER.lines().filter_map(|line| {
         let mut words = line.split_whitespace();
         let here = words.next() == Some("#define") && words.next() == Some(name);
-        here.then(|| words.next()?.parse().ok())?
+        here.then(|| {
+            let word = words.next()?.trim_end_matches('u');
+            match word.strip_prefix("0x") {
+                Some(digits) => u64::from_str_radix(digits, 16).ok(),
+                None => word.parse().ok(),
+            }
+        })?
     });
     numbers.next().unwrap_or_else(|| panic!("no {name}"))
 }
 
+/// Every number that the header defines, so that none is left out here.
+fn all() -> Vec<String> {
+    let names = HEADER.lines().filter_map(|line| {
+        let mut words = line.strip_prefix("#define ")?.split_whitespace();
+        let name = words.next()?;
+        let digit = words
+            .next()?
+            .starts_with(|first: char| first.is_ascii_digit());
+        digit.then(|| name.to_string())
+    });
+    names.collect()
+}
+
 #[test]
-fn sizes() {
+fn numbers() {
     let sizes = [
         ("DIGEST_SIZE", sys::DIGEST_SIZE),
         ("HASH_SIZE", sys::HASH_SIZE),
@@ -24,13 +44,12 @@ fn sizes() {
         ("CHALLENGE_SIZE", sys::CHALLENGE_SIZE),
         ("RESPONSE_SIZE", sys::RESPONSE_SIZE),
         ("FILLER_SIZE", sys::FILLER_SIZE),
-        ("ACCOUNT_SIZE", sys::ACCOUNT_SIZE),
         ("RECORD_SIZE", sys::RECORD_SIZE),
         ("CONVERSATION_SIZE", sys::CONVERSATION_SIZE),
-        ("LIST_PLACES", sys::LIST_PLACES),
-        ("COUNTS_SIZE", sys::COUNTS_SIZE),
+        ("ANSWER_SIZE", sys::ANSWER_SIZE),
         ("PEER_SIZE", sys::PEER_SIZE),
-        ("FIELDS_SIZE", sys::FIELDS_SIZE),
+        ("PASSWORD_SIZE", sys::PASSWORD_SIZE),
+        ("LIST_PLACES", sys::LIST_PLACES),
         ("REPLY_SIZE", sys::REPLY_SIZE),
         ("RESPONSE_PACKET", sys::RESPONSE_PACKET),
         ("CHANGE_PACKET", sys::CHANGE_PACKET),
@@ -38,54 +57,132 @@ fn sizes() {
         ("RC4_KEY_MAX", sys::RC4_KEY_MAX),
         ("NT_PASSWORD_MAX", sys::NT_PASSWORD_MAX),
         ("LM_PASSWORD_MAX", sys::LM_PASSWORD_MAX),
+        ("TEXT_MAX", sys::TEXT_MAX),
         ("NAME_MAX", sys::NAME_MAX),
         ("STACK_SIZE", sys::STACK_SIZE),
-        ("OK", sys::OK as usize),
-        ("BAD_ARGUMENT", sys::BAD_ARGUMENT as usize),
-    ];
-    for (name, size) in sizes {
-        assert_eq!(defined(&format!("MSCHAP_{name}")), size, "{name}");
+    ]
+    .map(|(name, size)| (name, size as u64));
+    let numbers = [
+        ("VERSION", sys::VERSION),
+        ("LAYOUT_VERSION", sys::LAYOUT_VERSION.into()),
+        ("OK", sys::OK),
+        ("INVALID", sys::INVALID),
+        ("AWAITS_NOTHING", sys::AWAITS_NOTHING),
+        ("AWAITS_RESPONSE", sys::AWAITS_RESPONSE),
+        ("AWAITS_CHANGE", sys::AWAITS_CHANGE),
+        ("CALL_NONE", sys::CALL_NONE),
+        ("CALL_RESPONSE", sys::CALL_RESPONSE),
+        ("CALL_CHANGE", sys::CALL_CHANGE),
+        ("CALL_CHANGE_1", sys::CALL_CHANGE_1),
+        ("CALL_END", sys::CALL_END),
+        ("FOUND", sys::FOUND),
+        ("HAS_NT_HASH", sys::HAS_NT_HASH),
+        ("HAS_LM_HASH", sys::HAS_LM_HASH),
+        ("DISABLED", sys::DISABLED),
+        ("HOURS_DENIED", sys::HOURS_DENIED),
+        ("DIALIN_DENIED", sys::DIALIN_DENIED),
+        ("EXPIRED", sys::EXPIRED),
+        ("TERMS", sys::TERMS),
+        ("LM_ALLOWED", sys::LM_ALLOWED),
+        ("LM_REFUSED", sys::LM_REFUSED),
+        ("ENDED", Refusal::Ended.number()),
+        ("REPLY_ROOM", Refusal::ReplyRoom.number()),
+        ("FRAME", Refusal::Frame.number()),
+        ("CODE", Refusal::Code.number()),
+        ("IDENTIFIER", Refusal::Identifier.number()),
+        ("SIZE", Refusal::Size.number()),
+        ("FLAGS", Refusal::Flags.number()),
+        ("INPUT", Refusal::Input.number()),
+        ("ROOM", Refusal::Room.number()),
+        ("NAME", Refusal::Name.number()),
+        ("READING", Refusal::Reading.number()),
+        ("FILLER", Refusal::Filler.number()),
+        ("RETRIES_RANGE", Refusal::RetriesRange.number()),
+        ("SPENT", Refusal::Spent.number()),
+        ("LIST_FULL", Refusal::ListFull.number()),
+        ("LIST", Refusal::List.number()),
+        ("BAD_ARGUMENT", Refusal::BadArgument.number()),
+        ("MALFORMED", Refusal::Malformed.number()),
+        ("NO_RECORD", Refusal::NoRecord.number()),
+        ("SUCCESS", Reason::Success.number()),
+        (
+            "E_RESTRICTED_LOGON_HOURS",
+            Reason::RestrictedLogonHours.number(),
+        ),
+        ("E_ACCT_DISABLED", Reason::AccountDisabled.number()),
+        ("E_PASSWD_EXPIRED", Reason::PasswordExpired.number()),
+        (
+            "E_NO_DIALIN_PERMISSION",
+            Reason::NoDialinPermission.number(),
+        ),
+        (
+            "E_AUTHENTICATION_FAILURE",
+            Reason::AuthenticationFailure.number(),
+        ),
+        ("E_CHANGING_PASSWORD", Reason::ChangingPassword.number()),
+    ]
+    .map(|(name, number)| (name, u64::from(number)));
+    let mut left: Vec<String> = all();
+    for (name, number) in sizes.into_iter().chain(numbers) {
+        let name = format!("MSCHAP_{name}");
+        assert_eq!(defined(&name), number, "{name}");
+        left.retain(|other| *other != name);
     }
+    assert_eq!(left, Vec::<String>::new(), "not compared");
+}
+
+/// The two macros with an argument, which C's preprocessor alone can evaluate: by their words.
+#[test]
+fn macros() {
+    assert!(HEADER.contains("#define MSCHAP_LIST_SIZE(places) (4 + 8 * (places)) "));
+    assert_eq!([sys::list_size(0), sys::list_size(300)], [4, 2404]);
+    let words = "(n) ((uint32_t)(n) < 254u ? (uint32_t)(n) + 1u : 255u)\n";
+    assert!(HEADER.contains(&format!("#define MSCHAP_RETRIES{words}")));
+    assert_eq!(
+        [0, 7, 253, 254, 300].map(sys::retries),
+        [1, 8, 254, 255, 255]
+    );
 }
 
 #[test]
-fn refusals() {
-    let refusals = [
-        ("ENDED", Refusal::Ended),
-        ("REPLY_ROOM", Refusal::ReplyRoom),
-        ("FRAME", Refusal::Frame),
-        ("CODE", Refusal::Code),
-        ("IDENTIFIER", Refusal::Identifier),
-        ("SIZE", Refusal::Size),
-        ("FLAGS", Refusal::Flags),
-        ("INPUT", Refusal::Input),
-        ("ROOM", Refusal::Room),
-        ("NAME", Refusal::Name),
-        ("READING", Refusal::Reading),
-        ("FILLER", Refusal::Filler),
-        ("RETRIES", Refusal::Retries),
-        ("SPENT", Refusal::Spent),
-        ("LIST_FULL", Refusal::ListFull),
-        ("LIST", Refusal::List),
-    ];
-    for (name, refusal) in refusals {
-        let number = refusal.number() as usize;
-        assert_eq!(defined(&format!("MSCHAP_{name}")), number, "{name}");
-    }
+fn versions() {
+    assert_eq!(sys::version(), sys::VERSION);
+    let [major, minor, patch] = [16, 8, 0].map(|shift| sys::VERSION >> shift & 0xff);
+    let text = format!("{major}.{minor}.{patch}");
+    assert!(HEADER.contains(&format!("#define MSCHAP_VERSION_TEXT \"{text}\"\n")));
+    assert_eq!(env!("CARGO_PKG_VERSION"), text);
 }
 
-#[test]
-fn functions() {
-    let ours = include_str!("../src/sys.rs");
-    let mut count = 0;
-    for line in HEADER.lines() {
-        let line = line
-            .strip_prefix("uint32_t ")
-            .or(line.strip_prefix("size_t "));
-        if let Some((name, _)) = line.and_then(|line| line.split_once('(')) {
-            assert!(ours.contains(&format!("pub fn {name}(")), "{name}");
-            count += 1;
+/// The functions of a text and how many arguments each has.
+fn functions<'a>(text: &'a str, before: &[&str]) -> Vec<(&'a str, usize)> {
+    let mut found = Vec::new();
+    for (at, _) in text.match_indices("mschap_") {
+        let declared = before.iter().any(|words| text[..at].ends_with(words));
+        if let Some((name, rest)) = text[at..].split_once('(').filter(|_| declared) {
+            let arguments = rest.split(')').next().unwrap_or_default();
+            let arguments = arguments.trim().trim_end_matches(',');
+            let none = arguments.is_empty() || arguments == "void";
+            found.push((
+                name,
+                if none {
+                    0
+                } else {
+                    arguments.split(',').count()
+                },
+            ));
         }
     }
-    assert_eq!(count, ours.matches("pub fn mschap_").count());
+    found.sort();
+    found
+}
+
+#[test]
+fn functions_are_declared() {
+    let theirs = functions(HEADER, &["\nuint32_t ", "\nsize_t "]);
+    let ends = HEADER
+        .lines()
+        .filter(|line| line.ends_with(");") && !line.starts_with(" *"));
+    assert_eq!(theirs.len(), ends.count(), "found");
+    let ours = functions(include_str!("../src/sys.rs"), &[" pub fn "]);
+    assert_eq!(ours, theirs);
 }

@@ -1,6 +1,8 @@
 //! The list of issued challenges, by examples.
 
-use mschap::{Conversation, Issued, Refusal, LIST_PLACES, REPLY_SIZE};
+mod layout;
+
+use mschap::{Conversation, Issued, Refusal, Terms, LIST_PLACES, REPLY_SIZE};
 
 /// The challenge of the examples with this first byte.
 fn challenge(first: u8) -> [u8; 8] {
@@ -8,22 +10,23 @@ fn challenge(first: u8) -> [u8; 8] {
 }
 
 fn open(issued: &mut Issued, first: u8, retries: u8) -> Result<(), Refusal> {
+    let terms = Terms {
+        retries: Some(retries),
+        ..Terms::default()
+    };
     let mut reply = [0; REPLY_SIZE];
-    let opening = Conversation::open(
-        1,
-        &challenge(first),
-        Some(retries),
-        None,
-        issued,
-        &mut reply,
-    );
-    opening.map(|(conversation, _)| assert_eq!(conversation.challenge(), challenge(first)))
+    let opening = Conversation::open(1, terms, &challenge(first), issued, &mut reply);
+    opening.map(|(conversation, _)| {
+        let opened = layout::to_conversation(conversation.as_bytes());
+        assert_eq!(opened.expect("a conversation").challenge, challenge(first));
+    })
 }
 
 /// The list holds the challenges with these first bytes.
 fn holds(issued: &Issued, firsts: &[u8]) {
     let all: Vec<u8> = firsts.iter().flat_map(|first| challenge(*first)).collect();
-    assert_eq!(issued.octets(), all);
+    let (used, places) = layout::to_list(issued.as_bytes()).expect("a list");
+    assert_eq!(places[..used * 8], all);
     assert_eq!(issued.used(), firsts.len());
     assert_eq!(issued.left(), issued.places() - firsts.len());
 }
@@ -34,7 +37,7 @@ fn a_challenge_and_its_successors_are_spent() {
     assert_eq!(open(&mut issued, 0x01, 2), Ok(()));
     holds(&issued, &[0x01, 0x18, 0x2F]);
     assert_eq!(open(&mut issued, 0x18, 0), Err(Refusal::Spent));
-    // its successor 01 stands there, which matters only where there is a retry
+    // its successor 01 is there, which matters only where there is a retry
     assert_eq!(open(&mut issued, 0xEA, 1), Err(Refusal::Spent));
     assert_eq!(open(&mut issued, 0xEA, 0), Ok(()));
     // no carry: after E9 comes 00
@@ -79,54 +82,78 @@ fn at_most_4096_places() {
     }
 }
 
+/// All challenges of one list end alike, so that each count that an opening makes is past a byte's
+/// range.
+#[test]
+fn four_thousand_places_that_end_alike() {
+    let mut issued = Issued::new(LIST_PLACES);
+    let mut reply = [0; REPLY_SIZE];
+    let terms = Terms {
+        retries: Some(7),
+        ..Terms::default()
+    };
+    for number in 0..512u16 {
+        let [high, low] = number.to_be_bytes();
+        let challenge = [0, high, low, 0, 0, 0, 0, 8];
+        let opening = Conversation::open(1, terms, &challenge, &mut issued, &mut reply);
+        assert!(opening.is_ok(), "{number}");
+    }
+    assert_eq!((issued.used(), issued.left()), (4096, 0));
+    assert_eq!(open(&mut issued, 1, 0), Err(Refusal::ListFull));
+    let last = [161, 1, 255, 0, 0, 0, 0, 8];
+    let opening = Conversation::open(1, terms, &last, &mut issued, &mut reply);
+    assert_eq!(opening, Err(Refusal::Spent));
+}
+
 #[test]
 fn a_stored_list_is_restored() {
     let mut issued = Issued::new(6);
     assert_eq!(open(&mut issued, 0x01, 2), Ok(()));
     assert_eq!(open(&mut issued, 0xEA, 0), Ok(()));
-    let stored = issued.octets().to_vec();
+    let stored = issued.as_bytes().to_vec();
     drop(issued);
 
-    // at least as many places as entries
-    for places in [4, 6, LIST_PLACES] {
-        let mut issued = Issued::restored(places, &stored).expect("a list");
-        assert_eq!(issued.places(), places);
-        holds(&issued, &[0x01, 0x18, 0x2F, 0xEA]);
-        for spent in [0x01, 0x18, 0x2F, 0xEA] {
-            assert_eq!(open(&mut issued, spent, 0), Err(Refusal::Spent));
-        }
-        if places == 4 {
-            assert_eq!(open(&mut issued, 0x50, 0), Err(Refusal::ListFull));
-        } else {
-            assert_eq!(open(&mut issued, 0x50, 1), Ok(()));
-            holds(&issued, &[0x01, 0x18, 0x2F, 0xEA, 0x50, 0x67]);
-        }
+    let mut issued = Issued::from_bytes(&stored).expect("a list");
+    assert_eq!(issued.places(), 6);
+    holds(&issued, &[0x01, 0x18, 0x2F, 0xEA]);
+    for spent in [0x01, 0x18, 0x2F, 0xEA] {
+        assert_eq!(open(&mut issued, spent, 0), Err(Refusal::Spent));
     }
-    holds(&Issued::restored(6, &[]).expect("an empty list"), &[]);
+    assert_eq!(open(&mut issued, 0x50, 1), Ok(()));
+    holds(&issued, &[0x01, 0x18, 0x2F, 0xEA, 0x50, 0x67]);
 }
 
 #[test]
 fn what_is_no_stored_list() {
-    let entries = vec![0; (LIST_PLACES + 1) * 8];
-    for (places, size) in [
+    let places = vec![0; (LIST_PLACES + 1) * 8];
+    for (used, size) in [
         // not whole
-        (6, 1),
-        (6, 7),
-        (6, 9),
-        (LIST_PLACES, LIST_PLACES * 8 - 1),
-        // more than the places
-        (0, 8),
-        (2, 24),
-        (LIST_PLACES, LIST_PLACES * 8 + 8),
+        (0, 1),
+        (0, 7),
+        (1, 9),
+        (0, LIST_PLACES * 8 - 1),
+        // more used than there are
+        (1, 0),
+        (3, 16),
+        (4097, LIST_PLACES * 8),
+        (65_535, 8),
         // too many places
-        (LIST_PLACES + 1, 0),
-        (LIST_PLACES + 1, LIST_PLACES * 8 + 8),
-        (usize::MAX, 8),
+        (0, LIST_PLACES * 8 + 8),
     ] {
-        let issued = Issued::restored(places, &entries[..size]);
-        assert!(issued.is_none(), "{places} places, {size} octets");
+        let list = layout::list(used, &places[..size]);
+        let answer = Issued::from_bytes(&list).map(|issued| issued.used());
+        assert_eq!(
+            answer,
+            Err(Refusal::BadArgument),
+            "{used} used, {size} bytes"
+        );
     }
-    let mut issued = Issued::restored(LIST_PLACES, &entries[8..]).expect("a list");
+    let full = layout::list(4096, &places[8..]);
+    let mut issued = Issued::from_bytes(&full).expect("a list");
     assert_eq!(issued.left(), 0);
     assert_eq!(open(&mut issued, 1, 0), Err(Refusal::ListFull));
+    // the bare challenges, which were stored before values had a kind
+    for bare in [&places[..0], &places[..8], &places[..2400]] {
+        assert!(Issued::from_bytes(bare).is_err(), "{} bytes", bare.len());
+    }
 }

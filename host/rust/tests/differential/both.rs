@@ -1,13 +1,18 @@
 //! The two implementations side by side: values of one as values of the other, and the same call
 //! to both.
 
+use crate::layout;
 use crate::random::Random;
-use mschap::{sys, Awaited, Call, Challenge, Conversation, Issued, Peer, Reading, Refusal};
+use mschap::{sys, Awaited, Call, Challenge, Conversation, Issued, LmHash, NtHash, Password, Peer};
+use mschap::{Reading, Refusal, Terms};
 use reference::authenticator::{self as their, Phase};
 use reference::issued;
 use reference::message;
 use reference::packet;
 use reference::peer::{self, Verdict};
+
+/// What is in a number that is only written.
+const FILL: u32 = 0xa5a5_a5a5;
 
 pub fn number<T>(result: &Result<T, Refusal>) -> u32 {
     result
@@ -22,146 +27,179 @@ pub fn plain<T>(result: Result<T, Refusal>) -> Result<T, u8> {
 
 pub fn our_account(account: &their::Account) -> mschap::Account {
     mschap::Account {
-        nt_hash: account.nt,
-        lm_hash: account.lm,
+        nt_hash: account.nt.map(NtHash),
+        lm_hash: account.lm.map(LmHash),
         disabled: account.disabled,
-        barred_hours: account.hours,
-        no_dial_in: account.no_dialin,
+        hours_denied: account.hours,
+        dialin_denied: account.no_dialin,
         expired: account.expired,
     }
 }
 
 pub fn their_account(account: &mschap::Account) -> their::Account {
     their::Account {
-        nt: account.nt_hash,
-        lm: account.lm_hash,
+        nt: account.nt_hash.map(|hash| hash.0),
+        lm: account.lm_hash.map(|hash| hash.0),
         disabled: account.disabled,
-        hours: account.barred_hours,
-        no_dialin: account.no_dial_in,
+        hours: account.hours_denied,
+        no_dialin: account.dialin_denied,
         expired: account.expired,
     }
 }
 
-/// A conversation of ours as one of theirs.
+/// A conversation of ours as one of theirs, by its layout. What is told of it must be the same.
 pub fn their_conversation(ours: &Conversation) -> their::Conversation {
-    their::Conversation {
-        id: ours.identifier(),
-        challenge: ours.challenge(),
-        retries: ours.retries(),
-        lm: ours.lm_allowed(),
-        phase: match ours.awaited() {
-            Awaited::Response => Phase::Response,
-            Awaited::Change => Phase::Change(their_account(&ours.kept().expect("kept"))),
-            Awaited::Nothing => Phase::Ended,
-        },
-    }
+    let theirs = layout::to_conversation(ours.as_bytes()).expect("a conversation");
+    let awaited = match theirs.phase {
+        Phase::Response => Awaited::Response,
+        Phase::Change(_) => Awaited::Change,
+        Phase::Ended => Awaited::Nothing,
+    };
+    assert_eq!(
+        (ours.awaited(), ours.identifier(), ours.retries()),
+        (awaited, theirs.id, theirs.retries),
+        "what is told of a conversation"
+    );
+    theirs
 }
 
 /// A conversation of theirs as one of ours; bytes of no effect are drawn.
 pub fn our_conversation(theirs: &their::Conversation, random: &mut Random) -> Conversation {
-    let mut octets: [u8; sys::CONVERSATION_SIZE] = random.array();
-    for mark in [12, 29, 46, 47, 48, 49] {
-        octets[mark] &= 1;
-    }
-    octets[0] = match theirs.phase {
-        Phase::Response => 2,
-        Phase::Change(_) => 6,
-        Phase::Ended => 0,
+    let mut bytes = layout::conversation(theirs);
+    let kept = match &theirs.phase {
+        Phase::Change(kept) => account_bytes(kept, random),
+        _ => {
+            let mut drawn = random.array::<{ layout::ACCOUNT_SIZE }>();
+            for flag in [0, 17, 34, 35, 36, 37] {
+                drawn[flag] &= 1;
+            }
+            drawn
+        }
     };
-    octets[1] = theirs.lm.into();
-    octets[2] = theirs.id;
-    octets[3] = theirs.retries;
-    octets[4..12].copy_from_slice(&theirs.challenge);
-    if let Phase::Change(kept) = &theirs.phase {
-        octets[12..].copy_from_slice(&account_octets(kept, random));
-    }
-    Conversation::from_octets(octets).expect("a conversation")
+    let from = bytes.len() - layout::ACCOUNT_SIZE;
+    bytes[from..].copy_from_slice(&kept);
+    Conversation::from_bytes(&bytes).expect("a conversation")
 }
 
 /// An account of theirs in our bytes; a hash that is not there has drawn bytes.
-pub fn account_octets(account: &their::Account, random: &mut Random) -> [u8; sys::ACCOUNT_SIZE] {
-    let mut octets: [u8; sys::ACCOUNT_SIZE] = our_account(account).octets();
+pub fn account_bytes(account: &their::Account, random: &mut Random) -> [u8; layout::ACCOUNT_SIZE] {
+    let mut bytes = layout::account(account);
     if account.nt.is_none() {
-        octets[1..17].copy_from_slice(&random.array::<16>());
+        bytes[1..17].copy_from_slice(&random.array::<16>());
     }
     if account.lm.is_none() {
-        octets[18..34].copy_from_slice(&random.array::<16>());
+        bytes[18..34].copy_from_slice(&random.array::<16>());
     }
-    octets
+    bytes
 }
 
-/// A list of issued challenges as it is passed to either.
+/// A list of issued challenges in both implementations: ours in one buffer, of which theirs is
+/// passed the places, how many are used, and counts that are made here.
 #[derive(Clone, Debug, PartialEq, Eq)]
 pub struct Passed {
-    pub list: Vec<u8>,
-    pub used: usize,
-    pub counts: Vec<u16>,
+    /// How many of the places are used.
+    pub used: u16,
+    /// The places.
+    pub places: Vec<u8>,
 }
 
-/// What an opening is passed beside its list and its buffers. 255 stands for the default.
+/// What an opening is passed beside its list and its buffers.
 #[derive(Clone, Copy, Debug)]
-pub struct Terms {
+pub struct Opening {
     pub id: u8,
     pub challenge: Challenge,
-    pub retries: u8,
-    pub lm: u8,
+    pub terms: Terms,
+}
+
+/// The terms in the number of the C interface.
+pub fn terms_number(terms: &Terms) -> u32 {
+    let retries = terms.retries.map_or(0, |count| sys::retries(count.into()));
+    let lm = [0, sys::LM_ALLOWED, sys::LM_REFUSED];
+    let lm = lm[terms
+        .lm_allowed
+        .map_or(0, |allowed| 2 - usize::from(allowed))];
+    sys::TERMS | retries | lm
 }
 
 impl Passed {
     /// So many places of bytes 0, none of them used.
     pub fn empty(places: usize) -> Passed {
         Passed {
-            list: vec![0; places * sys::CHALLENGE_SIZE],
             used: 0,
-            counts: vec![0; sys::COUNTS_SIZE],
+            places: vec![0; places * sys::CHALLENGE_SIZE],
         }
     }
 
-    /// The used places, which must lie in the list.
-    pub fn octets(&self) -> &[u8] {
-        &self.list[..self.used * sys::CHALLENGE_SIZE]
+    /// The list as ours is passed it.
+    pub fn bytes(&self) -> Vec<u8> {
+        layout::list(self.used, &self.places)
+    }
+
+    /// The list after an opening of ours.
+    fn read(&mut self, bytes: &[u8]) {
+        let (used, places) = layout::to_list(bytes).expect("a list");
+        self.used = used as u16;
+        self.places = places.to_vec();
     }
 
     /// An opening of ours over this list.
-    pub fn our_open(&mut self, terms: &Terms, conversation: &mut [u8], reply: &mut [u8]) -> u32 {
-        sys::open(
-            terms.id,
-            &terms.challenge,
-            terms.retries,
-            terms.lm,
-            &mut self.list,
-            &mut self.used,
-            &mut self.counts,
+    pub fn our_open(
+        &mut self,
+        opening: &Opening,
+        conversation: &mut [u8],
+        reply: &mut [u8],
+    ) -> u32 {
+        let mut list = self.bytes();
+        let number = sys::open(
+            opening.id.into(),
+            terms_number(&opening.terms),
+            &opening.challenge,
+            &mut list,
             conversation,
             reply,
-        )
+        );
+        self.read(&list);
+        number
     }
 
-    /// An opening of theirs over this list.
-    pub fn their_open(
-        &mut self,
-        id: u8,
-        challenge: &Challenge,
-        retries: Option<u8>,
-        lm: Option<bool>,
-        reply: &mut [u8],
-    ) -> their::Opening {
+    /// An opening of theirs over this list. The counts that they take are true, or there is no way
+    /// to count.
+    pub fn their_open(&mut self, opening: &Opening, reply: &mut [u8]) -> their::Opening {
+        let mut counts = [0; 256];
+        for place in self
+            .places
+            .chunks(sys::CHALLENGE_SIZE)
+            .take(self.used.into())
+        {
+            if let [.., last] = place {
+                counts[usize::from(*last)] += 1;
+            }
+        }
         let mut passed = issued::Issued {
-            list: &mut self.list,
-            used: self.used,
-            counts: &mut self.counts,
+            list: &mut self.places,
+            used: self.used.into(),
+            counts: &mut counts,
         };
-        let opening = their::open(id, challenge, retries, lm, &mut passed, reply);
-        self.used = passed.used;
-        opening
+        let Opening {
+            id,
+            challenge,
+            terms,
+        } = opening;
+        let (retries, lm) = (terms.retries, terms.lm_allowed);
+        let opened = their::open(*id, challenge, retries, lm, &mut passed, reply);
+        self.used = passed.used as u16;
+        opened
     }
 
     /// A list of ours holds the same.
     pub fn agrees(&self, ours: &Issued) {
-        let places = self.list.len() / sys::CHALLENGE_SIZE;
-        assert_eq!((ours.places(), ours.used()), (places, self.used));
-        assert_eq!(ours.left(), places - self.used);
-        assert_eq!(ours.octets(), self.octets(), "the issued challenges");
+        let places = self.places.len() / sys::CHALLENGE_SIZE;
+        let used = usize::from(self.used);
+        assert_eq!((ours.places(), ours.used()), (places, used));
+        assert_eq!(ours.left(), places - used);
+        let (_, held) = layout::to_list(ours.as_bytes()).expect("a list");
+        let used = used * sys::CHALLENGE_SIZE;
+        assert_eq!(held[..used], self.places[..used], "the issued challenges");
     }
 }
 
@@ -206,9 +244,10 @@ impl Boxes {
         match ours {
             Ok(judged) => {
                 assert_eq!(judged.size, theirs.written, "the reply's size");
-                assert_eq!(judged.success, theirs.reason == 0, "the verdict");
-                let changed = judged.changed.as_ref().map(their_account);
-                assert_eq!(changed, theirs.record, "the record");
+                let reason = judged.reason.number();
+                assert_eq!(reason, u32::from(theirs.reason), "the reason");
+                let updated = judged.updated.as_ref().map(their_account);
+                assert_eq!(updated, theirs.record, "the record");
             }
             Err(_) => {
                 assert_eq!(self.ours, before, "a refusal changes nothing");
@@ -231,24 +270,6 @@ pub struct Peers {
     ours: Peer,
     sent: Option<peer::Turn>,
     turn: peer::Turn,
-}
-
-/// An identifier and a challenge of theirs, in our bytes.
-fn turn_octets(turn: &peer::Turn) -> [u8; 9] {
-    let mut octets = [turn.id; 9];
-    octets[1..].copy_from_slice(&turn.challenge);
-    octets
-}
-
-/// The last packet, or none, and the next one, in our bytes.
-fn peer_octets(sent: Option<&peer::Turn>, turn: &peer::Turn) -> [u8; sys::PEER_SIZE] {
-    let mut octets = [0; sys::PEER_SIZE];
-    octets[0] = sent.is_some().into();
-    if let Some(sent) = sent {
-        octets[1..10].copy_from_slice(&turn_octets(sent));
-    }
-    octets[10..].copy_from_slice(&turn_octets(turn));
-    octets
 }
 
 fn drawn_turn(random: &mut Random) -> peer::Turn {
@@ -276,9 +297,9 @@ impl Peers {
     /// Peers that sent something and may have read something since.
     pub fn drawn(random: &mut Random) -> Peers {
         let (sent, turn) = (drawn_turn(random), drawn_turn(random));
-        let octets = peer_octets(Some(&sent), &turn);
+        let bytes = layout::peer(Some(&sent), &turn);
         Peers {
-            ours: Peer::from_octets(octets).expect("a peer"),
+            ours: Peer::from_bytes(&bytes).expect("a peer"),
             sent: Some(sent),
             turn,
         }
@@ -295,10 +316,8 @@ impl Peers {
     }
 
     fn agree(&self) {
-        let theirs = peer_octets(self.sent.as_ref(), &self.turn);
-        assert_eq!(*self.ours.octets(), theirs, "the peers");
-        let turn = (self.ours.identifier(), self.ours.challenge());
-        assert_eq!(turn, (self.turn.id, self.turn.challenge), "the turns");
+        let theirs = layout::peer(self.sent.as_ref(), &self.turn);
+        assert_eq!(*self.ours.as_bytes(), theirs, "the peers");
     }
 
     /// A packet was written into two buffers that held the same bytes, `passed`; a refusal left
@@ -337,7 +356,8 @@ impl Peers {
         out: &mut [u8],
     ) -> Result<usize, u8> {
         let (before, passed, mut theirs) = (self.ours, out.to_vec(), out.to_vec());
-        let answer = plain(self.ours.write_response(password, name, out));
+        let ours = Password::from_utf16_bytes(password);
+        let answer = plain(ours.and_then(|ours| self.ours.write_response(&ours, name, out)));
         let written = peer::write_response(&self.turn, password, name, &mut theirs);
         self.wrote(before, answer, written, [out, &theirs, &passed])
     }
@@ -351,13 +371,16 @@ impl Peers {
         out: &mut [u8],
     ) -> Result<usize, u8> {
         let (before, passed, mut theirs) = (self.ours, out.to_vec(), out.to_vec());
-        let answer = plain(self.ours.write_change(old, new, filler, out));
+        let ours = Password::from_utf16_bytes(old)
+            .and_then(|old| Ok((old, Password::from_utf16_bytes(new)?)));
+        let answer =
+            plain(ours.and_then(|(old, new)| self.ours.write_change(&old, &new, filler, out)));
         let written = peer::write_change(&self.turn, old, new, filler, &mut theirs);
         self.wrote(before, answer, written, [out, &theirs, &passed])
     }
 
     /// Both read a reply, each its own copy, and ours reads it twice, which must give the same. A
-    /// refused packet leaves the peer, and the fields that were passed, as they were.
+    /// refused packet leaves the peer, and the numbers that were passed, as they were.
     pub fn read_reply(&mut self, ours: &[u8], theirs: &[u8]) -> Result<Verdict, u8> {
         let before = self.ours;
         let reading = match self.sent {
@@ -374,14 +397,15 @@ impl Peers {
             assert_eq!(answer, expected, "the reading of {ours:?}");
             self.agree();
         }
-        let mut octets = *before.octets();
-        let mut fields = [0xa5; sys::FIELDS_SIZE];
-        let number = sys::read_reply(&mut octets, ours, &mut fields);
+        let mut bytes = *before.as_bytes();
+        let (mut call, mut reason) = (FILL, FILL.into());
+        let number = sys::read_reply(&mut bytes, ours, &mut call, &mut reason);
         assert_eq!(number, u32::from(reading.err().unwrap_or(0)));
-        assert_eq!(&octets, self.ours.octets(), "the peer by its octets");
+        assert_eq!(&bytes, self.ours.as_bytes(), "the peer by its bytes");
         if reading.is_err() {
-            let same = (before, [0xa5; sys::FIELDS_SIZE]);
-            assert_eq!((self.ours, fields), same, "a refusal changes nothing");
+            let same = (before, FILL, FILL.into());
+            let after = (self.ours, call, reason);
+            assert_eq!(after, same, "a refusal changes nothing");
         }
         reading
     }
@@ -390,8 +414,11 @@ impl Peers {
 /// A verdict of theirs as a reading of ours.
 pub fn our_reading(verdict: &Verdict) -> Reading {
     match verdict {
-        Verdict::Success => Reading::Success,
-        Verdict::Failure(fields) => Reading::Failure {
+        Verdict::Success => Reading {
+            call: Call::Nothing,
+            reason: 0,
+        },
+        Verdict::Failure(fields) => Reading {
             call: match fields.call() {
                 message::Call::Retry => Call::Response,
                 message::Call::Change2 => Call::Change,
@@ -399,9 +426,6 @@ pub fn our_reading(verdict: &Verdict) -> Reading {
                 message::Call::End => Call::End,
             },
             reason: fields.e,
-            retry: fields.r.into(),
-            version: fields.v,
-            challenge: fields.c,
         },
     }
 }

@@ -4,7 +4,7 @@ use crate::both::{plain, Peers};
 use crate::packets;
 use crate::random::Random;
 use crate::run::{run, Seen};
-use mschap::sys;
+use mschap::{sys, LmHash, Password};
 use reference::{des, hashes, md4, rc4};
 
 fn ciphers(random: &mut Random) {
@@ -30,16 +30,12 @@ fn ciphers(random: &mut Random) {
 fn hashes_agree(random: &mut Random) {
     let size = random.below_any(&[30, 520]);
     let password = random.octets(size);
-    assert_eq!(
-        plain(mschap::nt_hash(&password)),
-        hashes::nt_hash(&password)
-    );
+    let ours = Password::from_utf16_bytes(&password).and_then(|ours| ours.nt_hash());
+    assert_eq!(plain(ours.map(|hash| hash.0)), hashes::nt_hash(&password));
     let size = random.below(18);
     let password = random.octets(size);
-    assert_eq!(
-        plain(mschap::lm_hash(&password)),
-        hashes::lm_hash(&password)
-    );
+    let ours = LmHash::of(&password).map(|hash| hash.0);
+    assert_eq!(plain(ours), hashes::lm_hash(&password));
     let (hash, challenge) = (random.array(), random.array());
     assert_eq!(
         mschap::challenge_response(&hash, &challenge),

@@ -1,11 +1,12 @@
 //! Openings over lists of issued challenges, by buffers: lists of every fill, lists that are none,
-//! and one list that forty boxes fill. Answer, conversation, reply, list, used and counts must
-//! agree, and the answer must be the one that the case was made for.
+//! and one list that forty boxes fill. Answer, conversation, reply, places and how many are used
+//! must agree, and the answer must be the one that the case was made for.
 
-use crate::both::{their_conversation, Passed, Terms};
+use crate::both::{terms_number, their_conversation, Opening, Passed};
+use crate::layout;
 use crate::random::Random;
 use crate::run::{run, Seen};
-use mschap::{sys, Challenge, Conversation};
+use mschap::{sys, Challenge, Conversation, Terms};
 use reference::issued::entries_of;
 use std::collections::HashSet;
 
@@ -14,7 +15,7 @@ const WIDTH: usize = sys::CHALLENGE_SIZE;
 /// One opening in both, each over its own list with the same bytes.
 fn open(
     random: &mut Random,
-    terms: &Terms,
+    passed: &Opening,
     size: usize,
     ours: &mut Passed,
     theirs: &mut Passed,
@@ -25,21 +26,15 @@ fn open(
     let reply = random.octets(size);
     let (mut our_reply, mut their_reply) = (reply.clone(), reply.clone());
 
-    let number = ours.our_open(terms, &mut conversation, &mut our_reply);
-    let opening = theirs.their_open(
-        terms.id,
-        &terms.challenge,
-        (terms.retries != sys::DEFAULT).then_some(terms.retries),
-        (terms.lm != sys::DEFAULT).then_some(terms.lm == 1),
-        &mut their_reply,
-    );
+    let number = ours.our_open(passed, &mut conversation, &mut our_reply);
+    let opening = theirs.their_open(passed, &mut their_reply);
     assert_eq!(number, u32::from(opening.refusal), "the answer");
     assert_eq!(our_reply, their_reply, "the reply buffer");
     agree(ours, theirs);
     if number == sys::OK {
-        let (value, kept) = conversation.split_at(12);
-        assert_eq!((value[0], kept), (2, &[0; 38][..]), "nothing is kept");
-        let next = Conversation::from_octets(conversation).expect("a conversation");
+        let expected = layout::conversation(&opening.conversation);
+        assert_eq!(conversation, expected, "the conversation");
+        let next = Conversation::from_bytes(&conversation).expect("a conversation");
         assert_eq!(their_conversation(&next), opening.conversation);
     } else {
         assert_eq!(conversation, drawn, "a refusal writes no conversation");
@@ -52,10 +47,9 @@ fn open(
 /// The two lists are the same. Of long ones only the first place that differs is told.
 fn agree(one: &Passed, other: &Passed) {
     assert_eq!(one.used, other.used, "the places used");
-    assert_eq!(one.counts, other.counts, "the counts");
-    let mut pairs = one.list.chunks(WIDTH).zip(other.list.chunks(WIDTH));
+    let mut pairs = one.places.chunks(WIDTH).zip(other.places.chunks(WIDTH));
     assert_eq!(pairs.position(|(a, b)| a != b), None, "a place of the list");
-    assert_eq!(one.list.len(), other.list.len());
+    assert_eq!(one.places.len(), other.places.len());
 }
 
 /// A challenge of a small set: few last bytes, and first bytes some steps of 23 from each other.
@@ -65,36 +59,35 @@ fn near(random: &mut Random) -> Challenge {
     [first, 2, 3, 4, 5, 6, random.pick(&[7, 7, 7, 8]), last]
 }
 
-fn terms(random: &mut Random) -> Terms {
+fn drawn(random: &mut Random) -> Opening {
     let challenge = match random.below(5) {
         0 => random.array(),
         _ => near(random),
     };
     let retries = match random.below(40) {
-        0 => 8,
-        1 => random.octet(),
-        2..=5 => sys::DEFAULT,
-        _ => random.below(8) as u8,
+        0 => Some(8),
+        1 => Some(random.octet()),
+        2..=5 => None,
+        _ => Some(random.below(8) as u8),
     };
-    Terms {
+    Opening {
         id: random.octet(),
         challenge,
-        retries,
-        lm: random.pick(&[0, 1, sys::DEFAULT]),
+        terms: Terms {
+            retries,
+            lm_allowed: random.pick(&[Some(false), Some(true), None]),
+        },
     }
 }
 
 /// What an opening spends; as with 7 retries where it asks for more.
-fn spent_by(terms: &Terms) -> Vec<Challenge> {
-    let retries = match terms.retries {
-        sys::DEFAULT => 2,
-        retries => retries.min(7),
-    };
-    entries_of(&terms.challenge, retries)
+fn spent_by(opening: &Opening) -> Vec<Challenge> {
+    let retries = opening.terms.retries.unwrap_or(2).min(7);
+    entries_of(&opening.challenge, retries)
 }
 
-/// A list of so many places, with true counts, none of whose entries the opening spends. What lies
-/// in the unused places is drawn too.
+/// A list of so many places, none of whose entries the opening spends. What is in the unused places
+/// is drawn too.
 fn list(random: &mut Random, places: usize, spent: &[Challenge], seen: &mut Seen) -> Passed {
     let used = match random.below(7) {
         0 => 0,
@@ -119,39 +112,28 @@ fn list(random: &mut Random, places: usize, spent: &[Challenge], seen: &mut Seen
         }
     }
     let few = random.chance(60);
-    let mut list = Vec::with_capacity(places * WIDTH);
-    while list.len() < places * WIDTH {
+    let mut entries = Vec::with_capacity(places * WIDTH);
+    while entries.len() < places * WIDTH {
         let entry = if few { near(random) } else { random.array() };
         if !spent.contains(&entry) {
-            list.extend(entry);
+            entries.extend(entry);
         }
     }
-    let mut passed = Passed {
-        list,
-        used,
-        counts: vec![],
-    };
-    count(&mut passed);
-    passed
-}
-
-/// Makes the counts true.
-fn count(passed: &mut Passed) {
-    passed.counts = vec![0; sys::COUNTS_SIZE];
-    for place in passed.list.chunks(WIDTH).take(passed.used) {
-        passed.counts[usize::from(place[WIDTH - 1])] += 1;
+    Passed {
+        used: used as u16,
+        places: entries,
     }
 }
 
 fn put(passed: &mut Passed, place: usize, entry: &Challenge) {
-    passed.list[place * WIDTH..][..WIDTH].copy_from_slice(entry);
+    passed.places[place * WIDTH..][..WIDTH].copy_from_slice(entry);
 }
 
 /// Puts a challenge that the opening spends into the list, at a drawn place or at none.
 fn plant(random: &mut Random, passed: &mut Passed, spent: &[Challenge]) -> &'static str {
-    let places = passed.list.len() / WIDTH;
-    let used = passed.used;
-    let what = match random.below(9) {
+    let places = passed.places.len() / WIDTH;
+    let used = usize::from(passed.used);
+    match random.below(9) {
         0 if used > 0 => {
             put(passed, 0, &spent[0]);
             "spent: first"
@@ -196,90 +178,76 @@ fn plant(random: &mut Random, passed: &mut Passed, spent: &[Challenge]) -> &'sta
             "not spent: seven octets the same"
         }
         _ => "not spent",
-    };
-    count(passed);
-    what
+    }
 }
 
 /// Makes the list one that is to be refused with 24, or leaves it as it is.
 fn spoil(random: &mut Random, passed: &mut Passed) -> &'static str {
-    let places = passed.list.len() / WIDTH;
-    let counted = |passed: &Passed, random: &mut Random| {
-        let place = random.below(passed.used);
-        usize::from(passed.list[place * WIDTH + WIDTH - 1])
-    };
+    let places = passed.places.len() / WIDTH;
     match random.below(40) {
-        0 => {
+        0..=2 => {
             let more = random.between(1, 7);
-            passed.list.extend(random.octets(more));
-            "octets over"
+            passed.places.extend(random.octets(more));
+            "bytes over"
         }
-        1 if places > passed.used => {
-            let size = passed.list.len() - random.between(1, 7);
-            passed.list.truncate(size);
-            "octets missing"
+        3..=5 if places > passed.used.into() => {
+            let size = passed.places.len() - random.between(1, 7);
+            passed.places.truncate(size);
+            "bytes missing"
         }
-        2 => {
-            passed.used = places + 1;
+        6..=7 => {
+            passed.used = places as u16 + 1;
             "used: one over"
         }
-        3 => {
-            let before = passed.used;
-            passed.used =
-                random.pick(&[places + 2, 2 * places + 1, 4096, 4097, 65_536, usize::MAX]);
-            // all of 4,096 places may have been used before
-            if passed.used == before {
-                "a list"
-            } else {
-                "used: any"
-            }
-        }
-        4 => {
-            passed.counts.pop();
-            "255 counts"
-        }
-        5 => {
-            passed.counts.push(0);
-            "257 counts"
-        }
-        6 => {
-            let size = random.pick(&[0, 1, 128, 512]);
-            passed.counts.resize(size, 0);
-            "another number of counts"
-        }
-        7 if passed.used > 0 => {
-            let octet = counted(passed, random);
-            passed.counts[octet] += random.pick(&[1, 1, 256, 32_768]);
-            "a count too high"
-        }
-        8 if passed.used > 0 => {
-            let octet = counted(passed, random);
-            passed.counts[octet] -= 1;
-            "a count too low"
-        }
-        9 if passed.counts.contains(&0) => {
-            let none = (0..256).filter(|octet| passed.counts[*octet] == 0);
-            let none: Vec<usize> = none.collect();
-            passed.counts[random.pick(&none)] = random.pick(&[1, 1, 2, 256, 65_535]);
-            "a count of no entry"
-        }
-        // the sum stays
-        10 if passed.used > 0 => {
-            let octet = counted(passed, random);
-            passed.counts[octet] -= 1;
-            passed.counts[octet ^ (1 << random.below(8))] += 1;
-            "two counts"
+        8..=10 => {
+            let over = places as u16 + 1;
+            let any = random.pick(&[over + 1, 2 * over, 4096, 4097, u16::MAX]);
+            passed.used = any.max(over);
+            "used: any"
         }
         _ => "a list",
     }
 }
 
+/// Bytes that are no list: of another kind or version, or too short to have one. They are refused
+/// with 100, whatever else is wrong, and nothing changes.
+fn no_list(random: &mut Random, opening: &Opening, passed: &Passed, size: usize, seen: &mut Seen) {
+    let mut list = passed.bytes();
+    seen.note(match random.below(3) {
+        0 => {
+            list[0] = list[0].wrapping_add(random.between(1, 255) as u8);
+            "no list: another kind"
+        }
+        1 => {
+            list[1] = list[1].wrapping_add(random.between(1, 255) as u8);
+            "no list: another version"
+        }
+        _ => {
+            list.truncate(random.below(layout::LIST_HEAD));
+            "no list: too short"
+        }
+    });
+    let drawn: [u8; sys::CONVERSATION_SIZE] = random.array();
+    let reply = random.octets(size);
+    let (mut after, mut conversation, mut written) = (list.clone(), drawn, reply.clone());
+    let number = sys::open(
+        opening.id.into(),
+        terms_number(&opening.terms),
+        &opening.challenge,
+        &mut after,
+        &mut conversation,
+        &mut written,
+    );
+    assert_eq!(number, sys::BAD_ARGUMENT);
+    assert_eq!((after, conversation, written), (list, drawn, reply));
+}
+
 fn opening(random: &mut Random, seen: &mut Seen, places: usize) {
-    let terms = terms(random);
-    let spent = spent_by(&terms);
+    let opening = drawn(random);
+    let spent = spent_by(&opening);
     let mut passed = list(random, places, &spent, seen);
     let planted = plant(random, &mut passed, &spent);
-    let few = places - passed.used < spent.len();
+    let few = places - usize::from(passed.used) < spent.len();
     let spoiled = spoil(random, &mut passed);
     let size = match random.below(20) {
         0 => 16,
@@ -287,14 +255,25 @@ fn opening(random: &mut Random, seen: &mut Seen, places: usize) {
         2..=4 => random.between(17, 40),
         _ => 17,
     };
+    if random.chance(10) {
+        no_list(random, &opening, &passed, size, seen);
+    }
+    let sound = spoiled == "a list" && places <= sys::LIST_PLACES;
+    let told = if sound {
+        passed.used.into()
+    } else {
+        sys::INVALID
+    };
+    assert_eq!(sys::list_used(&passed.bytes()), told, "{spoiled}");
     let mut theirs = passed.clone();
-    let number = open(random, &terms, size, &mut passed, &mut theirs);
+    let number = open(random, &opening, size, &mut passed, &mut theirs);
 
-    let answer = if (8..sys::DEFAULT).contains(&terms.retries) {
+    let retries = opening.terms.retries;
+    let answer = if retries.is_some_and(|retries| retries > 7) {
         13
     } else if size < 17 {
         2
-    } else if spoiled != "a list" || places > sys::LIST_PLACES {
+    } else if !sound {
         24
     } else if planted.starts_with("spent") {
         16
@@ -303,18 +282,18 @@ fn opening(random: &mut Random, seen: &mut Seen, places: usize) {
     } else {
         sys::OK
     };
-    assert_eq!(number, answer, "{planted}; {spoiled}; {terms:?}");
+    assert_eq!(number, answer, "{planted}; {spoiled}; {opening:?}");
     seen.note(format!("answer {number}"));
     seen.note(format!("{spoiled}: {number}"));
-    if spoiled == "a list" && terms.retries != 8 {
+    if spoiled == "a list" && retries != Some(8) {
         let few = if few { ", too few places" } else { "" };
         seen.note(format!("{planted}{few}: {number}"));
     }
     if number == sys::OK {
-        seen.note(format!("accepted, retries {}", terms.retries));
+        seen.note(format!("accepted, retries {retries:?}"));
     }
-    if terms.retries == 8 || size == 16 {
-        let what = if terms.retries == 8 {
+    if retries == Some(8) || size == 16 {
+        let what = if retries == Some(8) {
             "8 retries"
         } else {
             "a reply of 16"
@@ -331,19 +310,7 @@ fn expect(seen: &Seen) {
     for number in [0, 13, 2, 24, 16, 17] {
         seen.expect(&[&format!("answer {number}")]);
     }
-    for spoiled in [
-        "octets over",
-        "octets missing",
-        "used: one over",
-        "used: any",
-        "255 counts",
-        "257 counts",
-        "another number of counts",
-        "a count too high",
-        "a count too low",
-        "a count of no entry",
-        "two counts",
-    ] {
+    for spoiled in ["bytes over", "bytes missing", "used: one over", "used: any"] {
         seen.expect(&[&format!("{spoiled}: 24")]);
     }
     for planted in [
@@ -374,6 +341,9 @@ fn expect(seen: &Seen) {
         "list: full",
         "8 retries: 13",
         "a reply of 16: 2",
+        "no list: another kind",
+        "no list: another version",
+        "no list: too short",
     ]);
 }
 
@@ -384,10 +354,10 @@ fn lists_agree() {
         opening(random, seen, places);
     });
     expect(&seen);
-    for retries in [0, 1, 2, 3, 4, 5, 6, 7, sys::DEFAULT] {
-        seen.expect(&[&format!("accepted, retries {retries}")]);
+    for retries in (0..8).map(Some).chain([None]) {
+        seen.expect(&[&format!("accepted, retries {retries:?}")]);
     }
-    for spoiled in ["octets over", "used: one over", "255 counts", "two counts"] {
+    for spoiled in ["bytes over", "used: one over"] {
         for number in [13, 2] {
             seen.expect(&[&format!("{spoiled}: {number}")]);
         }
@@ -412,45 +382,48 @@ fn long_lists_agree() {
 /// that openings are refused on the way. At the end all entries differ.
 fn boxes(random: &mut Random, seen: &mut Seen, places: usize) {
     let mut ours = Passed::empty(places);
-    ours.list = random.octets(places * WIDTH);
+    ours.places = random.octets(places * WIDTH);
     let mut theirs = ours.clone();
     let retries: [u8; 40] = random.array::<40>().map(|octet| octet % 8);
-    let draw = |random: &mut Random, retries| Terms {
+    let draw = |random: &mut Random, retries| Opening {
         id: random.octet(),
         challenge: {
             let octet = random.below(places / 512 + 1) as u8;
             [random.octet(), 2, 3, 4, 5, 6, octet, random.below(16) as u8]
         },
-        retries,
-        lm: 1,
+        terms: Terms {
+            retries: Some(retries),
+            lm_allowed: Some(true),
+        },
     };
     let mut number = sys::OK;
-    while ours.used < places {
+    while usize::from(ours.used) < places {
         // Where this box finds too few places left, one with no retries may not.
         let retries = if number == 17 {
             0
         } else {
             random.pick(&retries)
         };
-        let terms = draw(random, retries);
+        let opening = draw(random, retries);
         let before = ours.used;
-        number = open(random, &terms, 17, &mut ours, &mut theirs);
+        number = open(random, &opening, 17, &mut ours, &mut theirs);
         seen.note(format!("answer {number}"));
         if number == sys::OK {
-            assert_eq!(ours.used, before + usize::from(retries) + 1);
-            assert_eq!(ours.list[before * WIDTH..][..WIDTH], terms.challenge);
+            assert_eq!(ours.used, before + u16::from(retries) + 1);
+            let first = &ours.places[usize::from(before) * WIDTH..][..WIDTH];
+            assert_eq!(first, opening.challenge);
         }
     }
-    let all: HashSet<&[u8]> = ours.list.chunks(WIDTH).collect();
-    assert_eq!(all.len(), places, "an entry stands there twice");
+    let all: HashSet<&[u8]> = ours.places.chunks(WIDTH).collect();
+    assert_eq!(all.len(), places, "an entry is there twice");
     let all: HashSet<Vec<u8>> = all.into_iter().map(<[u8]>::to_vec).collect();
 
     for _ in 0..10 {
         let retries = random.pick(&retries);
-        let terms = draw(random, retries);
-        let spent = spent_by(&terms);
+        let opening = draw(random, retries);
+        let spent = spent_by(&opening);
         let again = spent.iter().any(|entry| all.contains(&entry[..]));
-        let number = open(random, &terms, 17, &mut ours, &mut theirs);
+        let number = open(random, &opening, 17, &mut ours, &mut theirs);
         assert_eq!(number, if again { 16 } else { 17 });
         seen.note(format!("full: {number}"));
     }

@@ -3,6 +3,8 @@
 
 mod both;
 mod functions;
+#[path = "../layout/mod.rs"]
+mod layout;
 mod lists;
 mod packets;
 mod random;
@@ -10,3 +12,4 @@ mod readers;
 mod run;
 mod series;
 mod steps;
+mod texts;

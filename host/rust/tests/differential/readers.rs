@@ -1,10 +1,11 @@
 //! The readers: Challenge, reply, Failure message, and the parts of a name.
 
 use crate::both::{our_reading, plain, Peers};
+use crate::layout;
 use crate::packets;
 use crate::random::Random;
 use crate::run::{run, Seen};
-use mschap::{sys, Peer};
+use mschap::{sys, Call, Peer};
 use reference::packet;
 
 fn challenge(random: &mut Random, seen: &mut Seen) {
@@ -19,8 +20,8 @@ fn challenge(random: &mut Random, seen: &mut Seen) {
 fn reply_to(mut peers: Peers, packet: &[u8], seen: &mut Seen) {
     let verdict = peers.read_reply(packet, packet);
     seen.note(match verdict.as_ref().map(our_reading) {
-        Ok(mschap::Reading::Success) => "reply: Success".to_string(),
-        Ok(mschap::Reading::Failure { call, .. }) => format!("reply: Failure, {call:?}"),
+        Ok(reading) if reading.call == Call::Nothing => "reply: Success".to_string(),
+        Ok(reading) => format!("reply: Failure, {:?}", reading.call),
         Err(number) => format!("reply refused {number}"),
     });
 }
@@ -47,14 +48,14 @@ fn message(random: &mut Random, seen: &mut Seen) {
 /// A reply to a peer that sent nothing. The bytes that stand for its last packet are drawn, and the
 /// reply has their identifier: they have no effect, and stay.
 fn early(random: &mut Random, seen: &mut Seen) {
-    let mut octets: [u8; sys::PEER_SIZE] = random.array();
-    octets[0] = 0;
-    let mut packet = packets::failure(random, octets[1]);
+    let mut bytes: [u8; sys::PEER_SIZE] = random.array();
+    bytes[..3].copy_from_slice(&[layout::PEER, sys::LAYOUT_VERSION, 0]);
+    let mut packet = packets::failure(random, bytes[3]);
     packets::damage(random, &mut packet);
     let refusal = packet::frame(&packet).err().unwrap_or(5);
-    let mut peer = Peer::from_octets(octets).expect("a peer");
+    let mut peer = Peer::from_bytes(&bytes).expect("a peer");
     assert_eq!(plain(peer.read_reply(&packet)), Err(refusal), "{packet:?}");
-    assert_eq!(peer.octets(), &octets);
+    assert_eq!(peer.as_bytes(), &bytes);
     seen.note(format!("early reply refused {refusal}"));
 }
 
@@ -77,6 +78,9 @@ fn name(random: &mut Random, seen: &mut Seen) {
     let at = place(&packet, &home, domain);
     let ours = (sys::domain_offset(&packet), sys::domain_length(&packet));
     assert_eq!(ours, at, "the domain's place in {packet:?}");
+
+    let length = packet::frame(&packet).map_or(0, |frame| frame.length());
+    assert_eq!(sys::packet_length(&packet), length, "{packet:?}");
 
     let account = packet::account(&packet);
     assert_eq!(mschap::account_of(&packet), account, "{packet:?}");

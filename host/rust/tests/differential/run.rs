@@ -13,6 +13,11 @@ impl Seen {
         *self.0.entry(what.into()).or_default() += 1;
     }
 
+    /// How often this was met.
+    pub fn count(&self, what: &str) -> u64 {
+        self.0.get(what).copied().unwrap_or_default()
+    }
+
     /// Each of these was met.
     pub fn expect(&self, all: &[&str]) {
         for what in all {

@@ -1,10 +1,10 @@
 //! Whole series from opening to end: our peer against their box, their peer against our box.
 
-use crate::both::{plain, their_conversation, Boxes, Passed, Peers};
+use crate::both::{plain, their_conversation, Boxes, Opening, Passed, Peers};
 use crate::packets;
 use crate::random::Random;
 use crate::run::{run, Seen};
-use mschap::{sys, Conversation, Issued};
+use mschap::{sys, Conversation, Issued, LmHash, Password, Terms};
 use reference::authenticator::{self as their, Account};
 use reference::message::Call;
 use reference::peer::Verdict;
@@ -102,8 +102,17 @@ fn open(random: &mut Random) -> (Boxes, Peers) {
     let places = usize::from(retries.unwrap_or(their::DEFAULT_RETRIES)) + 1;
     let mut issued = Issued::new(places);
     let mut passed = Passed::empty(places);
-    let ours = Conversation::open(id, &challenge, retries, lm, &mut issued, &mut our_reply);
-    let theirs = passed.their_open(id, &challenge, retries, lm, &mut their_reply);
+    let terms = Terms {
+        retries,
+        lm_allowed: lm,
+    };
+    let ours = Conversation::open(id, terms, &challenge, &mut issued, &mut our_reply);
+    let opening = Opening {
+        id,
+        challenge,
+        terms,
+    };
+    let theirs = passed.their_open(&opening, &mut their_reply);
     let (conversation, written) = plain(ours).expect("an opening");
     assert_eq!((0, written), (theirs.refusal, theirs.written));
     assert_eq!(issued.left(), 0);
@@ -145,8 +154,9 @@ fn user(random: &mut Random) -> User {
     let size = random.below(15);
     let lm_password = random.octets(size);
     let kind = random.below(100);
-    let nt = (kind < 85).then(|| mschap::nt_hash(&password).expect("a password"));
-    let lm = (kind >= 50).then(|| mschap::lm_hash(&lm_password).expect("a password"));
+    let nt = |password| Password::from_utf16_bytes(password)?.nt_hash();
+    let nt = (kind < 85).then(|| nt(&password).expect("a password").0);
+    let lm = (kind >= 50).then(|| LmHash::of(&lm_password).expect("a password").0);
     let account = Account {
         nt,
         lm,
@@ -170,7 +180,7 @@ fn lm_response(peers: &mut Peers, password: &[u8], name: &[u8], random: &mut Ran
     let challenge = peers.turn().challenge;
     response(peers, b"", name, random);
     let lm = hashes::challenge_response(&hash, &challenge);
-    let ours = mschap::lm_hash(password).and_then(|h| mschap::challenge_response(&h, &challenge));
+    let ours = LmHash::of(password).and_then(|h| mschap::challenge_response(&h.0, &challenge));
     assert_eq!(ours, Ok(lm));
     let flag = random.chance(30).into();
     packet::response(peers.last(), &lm, &random.array(), flag, name)
@@ -324,7 +334,7 @@ fn openings_agree() {
                 passed = Passed::empty(places);
             }
             if random.chance(20) {
-                issued = Issued::restored(places, issued.octets()).expect("a list");
+                issued = Issued::from_bytes(issued.as_bytes()).expect("a list");
                 seen.note("restored");
             }
         }
@@ -352,8 +362,17 @@ fn opening(
     let lm = random.pick(&[None, Some(false), Some(true)]);
     let mut ours = packets::buffer(random);
     let mut theirs = ours.clone();
-    let answer = Conversation::open(id, challenge, retries, lm, issued, &mut ours);
-    let opening = passed.their_open(id, challenge, retries, lm, &mut theirs);
+    let terms = Terms {
+        retries,
+        lm_allowed: lm,
+    };
+    let answer = Conversation::open(id, terms, challenge, issued, &mut ours);
+    let opening = Opening {
+        id,
+        challenge: *challenge,
+        terms,
+    };
+    let opening = passed.their_open(&opening, &mut theirs);
     assert_eq!(ours, theirs);
     passed.agrees(issued);
     match plain(answer) {

@@ -1,6 +1,7 @@
 //! Single steps of drawn conversations with right, wrong, damaged and random packets.
 
-use crate::both::{account_octets, our_conversation, their_account, their_conversation, Boxes};
+use crate::both::{account_bytes, our_conversation, their_conversation, Boxes};
+use crate::layout;
 use crate::packets;
 use crate::random::Random;
 use crate::run::{run, Seen};
@@ -85,28 +86,26 @@ fn step(random: &mut Random, seen: &mut Seen) {
 
     // The same by buffers, with drawn bytes wherever they have no effect.
     if random.chance(20) {
-        let mut octets = *before.octets();
-        let mut raw = [0; sys::RECORD_SIZE];
-        raw[1..].copy_from_slice(&account_octets(&account, random));
-        raw[0] = record.is_some().into();
-        let garbage: [u8; sys::RECORD_SIZE] = random.array();
-        let mut updated = garbage;
+        let mut bytes = *before.as_bytes();
+        let drawn = account_bytes(&account, random);
+        let mut raw = layout::record(Some(drawn));
+        raw[layout::TAG] = record.is_some().into();
+        let garbage: [u8; sys::ANSWER_SIZE] = random.array();
+        let mut answer = garbage;
         let mut reply = passed;
-        let number = sys::step(&mut octets, &packet, &raw, &mut reply, &mut updated);
+        let number = sys::step(&mut bytes, &packet, &raw, &mut reply, &mut answer);
         assert_eq!(number, u32::from(outcome.refusal));
         // Bytes of no effect may be kept as they were passed, so values are compared here.
-        let next = mschap::Conversation::from_octets(octets).expect("a conversation");
+        let next = mschap::Conversation::from_bytes(&bytes).expect("a conversation");
         assert_eq!(their_conversation(&next), boxes.theirs);
         assert_eq!(reply, our_reply);
         if number == sys::OK {
-            let found = updated[0] == 1;
-            let octets = updated[1..].try_into().expect("an account");
-            let account = mschap::Account::from_octets(octets).expect("an account");
-            assert!(updated[0] <= 1);
-            assert_eq!(found.then_some(their_account(&account)), outcome.changed);
+            let expected = (outcome.reason, outcome.changed);
+            assert_eq!(layout::to_answer(&answer), Some(expected));
+            assert_eq!(sys::answer_reason(&answer), outcome.reason.into());
         } else {
-            assert_eq!(&octets, before.octets(), "a refusal changes nothing");
-            assert_eq!(updated, garbage, "a refusal hands out nothing");
+            assert_eq!(&bytes, before.as_bytes(), "a refusal changes nothing");
+            assert_eq!(answer, garbage, "a refusal hands out nothing");
         }
     }
 }

@@ -1,0 +1,223 @@
+//! The layouts of the values that a caller keeps, written down a second time for the tests: each
+//! begins with its kind and the version of its layout. A decoder gives what the bytes stand for;
+//! none if no value has them.
+#![allow(dead_code)]
+
+use mschap::sys;
+use reference::authenticator::{Account, Conversation, Phase};
+use reference::peer::Turn;
+
+pub const RECORD: u8 = b'R';
+pub const ANSWER: u8 = b'A';
+pub const CONVERSATION: u8 = b'C';
+pub const PEER: u8 = b'P';
+pub const PASSWORD: u8 = b'W';
+pub const LIST: u8 = b'L';
+pub const KINDS: [u8; 6] = [RECORD, ANSWER, CONVERSATION, PEER, PASSWORD, LIST];
+/// Bytes of kind and version.
+pub const TAG: usize = 2;
+/// Bytes of an account within a record, an answer or a conversation.
+pub const ACCOUNT_SIZE: usize = 38;
+/// Bytes before the places of a list.
+pub const LIST_HEAD: usize = 4;
+
+/// Kind and version, and behind them a body of so many bytes, which is filled in.
+fn tagged<const N: usize>(kind: u8, fill: impl FnOnce(&mut [u8])) -> [u8; N] {
+    let mut bytes = [0; N];
+    bytes[0] = kind;
+    bytes[1] = 1;
+    fill(&mut bytes[TAG..]);
+    bytes
+}
+
+/// What is behind kind and version.
+fn body(kind: u8, size: usize, bytes: &[u8]) -> Option<&[u8]> {
+    (bytes.len() == size && bytes[..TAG] == [kind, 1]).then(|| &bytes[TAG..])
+}
+
+fn flag(byte: u8) -> Option<bool> {
+    match byte {
+        0 => Some(false),
+        1 => Some(true),
+        _ => None,
+    }
+}
+
+fn part<const N: usize>(bytes: &[u8], from: usize) -> [u8; N] {
+    bytes[from..][..N].try_into().expect("enough bytes")
+}
+
+/// An account; a hash that there is not is bytes 0.
+pub fn account(account: &Account) -> [u8; ACCOUNT_SIZE] {
+    let mut bytes = [0; ACCOUNT_SIZE];
+    if let Some(hash) = account.nt {
+        bytes[0] = 1;
+        bytes[1..17].copy_from_slice(&hash);
+    }
+    if let Some(hash) = account.lm {
+        bytes[17] = 1;
+        bytes[18..34].copy_from_slice(&hash);
+    }
+    bytes[34] = account.disabled.into();
+    bytes[35] = account.hours.into();
+    bytes[36] = account.no_dialin.into();
+    bytes[37] = account.expired.into();
+    bytes
+}
+
+pub fn to_account(bytes: &[u8]) -> Option<Account> {
+    Some(Account {
+        nt: flag(bytes[0])?.then(|| part(bytes, 1)),
+        lm: flag(bytes[17])?.then(|| part(bytes, 18)),
+        disabled: flag(bytes[34])?,
+        hours: flag(bytes[35])?,
+        no_dialin: flag(bytes[36])?,
+        expired: flag(bytes[37])?,
+    })
+}
+
+/// Whether there is an account, and its bytes.
+fn lookup(found: Option<[u8; ACCOUNT_SIZE]>, to: &mut [u8]) {
+    if let Some(bytes) = found {
+        to[0] = 1;
+        to[1..].copy_from_slice(&bytes);
+    }
+}
+
+fn to_lookup(bytes: &[u8]) -> Option<Option<Account>> {
+    let account = to_account(&bytes[1..])?;
+    Some(flag(bytes[0])?.then_some(account))
+}
+
+/// The record of an account's bytes.
+pub fn record(found: Option<[u8; ACCOUNT_SIZE]>) -> [u8; sys::RECORD_SIZE] {
+    tagged(RECORD, |to| lookup(found, to))
+}
+
+pub fn to_record(bytes: &[u8]) -> Option<Option<Account>> {
+    to_lookup(body(RECORD, sys::RECORD_SIZE, bytes)?)
+}
+
+/// The flags and the two hashes of a record, as they are stored.
+pub fn record_parts(bytes: &[u8]) -> Option<(u32, [u8; 16], [u8; 16])> {
+    to_record(bytes)?;
+    let flags = [2, 3, 20, 37, 38, 39, 40]
+        .into_iter()
+        .enumerate()
+        .map(|(bit, at)| u32::from(bytes[at]) << bit)
+        .sum();
+    Some((flags, part(bytes, 4), part(bytes, 21)))
+}
+
+pub fn answer(reason: u16, updated: Option<&Account>) -> [u8; sys::ANSWER_SIZE] {
+    tagged(ANSWER, |to| {
+        to[..2].copy_from_slice(&reason.to_be_bytes());
+        lookup(updated.map(account), &mut to[2..]);
+    })
+}
+
+pub fn to_answer(bytes: &[u8]) -> Option<(u16, Option<Account>)> {
+    let body = body(ANSWER, sys::ANSWER_SIZE, bytes)?;
+    let updated = to_lookup(&body[2..])?;
+    Some((u16::from_be_bytes(part(body, 0)), updated))
+}
+
+/// A conversation; nothing is kept unless a change is awaited.
+pub fn conversation(conversation: &Conversation) -> [u8; sys::CONVERSATION_SIZE] {
+    tagged(CONVERSATION, |to| {
+        to[0] = match &conversation.phase {
+            Phase::Ended => 0,
+            Phase::Response => 2,
+            Phase::Change(kept) => {
+                to[12..].copy_from_slice(&account(kept));
+                6
+            }
+        };
+        to[1] = conversation.lm.into();
+        to[2] = conversation.id;
+        to[3] = conversation.retries;
+        to[4..12].copy_from_slice(&conversation.challenge);
+    })
+}
+
+pub fn to_conversation(bytes: &[u8]) -> Option<Conversation> {
+    let body = body(CONVERSATION, sys::CONVERSATION_SIZE, bytes)?;
+    let kept = to_account(&body[12..])?;
+    Some(Conversation {
+        id: body[2],
+        challenge: part(body, 4),
+        retries: body[3],
+        lm: flag(body[1])?,
+        phase: match body[0] {
+            0 => Phase::Ended,
+            2 => Phase::Response,
+            6 => Phase::Change(kept),
+            _ => return None,
+        },
+    })
+}
+
+fn turn(turn: &Turn, to: &mut [u8]) {
+    to[0] = turn.id;
+    to[1..].copy_from_slice(&turn.challenge);
+}
+
+fn to_turn(bytes: &[u8]) -> Turn {
+    Turn {
+        id: bytes[0],
+        challenge: part(bytes, 1),
+    }
+}
+
+/// A peer: its last packet, or none, and the next one.
+pub fn peer(sent: Option<&Turn>, next: &Turn) -> [u8; sys::PEER_SIZE] {
+    tagged(PEER, |to| {
+        to[0] = sent.is_some().into();
+        if let Some(sent) = sent {
+            turn(sent, &mut to[1..10]);
+        }
+        turn(next, &mut to[10..]);
+    })
+}
+
+pub fn to_peer(bytes: &[u8]) -> Option<(Option<Turn>, Turn)> {
+    let body = body(PEER, sys::PEER_SIZE, bytes)?;
+    let sent = flag(body[0])?.then(|| to_turn(&body[1..10]));
+    Some((sent, to_turn(&body[10..])))
+}
+
+/// A password of at most 512 bytes.
+pub fn password(characters: &[u8]) -> [u8; sys::PASSWORD_SIZE] {
+    tagged(PASSWORD, |to| {
+        to[..2].copy_from_slice(&(characters.len() as u16).to_be_bytes());
+        to[2..][..characters.len()].copy_from_slice(characters);
+    })
+}
+
+pub fn to_password(bytes: &[u8]) -> Option<&[u8]> {
+    let body = body(PASSWORD, sys::PASSWORD_SIZE, bytes)?;
+    let size = usize::from(u16::from_be_bytes(part(body, 0)));
+    let characters = body.get(2..2 + size)?;
+    body[2 + size..]
+        .iter()
+        .all(|byte| *byte == 0)
+        .then_some(characters)
+}
+
+/// A list: how many places are used, and all places.
+pub fn list(used: u16, places: &[u8]) -> Vec<u8> {
+    let mut bytes = vec![LIST, 1];
+    bytes.extend(used.to_be_bytes());
+    bytes.extend(places);
+    bytes
+}
+
+/// How many places are used, and all places; of a bad list too.
+pub fn to_list(bytes: &[u8]) -> Option<(usize, &[u8])> {
+    match bytes {
+        [LIST, 1, high, low, places @ ..] => {
+            Some((u16::from_be_bytes([*high, *low]).into(), places))
+        }
+        _ => None,
+    }
+}
