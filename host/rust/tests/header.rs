@@ -179,10 +179,10 @@ fn functions<'a>(text: &'a str, before: &[&str]) -> Vec<(&'a str, usize)> {
 #[test]
 fn functions_are_declared() {
     let theirs = functions(HEADER, &["\nuint32_t ", "\nsize_t "]);
-    let ends = HEADER
-        .lines()
-        .filter(|line| line.ends_with(");") && !line.starts_with(" *"));
-    assert_eq!(theirs.len(), ends.count(), "found");
+    // what ends a declaration, outside of comments
+    let code = HEADER.split("/*").filter_map(|part| part.split_once("*/"));
+    let ends: usize = code.map(|(_, code)| code.matches(");\n").count()).sum();
+    assert_eq!(theirs.len(), ends, "found");
     let ours = functions(include_str!("../src/sys.rs"), &[" pub fn "]);
     assert_eq!(ours, theirs);
 }

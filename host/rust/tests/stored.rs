@@ -1,0 +1,521 @@
+//! Values that were stored and are passed again, sound and spoiled: of another version, with the
+//! kind of another value, cut short by each length, longer, and with each byte in turn changed to
+//! each other value. Every call answers what the value's layout and the independent implementation
+//! predict, or refuses the value with 100; then it leaves all that it was passed as it was.
+
+mod layout;
+
+use layout::{KINDS, LIST_HEAD};
+use mschap::sys;
+use reference::authenticator::{self as their, Account, Conversation, Phase};
+use reference::message::Call;
+use reference::peer::{self, Turn, Verdict};
+use reference::{hashes, issued, packet};
+
+const FILL: u8 = 0xA5;
+const CHALLENGE: [u8; 8] = [1, 2, 3, 4, 5, 6, 7, 8];
+const NEXT: [u8; 8] = [24, 2, 3, 4, 5, 6, 7, 8];
+const PASSWORD: &[u8] = b"P\0\xe4\0w\0";
+const TERMS: u32 = sys::TERMS | sys::LM_ALLOWED | sys::retries(1);
+
+/// How often calls were answered and refused.
+#[derive(Default)]
+struct Seen {
+    answered: usize,
+    refused: usize,
+}
+
+impl Seen {
+    fn note(&mut self, valid: bool) {
+        match valid {
+            true => self.answered += 1,
+            false => self.refused += 1,
+        }
+    }
+}
+
+/// Calls `check` with the value and with all that is made of it; gives how many there were.
+fn spoiled(value: &[u8], mut check: impl FnMut(&[u8])) -> usize {
+    let mut count = 0;
+    let mut each = |bytes: &[u8]| {
+        check(bytes);
+        count += 1;
+    };
+    each(value);
+    for size in 0..value.len() {
+        each(&value[..size]);
+        each(&value[value.len() - size..]);
+    }
+    for more in 1..=9 {
+        for byte in [0, FILL] {
+            let mut bytes = value.to_vec();
+            bytes.resize(value.len() + more, byte);
+            each(&bytes);
+        }
+    }
+    for place in 0..value.len() {
+        for change in 1..=255 {
+            let mut bytes = value.to_vec();
+            bytes[place] ^= change;
+            each(&bytes);
+        }
+    }
+    // of another kind, with this one's size and with that one's
+    for kind in KINDS {
+        for size in [value.len(), 21, 41, 43, 44, 52, 516] {
+            for version in [0, 1, 2, 255] {
+                let mut bytes = value.to_vec();
+                bytes.resize(size, 0);
+                bytes[..2].copy_from_slice(&[kind, version]);
+                each(&bytes);
+            }
+        }
+    }
+    // what was stored before values had a kind
+    for bare in [2, 4] {
+        each(&value[bare..]);
+    }
+    count
+}
+
+fn account() -> Account {
+    Account {
+        nt: hashes::nt_hash(PASSWORD).ok(),
+        lm: Some([9; 16]),
+        disabled: false,
+        hours: false,
+        no_dialin: false,
+        expired: true,
+    }
+}
+
+fn conversation(phase: Phase) -> Conversation {
+    Conversation {
+        id: 7,
+        challenge: CHALLENGE,
+        retries: 2,
+        lm: true,
+        phase,
+    }
+}
+
+/// A Response and a change for the conversations above.
+fn packets() -> [Vec<u8>; 2] {
+    let turn = Turn {
+        id: 7,
+        challenge: CHALLENGE,
+    };
+    let mut response = vec![0; 62];
+    let written = peer::write_response(&turn, PASSWORD, b"DOM\\User", &mut response);
+    assert_eq!(written.refusal, 0);
+    let mut change = vec![0; packet::CHANGE_LENGTH];
+    let written = peer::write_change(&turn, PASSWORD, b"n\0", &[3; 512], &mut change);
+    assert_eq!(written.refusal, 0);
+    [response, change]
+}
+
+/// A step with these bytes for conversation and record, against what they stand for.
+fn step(bytes: &[u8], record: &[u8], packet: &[u8], seen: &mut Seen) {
+    let (mut after, mut reply, mut answer) = (bytes.to_vec(), [FILL; 17], [FILL; 43]);
+    let number = sys::step(&mut after, packet, record, &mut reply, &mut answer);
+    let valid = layout::to_conversation(bytes).zip(layout::to_record(record));
+    seen.note(valid.is_some());
+    let Some((conversation, found)) = valid else {
+        assert_eq!(number, sys::BAD_ARGUMENT, "{bytes:?} {record:?}");
+        let same = (bytes.to_vec(), [FILL; 17], [FILL; 43]);
+        assert_eq!((after, reply, answer), same);
+        return;
+    };
+    let mut their_reply = [FILL; 17];
+    let theirs = their::step(&conversation, packet, found.as_ref(), &mut their_reply);
+    assert_eq!(number, theirs.refusal.into(), "{bytes:?} {record:?}");
+    assert_eq!(reply, their_reply);
+    if number == sys::OK {
+        let next = layout::to_conversation(&after);
+        assert_eq!(next, Some(theirs.conversation));
+        let expected = (theirs.reason, theirs.record);
+        assert_eq!(layout::to_answer(&answer), Some(expected));
+    } else {
+        assert_eq!((after, answer), (bytes.to_vec(), [FILL; 43]));
+    }
+}
+
+#[test]
+fn conversations() {
+    let record = layout::record(Some(layout::account(&account())));
+    let mut seen = Seen::default();
+    for phase in [Phase::Response, Phase::Change(account()), Phase::Ended] {
+        spoiled(&layout::conversation(&conversation(phase)), |bytes| {
+            let told = [
+                sys::conversation_awaits(bytes),
+                sys::conversation_identifier(bytes),
+                sys::conversation_retries(bytes),
+            ];
+            let expected = layout::to_conversation(bytes).map(|value| {
+                let awaited = match value.phase {
+                    Phase::Ended => 0,
+                    Phase::Response => 2,
+                    Phase::Change(_) => 6,
+                };
+                [awaited, value.id.into(), value.retries.into()]
+            });
+            assert_eq!(told, expected.unwrap_or([sys::INVALID; 3]), "{bytes:?}");
+            let stored = mschap::Conversation::from_bytes(bytes);
+            assert_eq!(stored.is_ok(), expected.is_some());
+            for packet in packets() {
+                step(bytes, &record, &packet, &mut seen);
+            }
+        });
+    }
+    assert!(seen.answered > 10_000 && seen.refused > 10_000);
+}
+
+#[test]
+fn records() {
+    let mut seen = Seen::default();
+    let awaiting = [Phase::Response, Phase::Change(account())].map(conversation);
+    for found in [Some(layout::account(&account())), None] {
+        spoiled(&layout::record(found), |bytes| {
+            let mut read = (FILL.into(), [FILL; 16], [FILL; 16]);
+            let number = sys::read_record(bytes, &mut read.0, &mut read.1, &mut read.2);
+            match layout::record_parts(bytes) {
+                Some(parts) => assert_eq!((number, read), (sys::OK, parts)),
+                None => {
+                    assert_eq!(number, sys::BAD_ARGUMENT, "{bytes:?}");
+                    assert_eq!(read, (FILL.into(), [FILL; 16], [FILL; 16]));
+                }
+            }
+            let account = mschap::Account::from_bytes(bytes).map(|found| found.is_some());
+            let expected = layout::to_record(bytes).map(|found| found.is_some());
+            assert_eq!(account.ok(), expected);
+            for (conversation, packet) in awaiting.iter().zip(packets()) {
+                step(
+                    &layout::conversation(conversation),
+                    bytes,
+                    &packet,
+                    &mut seen,
+                );
+            }
+        });
+    }
+    assert!(seen.answered > 10_000 && seen.refused > 5_000);
+}
+
+#[test]
+fn answers() {
+    let mut seen = Seen::default();
+    for answer in [
+        layout::answer(0, Some(&account())),
+        layout::answer(691, None),
+    ] {
+        spoiled(&answer, |bytes| {
+            let value = layout::to_answer(bytes);
+            seen.note(value.is_some());
+            let reason = value.map_or(sys::INVALID, |(reason, _)| reason.into());
+            assert_eq!(sys::answer_reason(bytes), reason, "{bytes:?}");
+            let mut record = [FILL; 41];
+            let number = sys::answer_record(bytes, &mut record);
+            match value {
+                Some((_, Some(updated))) => {
+                    assert_eq!(number, sys::OK);
+                    assert_eq!(layout::to_record(&record), Some(Some(updated)));
+                    // as it is stored, with what stands beside a flag that is not set
+                    assert_eq!(record[2..], bytes[4..]);
+                }
+                other => {
+                    let expected = other.map_or(sys::BAD_ARGUMENT, |_| 102);
+                    assert_eq!((number, record), (expected, [FILL; 41]), "{bytes:?}");
+                }
+            }
+        });
+    }
+    assert!(seen.answered > 10_000 && seen.refused > 3_000);
+}
+
+fn call_number(verdict: &Verdict) -> (u32, u64) {
+    match verdict {
+        Verdict::Success => (0, 0),
+        Verdict::Failure(fields) => {
+            let call = match fields.call() {
+                Call::Retry => 1,
+                Call::Change2 => 2,
+                Call::Change1 => 3,
+                Call::End => 4,
+            };
+            (call, fields.e)
+        }
+    }
+}
+
+/// What a writer left, against a writer of theirs.
+fn wrote(
+    before: &[u8],
+    after: &[u8],
+    number: u32,
+    out: [&[u8]; 2],
+    theirs: Option<(Turn, peer::Written)>,
+) {
+    let [ours, their_out] = out;
+    match theirs {
+        None => {
+            assert_eq!(number, sys::BAD_ARGUMENT, "{before:?}");
+            assert_eq!(after, before);
+            assert!(ours.iter().all(|byte| *byte == FILL));
+        }
+        Some((turn, written)) => {
+            assert_eq!((number, written.refusal), (sys::OK, 0));
+            assert_eq!(ours, their_out);
+            assert_eq!(after, layout::peer(Some(&turn), &turn));
+        }
+    }
+}
+
+#[test]
+fn peers() {
+    let last = Turn {
+        id: 7,
+        challenge: CHALLENGE,
+    };
+    let next = Turn {
+        id: 8,
+        challenge: NEXT,
+    };
+    let (old, new) = (layout::password(PASSWORD), layout::password(b"n\0"));
+    let replies = [
+        packet::success(7),
+        packet::failure(7, 691, 1, 2),
+        packet::failure(7, 648, 0, 2),
+    ];
+    let mut seen = Seen::default();
+    for sent in [Some(&last), None] {
+        spoiled(&layout::peer(sent, &next), |bytes| {
+            let value = layout::to_peer(bytes);
+            seen.note(value.is_some());
+            let stored = mschap::Peer::from_bytes(bytes);
+            assert_eq!(stored.is_ok(), value.is_some(), "{bytes:?}");
+            for reply in &replies {
+                let (mut after, mut call, mut reason) = (bytes.to_vec(), 99, 99);
+                let number = sys::read_reply(&mut after, reply, &mut call, &mut reason);
+                let reading = value.map(|(sent, _)| match sent {
+                    Some(sent) => (sent, peer::read_reply(sent.id, reply)),
+                    None => (last, Err(5)),
+                });
+                match reading {
+                    Some((sent, Ok(verdict))) => {
+                        assert_eq!(number, sys::OK, "{bytes:?}");
+                        assert_eq!((call, reason), call_number(&verdict));
+                        let turn = peer::next_turn(&sent, &Ok(verdict));
+                        assert_eq!(after, layout::peer(Some(&sent), &turn));
+                    }
+                    other => {
+                        let refusal = |(_, reading): (Turn, Result<Verdict, u8>)| reading.err();
+                        let refusal = other.and_then(refusal).map_or(100, u32::from);
+                        assert_eq!((number, call, reason), (refusal, 99, 99), "{bytes:?}");
+                        assert_eq!(after, bytes);
+                    }
+                }
+            }
+            let mut after = bytes.to_vec();
+            let (mut ours, mut theirs) = ([FILL; 70], [FILL; 70]);
+            let number = sys::write_response(&mut after, &old, b"User", &mut ours);
+            let written = value.map(|(_, turn)| {
+                let written = peer::write_response(&turn, PASSWORD, b"User", &mut theirs);
+                (turn, written)
+            });
+            wrote(bytes, &after, number, [&ours, &theirs], written);
+
+            let mut after = bytes.to_vec();
+            let (mut ours, mut theirs) = ([FILL; 1120], [FILL; 1120]);
+            let number = sys::write_change(&mut after, &old, &new, &[3; 512], &mut ours);
+            let written = value.map(|(_, turn)| {
+                let filler = [3; 512];
+                let written = peer::write_change(&turn, PASSWORD, b"n\0", &filler, &mut theirs);
+                (turn, written)
+            });
+            wrote(bytes, &after, number, [&ours, &theirs], written);
+        });
+    }
+    assert!(seen.answered > 5_000 && seen.refused > 1_000);
+}
+
+#[test]
+fn passwords() {
+    let turn = Turn {
+        id: 7,
+        challenge: CHALLENGE,
+    };
+    let peer = layout::peer(None, &turn);
+    let other = layout::password(b"n\0");
+    let filler = [3; 512];
+    let mut seen = Seen::default();
+    let longest = [PASSWORD; 86].concat()[..512].to_vec();
+    for characters in [PASSWORD, b"", &longest] {
+        let mut turns = 0;
+        spoiled(&layout::password(characters), |bytes| {
+            // An odd number of bytes is in no password that this library makes. The layout has it;
+            // whether it is refused as no value or as no password is not said.
+            let value = layout::to_password(bytes);
+            let even = value.filter(|characters| characters.len() % 2 == 0);
+            let refusals: &[u32] = if value.is_some() { &[8, 100] } else { &[100] };
+            seen.note(even.is_some());
+
+            let mut hash = [FILL; 16];
+            let number = sys::nt_hash(bytes, &mut hash);
+            match even {
+                Some(characters) => {
+                    let theirs = hashes::nt_hash(characters).expect("a hash");
+                    assert_eq!((number, hash), (sys::OK, theirs), "{bytes:?}");
+                }
+                None => {
+                    assert!(refusals.contains(&number), "{number}: {bytes:?}");
+                    assert_eq!(hash, [FILL; 16]);
+                }
+            }
+
+            let (mut text, mut length) = ([FILL; sys::TEXT_MAX], usize::MAX);
+            let number = sys::read_password(bytes, &mut text, &mut length);
+            let expected = even.and_then(|characters| {
+                let units = characters
+                    .chunks(2)
+                    .map(|c| u16::from_le_bytes([c[0], c[1]]));
+                String::from_utf16(&units.collect::<Vec<_>>()).ok()
+            });
+            match expected {
+                Some(expected) => {
+                    assert_eq!((number, length), (sys::OK, expected.len()));
+                    assert_eq!(&text[..length], expected.as_bytes());
+                    assert!(text[length..].iter().all(|byte| *byte == FILL));
+                }
+                None => {
+                    let refusal = if value.is_some() { 101 } else { 100 };
+                    assert_eq!((number, length), (refusal, usize::MAX), "{bytes:?}");
+                    assert_eq!(text, [FILL; sys::TEXT_MAX]);
+                }
+            }
+
+            // The writers take longer, so of the many values that they accept each fiftieth is
+            // compared; all that they refuse are.
+            turns += 1;
+            if even.is_some() && turns % 50 != 0 {
+                return;
+            }
+            let mut after = peer;
+            let (mut ours, mut theirs) = ([FILL; 70], [FILL; 70]);
+            let number = sys::write_response(&mut after, bytes, b"User", &mut ours);
+            if let Some(characters) = even {
+                let written = peer::write_response(&turn, characters, b"User", &mut theirs);
+                assert_eq!((number, written.refusal), (sys::OK, 0));
+            } else {
+                assert!(refusals.contains(&number), "{number}: {bytes:?}");
+                assert_eq!(after, peer);
+            }
+            assert_eq!(ours, theirs);
+            for new in [false, true] {
+                let mut after = peer;
+                let (mut ours, mut theirs) = ([FILL; 1120], [FILL; 1120]);
+                let passed = if new {
+                    [&other[..], bytes]
+                } else {
+                    [bytes, &other]
+                };
+                let number =
+                    sys::write_change(&mut after, passed[0], passed[1], &filler, &mut ours);
+                if let Some(characters) = even {
+                    let n: &[u8] = b"n\0";
+                    let [old, new] = if new {
+                        [n, characters]
+                    } else {
+                        [characters, n]
+                    };
+                    let written = peer::write_change(&turn, old, new, &filler, &mut theirs);
+                    assert_eq!((number, written.refusal), (sys::OK, 0));
+                } else {
+                    assert!(refusals.contains(&number), "{number}: {bytes:?}");
+                    assert_eq!(after, peer);
+                }
+                assert_eq!(ours, theirs);
+            }
+        });
+    }
+    assert!(seen.answered > 100_000 && seen.refused > 100_000);
+}
+
+#[test]
+fn lists() {
+    let mut seen = Seen::default();
+    let places: Vec<u8> = (0..5 * 8).map(|place| place * 5).collect();
+    let empty = layout::list(0, &[0; 40]);
+    let spent = layout::list(2, &[&places[..8], &CHALLENGE, &places[16..]].concat());
+    for list in [layout::list(2, &places), empty, spent] {
+        spoiled(&list, |bytes| {
+            let (mut after, mut conversation, mut reply) = (bytes.to_vec(), [FILL; 52], [FILL; 17]);
+            let number = sys::open(
+                7,
+                TERMS,
+                &CHALLENGE,
+                &mut after,
+                &mut conversation,
+                &mut reply,
+            );
+            let value = layout::to_list(bytes);
+            let sound = value.filter(|(used, places)| {
+                let count = places.len() / 8;
+                places.len() % 8 == 0 && count <= 4096 && *used <= count
+            });
+            seen.note(sound.is_some());
+            let used = sound.map_or(sys::INVALID, |(used, _)| used as u32);
+            assert_eq!(sys::list_used(bytes), used, "{bytes:?}");
+            assert_eq!(mschap::Issued::from_bytes(bytes).is_ok(), sound.is_some());
+
+            let Some((used, places)) = value else {
+                let same = (bytes.to_vec(), [FILL; 52], [FILL; 17]);
+                assert_eq!(number, sys::BAD_ARGUMENT, "{bytes:?}");
+                assert_eq!((after, conversation, reply), same);
+                return;
+            };
+            let mut places = places.to_vec();
+            let mut counts = [0; 256];
+            for place in places.chunks(8).take(used) {
+                counts[usize::from(place[place.len() - 1])] += 1;
+            }
+            let mut passed = issued::Issued {
+                list: &mut places,
+                used,
+                counts: &mut counts,
+            };
+            let mut their_reply = [FILL; 17];
+            let retries = Some(1);
+            let lm = Some(true);
+            let opening = their::open(7, &CHALLENGE, retries, lm, &mut passed, &mut their_reply);
+            let used = passed.used;
+            assert_eq!(number, opening.refusal.into(), "{bytes:?}");
+            assert_eq!(reply, their_reply);
+            if number == sys::OK {
+                assert_eq!(conversation, layout::conversation(&opening.conversation));
+                assert_eq!(after, layout::list(used as u16, &places));
+            } else {
+                assert_eq!((&after[..], conversation), (bytes, [FILL; 52]));
+                assert_eq!(after[LIST_HEAD..], places);
+            }
+        });
+    }
+    assert!(seen.answered > 20_000 && seen.refused > 2_000);
+}
+
+/// Each kind was spoiled in each place to each value.
+#[test]
+fn all_that_is_spoiled() {
+    for size in [21, 41, 43, 44, 52, 516] {
+        let mut places = vec![0; size];
+        let count = spoiled(&vec![0; size], |bytes| {
+            if bytes.len() == size {
+                let changed = bytes.iter().position(|byte| *byte != 0);
+                if let Some(place) = changed {
+                    places[place] += 1;
+                }
+            }
+        });
+        assert!(places.iter().all(|times| *times >= 255), "{places:?}");
+        assert!(count > size * 257);
+    }
+}
