@@ -1,9 +1,9 @@
 /*
  * Bad lengths at the C interface, and null pointers with length 0: each function of mschap.h is
  * called with the right sizes, and then with each of its buffers passed as NULL and 0, with one
- * byte less and with one more (one count less and more, for the counts of an opening). What it
- * returns is in the table. Where that is not 0, every buffer must be unchanged. Each buffer has its
- * own memory of exactly its size, so that valgrind sees any byte that is touched beyond it.
+ * byte less and with one more. What it returns is in the table. Where that is not MSCHAP_OK, every
+ * buffer must be unchanged, and so must be the numbers whose pointers have no size. Each buffer has
+ * its own memory of exactly its size, so that valgrind sees any byte that is touched beyond it.
  */
 #include <mschap.h>
 #include <stdio.h>
@@ -11,45 +11,104 @@
 #include <string.h>
 
 struct argument {
-    uint8_t *at;
+    void *at;
     size_t size;
 };
 
 #define BUFFER(i) r[i].at, r[i].size
-#define COUNTS(i) (uint16_t *)(void *)r[i].at, r[i].size
+#define WRONG 999 /* a number was changed by a call that was refused, or is not the right one */
 
-/* An opening with 2 retries. How many places are used is no buffer, so it is looked at here. */
-#define WRONG_USED 999
-static size_t open_used(struct argument *r, size_t before)
+/* What is read into numbers, and what is there before. */
+#define BEFORE 0x5a5a
+static uint32_t flags, call;
+static uint64_t reason;
+static size_t length;
+
+static void before(void)
 {
-    size_t used = before;
-    size_t number = mschap_open(7, BUFFER(0), 2, 1, BUFFER(1), &used, COUNTS(2), BUFFER(3),
-                                BUFFER(4));
-    return used == before + (number == 0 ? 3 : 0) ? number : WRONG_USED;
+    flags = call = BEFORE;
+    reason = length = BEFORE;
 }
 
-static size_t md4(struct argument *r) { return mschap_md4(BUFFER(0), BUFFER(1)); }
-static size_t rc4(struct argument *r) { return mschap_rc4(BUFFER(0), BUFFER(1)); }
-static size_t des_encrypt(struct argument *r)
+/* Refused: the number is as it was. Else it is the right one. */
+static size_t checked(uint32_t number, uint64_t is, uint64_t right)
 {
-    return mschap_des_encrypt(BUFFER(0), BUFFER(1), BUFFER(2));
+    return is == (number == MSCHAP_OK ? right : BEFORE) ? number : WRONG;
 }
-static size_t des_decrypt(struct argument *r)
+
+static size_t version(struct argument *r) { (void)r; return mschap_version(); }
+static size_t make_password(struct argument *r)
 {
-    return mschap_des_decrypt(BUFFER(0), BUFFER(1), BUFFER(2));
+    return mschap_make_password(BUFFER(0), BUFFER(1));
+}
+static size_t make_password_utf16(struct argument *r)
+{
+    return mschap_make_password_utf16(BUFFER(0), BUFFER(1));
+}
+static size_t read_password(struct argument *r)
+{
+    before();
+    uint32_t number = mschap_read_password(BUFFER(0), BUFFER(1), &length);
+    return checked(number, length, 3);
 }
 static size_t nt_hash(struct argument *r) { return mschap_nt_hash(BUFFER(0), BUFFER(1)); }
 static size_t lm_hash(struct argument *r) { return mschap_lm_hash(BUFFER(0), BUFFER(1)); }
-static size_t challenge_response(struct argument *r)
+#define BOTH (MSCHAP_FOUND | MSCHAP_HAS_NT_HASH | MSCHAP_HAS_LM_HASH)
+static size_t make_record(struct argument *r)
 {
-    return mschap_challenge_response(BUFFER(0), BUFFER(1), BUFFER(2));
+    return mschap_make_record(BOTH, BUFFER(0), BUFFER(1), BUFFER(2));
 }
-static size_t opening(struct argument *r) { return open_used(r, 0); }
-static size_t opening_spent(struct argument *r) { return open_used(r, 1); }
+static size_t make_record_nt(struct argument *r)
+{
+    return mschap_make_record(MSCHAP_HAS_NT_HASH | MSCHAP_EXPIRED, BUFFER(0), NULL, 0, BUFFER(1));
+}
+static size_t make_record_bare(struct argument *r)
+{
+    return mschap_make_record(MSCHAP_FOUND, NULL, 0, NULL, 0, BUFFER(0));
+}
+static size_t make_record_bits(struct argument *r)
+{
+    return mschap_make_record(BOTH | 0x80, BUFFER(0), BUFFER(1), BUFFER(2));
+}
+static size_t read_record(struct argument *r)
+{
+    before();
+    uint32_t number = mschap_read_record(BUFFER(0), &flags, BUFFER(1), BUFFER(2));
+    return checked(number, flags, BOTH);
+}
+static size_t make_list(struct argument *r) { return mschap_make_list(BUFFER(0)); }
+static size_t list_used(struct argument *r) { return mschap_list_used(BUFFER(0)); }
+static size_t opening(struct argument *r)
+{
+    return mschap_open(7, MSCHAP_TERMS | MSCHAP_RETRIES(2) | MSCHAP_LM_ALLOWED, BUFFER(0),
+                       BUFFER(1), BUFFER(2), BUFFER(3));
+}
+static size_t opening_retries(struct argument *r)
+{
+    return mschap_open(7, MSCHAP_TERMS | MSCHAP_RETRIES(8), BUFFER(0), BUFFER(1), BUFFER(2),
+                       BUFFER(3));
+}
+static size_t opening_terms(struct argument *r)
+{
+    return mschap_open(7, MSCHAP_RETRIES(2), BUFFER(0), BUFFER(1), BUFFER(2), BUFFER(3));
+}
+static size_t opening_identifier(struct argument *r)
+{
+    return mschap_open(256, MSCHAP_TERMS, BUFFER(0), BUFFER(1), BUFFER(2), BUFFER(3));
+}
 static size_t step(struct argument *r)
 {
     return mschap_step(BUFFER(0), BUFFER(1), BUFFER(2), BUFFER(3), BUFFER(4));
 }
+static size_t answer_reason(struct argument *r) { return mschap_answer_reason(BUFFER(0)); }
+static size_t answer_record(struct argument *r)
+{
+    return mschap_answer_record(BUFFER(0), BUFFER(1));
+}
+static size_t awaits(struct argument *r) { return mschap_conversation_awaits(BUFFER(0)); }
+static size_t identifier(struct argument *r) { return mschap_conversation_identifier(BUFFER(0)); }
+static size_t retries(struct argument *r) { return mschap_conversation_retries(BUFFER(0)); }
+static size_t packet_length(struct argument *r) { return mschap_packet_length(BUFFER(0)); }
 static size_t account_offset(struct argument *r) { return mschap_account_offset(BUFFER(0)); }
 static size_t account_length(struct argument *r) { return mschap_account_length(BUFFER(0)); }
 static size_t domain_offset(struct argument *r) { return mschap_domain_offset(BUFFER(0)); }
@@ -60,7 +119,11 @@ static size_t read_challenge(struct argument *r)
 }
 static size_t read_reply(struct argument *r)
 {
-    return mschap_read_reply(BUFFER(0), BUFFER(1), BUFFER(2));
+    before();
+    uint32_t number = mschap_read_reply(BUFFER(0), BUFFER(1), &call, &reason);
+    if (checked(number, call, MSCHAP_CALL_RESPONSE) == WRONG)
+        return WRONG;
+    return checked(number, reason, MSCHAP_E_AUTHENTICATION_FAILURE);
 }
 static size_t write_response(struct argument *r)
 {
@@ -70,35 +133,47 @@ static size_t write_change(struct argument *r)
 {
     return mschap_write_change(BUFFER(0), BUFFER(1), BUFFER(2), BUFFER(3), BUFFER(4));
 }
+static size_t md4(struct argument *r) { return mschap_md4(BUFFER(0), BUFFER(1)); }
+static size_t rc4(struct argument *r) { return mschap_rc4(BUFFER(0), BUFFER(1)); }
+static size_t des_encrypt(struct argument *r) { return mschap_des_encrypt(BUFFER(0), BUFFER(1)); }
+static size_t des_decrypt(struct argument *r) { return mschap_des_decrypt(BUFFER(0), BUFFER(1)); }
+static size_t challenge_response(struct argument *r)
+{
+    return mschap_challenge_response(BUFFER(0), BUFFER(1), BUFFER(2));
+}
 
-/* what buffers hold, with a byte or a count more for the call that passes one more */
-static const uint8_t zeros[513];
-/* of no place, and of one that ends in 0 (the machine is little-endian) */
-static const uint8_t counts[2][257 * sizeof(uint16_t)] = {{0}, {1}};
-/* a conversation that awaits a Response with identifier 7 */
-static const uint8_t opened[51] = {2, 1, 7, 2};
+/* What buffers hold, with a byte more for the call that passes one more. The values begin with
+   their kind and version 1. */
+static const uint8_t zeros[517];
+static const uint8_t text[5] = {'a', 0xc3, 0xa4, 'b'}; /* a, a with two dots, b */
+static const uint8_t password[517] = {'W', 1, 0, 4, 'a', 0, 0xe4, 0};
+static const uint8_t unpaired[517] = {'W', 1, 0, 2, 0, 0xd8};
+static const uint8_t record[42] = {'R', 1, 1, 1, [20] = 1};
+static const uint8_t nobody[42] = {'R', 1};
+static const uint8_t none_used[29] = {'L', 1, 0, 0};
+static const uint8_t one_used[37] = {'L', 1, 0, 1}; /* by the challenge of bytes 0 */
+static const uint8_t opened[53] = {'C', 1, 2, 1, 7, 2}; /* it awaits a Response, identifier 7 */
+static const uint8_t failed[44] = {'A', 1, 691 >> 8, 691 & 255};
+static const uint8_t changed[44] = {'A', 1, 0, 0, 1};
+static const uint8_t peer[22] = {'P', 1, 1, 7, [12] = 8}; /* it sent a packet, identifier 7 */
 static const uint8_t response[63] = {2, 7, 0, 62, 49, [53] = 1, 'D', 'O', 'M', '\\', 'U', 's', 'e',
                                      'r'};
 static const uint8_t challenge[14] = {1, 7, 0, 13, 8};
-static const uint8_t success[5] = {3, 7, 0, 4};
-static const uint8_t peer[20] = {1, 7, [10] = 8}; /* it sent a packet with identifier 7 */
+static const uint8_t failure[18] = {4, 7, 0, 17, 'E', '=', '6', '9', '1', ' ', 'R', '=', '1', ' ',
+                                    'V', '=', '2'};
 #define FILL 0xa5 /* what is in a buffer that is only written */
 
-/* the answers for a buffer of a fixed size */
-#define FIXED MSCHAP_BAD_ARGUMENT, MSCHAP_BAD_ARGUMENT, MSCHAP_BAD_ARGUMENT
+#define BAD MSCHAP_BAD_ARGUMENT
+#define NOT MSCHAP_INVALID
+/* the answers for a buffer of a fixed size, and for a value that a function tells something of */
+#define FIXED BAD, BAD, BAD
+#define TOLD NOT, NOT, NOT
 
 struct buffer {
     const uint8_t *holds; /* NULL: bytes FILL */
-    size_t size; /* in bytes, or in counts */
+    size_t size;
     size_t null, less, more; /* the answers for NULL and 0, for one less and for one more */
 };
-
-/* How many bytes a buffer of such a size has. */
-static size_t bytes_of(const struct buffer *buffer, size_t size)
-{
-    return buffer->holds == counts[0] || buffer->holds == counts[1] ? size * sizeof(uint16_t)
-        : size;
-}
 
 static const struct function {
     const char *name;
@@ -106,55 +181,84 @@ static const struct function {
     size_t right, none; /* the answers for the right sizes, and for NULL and 0 in every buffer */
     struct buffer buffers[5];
 } functions[] = {
-    {"md4", md4, 0, 100, {{zeros, 3, 0, 0, 0}, {NULL, 16, FIXED}}},
-    {"rc4", rc4, 0, 8, {{zeros, 5, 8, 0, 0}, {NULL, 3, 0, 0, 0}}},
-    {"des_encrypt", des_encrypt, 0, 100, {{zeros, 7, FIXED}, {zeros, 8, FIXED}, {NULL, 8, FIXED}}},
-    {"des_decrypt", des_decrypt, 0, 100, {{zeros, 7, FIXED}, {zeros, 8, FIXED}, {NULL, 8, FIXED}}},
-    {"nt_hash", nt_hash, 0, 100, {{zeros, 2, 0, 8, 8}, {NULL, 16, FIXED}}},
-    {"lm_hash", lm_hash, 0, 100, {{zeros, 14, 0, 0, 8}, {NULL, 16, FIXED}}},
-    {"challenge_response", challenge_response, 0, 100,
-     {{zeros, 16, FIXED}, {zeros, 8, FIXED}, {NULL, 24, FIXED}}},
+    {"version", version, MSCHAP_VERSION, MSCHAP_VERSION, {{NULL, 0, 0, 0, 0}}},
+    {"make_password", make_password, 0, BAD, {{text, 3, 0, 101, 0}, {NULL, 516, FIXED}}},
+    {"make_password_utf16", make_password_utf16, 0, BAD, {{zeros, 2, 0, 8, 8}, {NULL, 516, FIXED}}},
+    {"read_password", read_password, 0, BAD, {{password, 516, FIXED}, {NULL, 3, 9, 9, 0}}},
+    {"read_password, a surrogate", read_password, 101, BAD,
+     {{unpaired, 516, FIXED}, {NULL, 3, 101, 101, 101}}},
+    {"nt_hash", nt_hash, 0, BAD, {{password, 516, FIXED}, {NULL, 16, FIXED}}},
+    {"lm_hash", lm_hash, 0, BAD, {{zeros, 14, 0, 0, 8}, {NULL, 16, FIXED}}},
+    {"make_record", make_record, 0, BAD,
+     {{zeros, 16, FIXED}, {zeros, 16, FIXED}, {NULL, 41, FIXED}}},
+    {"make_record, NT", make_record_nt, 0, BAD, {{zeros, 16, FIXED}, {NULL, 41, FIXED}}},
+    {"make_record, no hash", make_record_bare, 0, BAD, {{NULL, 41, FIXED}}},
+    {"make_record, other bits", make_record_bits, BAD, BAD,
+     {{zeros, 16, FIXED}, {zeros, 16, FIXED}, {NULL, 41, FIXED}}},
+    {"read_record", read_record, 0, BAD,
+     {{record, 41, FIXED}, {NULL, 16, FIXED}, {NULL, 16, FIXED}}},
+    {"make_list", make_list, 0, 24, {{NULL, 28, 24, 24, 24}}},
+    {"list_used", list_used, 1, NOT, {{one_used, 36, TOLD}}},
     /* no place used, and three to be used */
-    {"open", opening, 0, 100,
-     {{zeros, 8, FIXED}, {NULL, 24, 17, 24, 24}, {counts[0], 256, 24, 24, 24}, {NULL, 50, FIXED},
-     {NULL, 17, 2, 2, 0}}},
+    {"open", opening, 0, BAD,
+     {{zeros, 8, FIXED}, {none_used, 28, BAD, 24, 24}, {NULL, 52, FIXED}, {NULL, 17, 2, 2, 0}}},
     /* one place used, by the same challenge */
-    {"open, spent", opening_spent, 16, 100,
-     {{zeros, 8, FIXED}, {zeros, 32, 24, 24, 24}, {counts[1], 256, 24, 24, 24}, {NULL, 50, FIXED},
-     {NULL, 17, 2, 2, 16}}},
-    {"step", step, 0, 100,
-     {{opened, 50, FIXED}, {response, 62, 3, 3, 0}, {zeros, 39, FIXED}, {NULL, 17, 2, 2, 0},
-     {NULL, 39, FIXED}}},
+    {"open, spent", opening, 16, BAD,
+     {{zeros, 8, FIXED}, {one_used, 36, BAD, 24, 24}, {NULL, 52, FIXED}, {NULL, 17, 2, 2, 16}}},
+    {"open, 8 retries", opening_retries, 13, BAD,
+     {{zeros, 8, FIXED}, {none_used, 28, BAD, 13, 13}, {NULL, 52, FIXED}, {NULL, 17, 13, 13, 13}}},
+    {"open, no terms", opening_terms, BAD, BAD,
+     {{zeros, 8, FIXED}, {none_used, 28, FIXED}, {NULL, 52, FIXED}, {NULL, 17, FIXED}}},
+    {"open, identifier 256", opening_identifier, BAD, BAD,
+     {{zeros, 8, FIXED}, {none_used, 28, FIXED}, {NULL, 52, FIXED}, {NULL, 17, FIXED}}},
+    {"step", step, 0, BAD,
+     {{opened, 52, FIXED}, {response, 62, 3, 3, 0}, {nobody, 41, FIXED}, {NULL, 17, 2, 2, 0},
+     {NULL, 43, FIXED}}},
+    {"answer_reason", answer_reason, 691, NOT, {{failed, 43, TOLD}}},
+    {"answer_record", answer_record, 0, BAD, {{changed, 43, FIXED}, {NULL, 41, FIXED}}},
+    {"answer_record, none", answer_record, 102, BAD, {{failed, 43, FIXED}, {NULL, 41, FIXED}}},
+    {"conversation_awaits", awaits, 2, NOT, {{opened, 52, TOLD}}},
+    {"conversation_identifier", identifier, 7, NOT, {{opened, 52, TOLD}}},
+    {"conversation_retries", retries, 2, NOT, {{opened, 52, TOLD}}},
+    {"packet_length", packet_length, 62, 0, {{response, 62, 0, 0, 62}}},
     {"account_offset", account_offset, 58, 0, {{response, 62, 0, 0, 58}}},
     {"account_length", account_length, 4, 0, {{response, 62, 0, 0, 4}}},
     {"domain_offset", domain_offset, 54, 0, {{response, 62, 0, 0, 54}}},
     {"domain_length", domain_length, 3, 0, {{response, 62, 0, 0, 3}}},
-    {"read_challenge", read_challenge, 0, 100, {{challenge, 13, 3, 3, 0}, {NULL, 19, FIXED}}},
-    {"read_reply", read_reply, 0, 100,
-     {{peer, 19, FIXED}, {success, 4, 3, 3, 0}, {NULL, 35, FIXED}}},
+    {"read_challenge", read_challenge, 0, BAD, {{challenge, 13, 3, 3, 0}, {NULL, 21, FIXED}}},
+    {"read_reply", read_reply, 0, BAD, {{peer, 21, FIXED}, {failure, 17, 3, 3, 0}}},
     /* a name of one byte more has too little room */
-    {"write_response", write_response, 0, 100,
-     {{peer, 19, FIXED}, {zeros, 2, 0, 8, 8}, {zeros, 8, 10, 0, 9}, {NULL, 62, 9, 9, 0}}},
-    {"write_change", write_change, 0, 100,
-     {{peer, 19, FIXED}, {zeros, 2, 0, 8, 8}, {zeros, 2, 0, 8, 8}, {zeros, 512, 12, 12, 12},
+    {"write_response", write_response, 0, BAD,
+     {{peer, 21, FIXED}, {password, 516, FIXED}, {zeros, 8, 10, 0, 9}, {NULL, 62, 9, 9, 0}}},
+    {"write_change", write_change, 0, BAD,
+     {{peer, 21, FIXED}, {password, 516, FIXED}, {unpaired, 516, FIXED}, {zeros, 512, 12, 12, 12},
      {NULL, 1118, 9, 9, 0}}},
+    {"md4", md4, 0, BAD, {{zeros, 3, 0, 0, 0}, {NULL, 16, FIXED}}},
+    {"rc4", rc4, 0, 8, {{zeros, 5, 8, 0, 0}, {NULL, 3, 0, 0, 0}}},
+    {"des_encrypt", des_encrypt, 0, BAD, {{zeros, 7, FIXED}, {NULL, 8, FIXED}}},
+    {"des_decrypt", des_decrypt, 0, BAD, {{zeros, 7, FIXED}, {NULL, 8, FIXED}}},
+    {"challenge_response", challenge_response, 0, BAD,
+     {{zeros, 16, FIXED}, {zeros, 8, FIXED}, {NULL, 24, FIXED}}},
 };
 
-/* the digest or hash of no bytes */
+/* the digest or hash of no bytes, and of the password of no characters */
+static const uint8_t empty[516] = {'W', 1};
 static const struct known {
     const char *name;
     size_t (*call)(struct argument *);
+    const uint8_t *holds;
+    size_t size;
     uint8_t digest[16];
 } knowns[] = {
-    {"md4", md4,
+    {"md4", md4, NULL, 0,
      {0x31, 0xd6, 0xcf, 0xe0, 0xd1, 0x6a, 0xe9, 0x31, 0xb7, 0x3c, 0x59, 0xd7, 0xe0, 0xc0, 0x89,
-     0xc0}}, 
-    {"nt_hash", nt_hash,
+     0xc0}},
+    {"nt_hash", nt_hash, empty, sizeof empty,
      {0x31, 0xd6, 0xcf, 0xe0, 0xd1, 0x6a, 0xe9, 0x31, 0xb7, 0x3c, 0x59, 0xd7, 0xe0, 0xc0, 0x89,
-     0xc0}}, 
-    {"lm_hash", lm_hash,
+     0xc0}},
+    {"lm_hash", lm_hash, NULL, 0,
      {0xaa, 0xd3, 0xb4, 0x35, 0xb5, 0x14, 0x04, 0xee, 0xaa, 0xd3, 0xb4, 0x35, 0xb5, 0x14, 0x04,
-     0xee}}, 
+     0xee}},
 };
 
 static unsigned calls;
@@ -173,9 +277,9 @@ static void expect(const struct function *f, const size_t *sizes, size_t answer,
 
     for (i = 0; i < 5; i++) {
         r[i].size = sizes[i];
-        r[i].at = sizes[i] ? malloc(bytes_of(&f->buffers[i], sizes[i])) : NULL;
-        for (j = 0; j < bytes_of(&f->buffers[i], sizes[i]); j++)
-            r[i].at[j] = held(&f->buffers[i], j);
+        r[i].at = sizes[i] ? malloc(sizes[i]) : NULL;
+        for (j = 0; j < sizes[i]; j++)
+            ((uint8_t *)r[i].at)[j] = held(&f->buffers[i], j);
     }
     got = f->call(r);
     calls++;
@@ -185,8 +289,8 @@ static void expect(const struct function *f, const size_t *sizes, size_t answer,
         exit(1);
     }
     for (i = 0; i < 5; i++) {
-        for (j = 0; answer != 0 && j < bytes_of(&f->buffers[i], sizes[i]); j++)
-            if (r[i].at[j] != held(&f->buffers[i], j)) {
+        for (j = 0; answer != 0 && j < sizes[i]; j++)
+            if (((uint8_t *)r[i].at)[j] != held(&f->buffers[i], j)) {
                 printf("bad_lengths: %s, buffer %u, %s: buffer %u was changed\n", f->name, which,
                        what, (unsigned)i);
                 exit(1);
@@ -218,11 +322,16 @@ int main(void)
         }
     }
     for (k = 0; k < sizeof knowns / sizeof *knowns; k++) {
-        uint8_t digest[16] = {0};
+        uint8_t digest[16] = {0}, given[sizeof empty];
         struct argument r[2] = {{NULL, 0}, {digest, 16}};
+        if (knowns[k].size) {
+            memcpy(given, knowns[k].holds, knowns[k].size);
+            r[0].at = given;
+            r[0].size = knowns[k].size;
+        }
         calls++;
         if (knowns[k].call(r) != 0 || memcmp(digest, knowns[k].digest, 16) != 0) {
-            printf("bad_lengths: %s of no octets has another digest\n", knowns[k].name);
+            printf("bad_lengths: %s of nothing has another digest\n", knowns[k].name);
             return 1;
         }
     }

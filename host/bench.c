@@ -32,6 +32,14 @@
 #define FEW 8
 #define MESSAGE 256 /* bytes, the longest that is read */
 
+/* Where the layouts have what follows from call to call: to set it there takes no time that a
+   caller would not take. */
+#define IDENTIFIER 4 /* in a conversation */
+#define USED 2       /* in a list: two bytes, the most significant first */
+#define PLACES 4     /* in a list */
+#define SENT 2       /* in a peer: whether a packet was sent, and its identifier */
+#define CHARACTERS 4 /* in a password */
+
 /* What a batch works on. Every call takes its input from the output of the call before: so none can
    be dropped, no two can overlap, and one wrong byte shows in all that follows. */
 struct work {
@@ -43,13 +51,13 @@ struct work {
 
 /* A packet to be judged, with the conversation that awaits it. */
 struct judged {
-    uint8_t conversation[MSCHAP_CONVERSATION_SIZE];
+    mschap_conversation conversation;
     uint8_t packet[MSCHAP_CHANGE_PACKET];
     size_t size;
-    uint8_t record[MSCHAP_RECORD_SIZE];
+    mschap_record record;
     uint8_t code; /* of the reply that is expected */
     uint8_t reply[MSCHAP_REPLY_SIZE];
-    uint8_t updated[MSCHAP_RECORD_SIZE];
+    mschap_answer answer;
 };
 
 static struct judged response, wrong_response, unknown, change;
@@ -57,12 +65,11 @@ static struct judged response, wrong_response, unknown, change;
 /* An opening, with the list that is passed to it. */
 struct opening {
     uint8_t challenge[MSCHAP_CHALLENGE_SIZE];
-    uint8_t list[MSCHAP_LIST_PLACES * MSCHAP_CHALLENGE_SIZE];
+    uint8_t list[MSCHAP_LIST_SIZE(MSCHAP_LIST_PLACES)];
     size_t places; /* how many of them are passed */
     size_t used;
-    uint16_t counts[MSCHAP_COUNTS_SIZE];
     uint32_t answer; /* the one that is expected */
-    uint8_t conversation[MSCHAP_CONVERSATION_SIZE];
+    mschap_conversation conversation;
     uint8_t reply[MSCHAP_REPLY_SIZE];
 };
 
@@ -74,29 +81,30 @@ typedef void batch(struct work *w, long calls);
 
 static void our_md4(struct work *w, long calls)
 {
-    uint8_t digest[16];
+    mschap_digest digest;
     while (calls-- > 0) {
-        w->wrong |= mschap_md4(w->octets, LONGEST, digest, sizeof digest);
-        memcpy(w->octets, digest, sizeof digest);
+        w->wrong |= mschap_md4(w->octets, LONGEST, &digest, sizeof digest);
+        memcpy(w->octets, &digest, sizeof digest);
     }
 }
 
 static void our_des(struct work *w, long calls)
 {
-    uint8_t out[8];
     while (calls-- > 0) {
-        w->wrong |= mschap_des_encrypt(w->key, 7, w->challenge, 8, out, sizeof out);
-        memcpy(w->key, out + 1, 7);
-        memcpy(w->challenge, out, 8);
+        w->wrong |= mschap_des_encrypt(w->key, 7, w->challenge, 8);
+        memcpy(w->key, w->challenge + 1, 7);
     }
 }
 
 static void our_rc4(struct work *w, long calls)
 {
+    mschap_rc4_key key;
+    memcpy(&key, w->key, sizeof w->key);
     while (calls-- > 0) {
-        w->wrong |= mschap_rc4(w->key, sizeof w->key, w->octets, STREAM);
-        memcpy(w->key, w->octets, sizeof w->key);
+        w->wrong |= mschap_rc4(&key, sizeof w->key, w->octets, STREAM);
+        memcpy(&key, w->octets, sizeof w->key);
     }
+    memcpy(w->key, &key, sizeof w->key);
 }
 
 static void our_answer(struct work *w, long calls)
@@ -112,13 +120,18 @@ static void our_answer(struct work *w, long calls)
 
 static void our_hash_and_answer(struct work *w, long calls)
 {
-    uint8_t hash[16], out[24];
+    mschap_password password;
+    mschap_nthash hash;
+    uint8_t out[24];
+    w->wrong |= mschap_make_password_utf16(w->octets, PASSWORD, &password, sizeof password);
     while (calls-- > 0) {
-        w->wrong |= mschap_nt_hash(w->octets, PASSWORD, hash, sizeof hash);
-        w->wrong |= mschap_challenge_response(hash, sizeof hash, w->challenge, 8, out, sizeof out);
-        memcpy(w->octets, out, 16);
+        w->wrong |= mschap_nt_hash(&password, sizeof password, &hash, sizeof hash);
+        w->wrong |= mschap_challenge_response(hash.bytes, sizeof hash, w->challenge, 8, out,
+                                              sizeof out);
+        memcpy(password.bytes + CHARACTERS, out, 16);
         memcpy(w->challenge, out + 16, 8);
     }
+    memcpy(w->octets, password.bytes + CHARACTERS, 16);
 }
 
 /* A judged packet ends or changes its conversation, so each call starts from a copy. The identifier
@@ -126,13 +139,13 @@ static void our_hash_and_answer(struct work *w, long calls)
    verdict stays the same. */
 static void judge(struct judged *j, struct work *w, long calls)
 {
-    uint8_t conversation[MSCHAP_CONVERSATION_SIZE];
+    mschap_conversation conversation;
     while (calls-- > 0) {
-        memcpy(conversation, j->conversation, sizeof conversation);
-        conversation[2] = j->packet[1] = (uint8_t)(j->reply[1] + 1);
-        w->wrong |= mschap_step(conversation, sizeof conversation, j->packet, j->size, j->record,
-                                sizeof j->record,
-                                j->reply, sizeof j->reply, j->updated, sizeof j->updated);
+        conversation = j->conversation;
+        conversation.bytes[IDENTIFIER] = j->packet[1] = (uint8_t)(j->reply[1] + 1);
+        w->wrong |= mschap_step(&conversation, sizeof conversation, j->packet, j->size,
+                                &j->record, sizeof j->record, j->reply, sizeof j->reply,
+                                &j->answer, sizeof j->answer);
         w->wrong |= j->reply[0] != j->code;
     }
 }
@@ -157,21 +170,28 @@ static void our_change(struct work *w, long calls)
     judge(&change, w, calls);
 }
 
+static void set_used(uint8_t *list, size_t used)
+{
+    list[USED] = (uint8_t)(used >> 8);
+    list[USED + 1] = (uint8_t)used;
+}
+
 /* Every call finds as many used places as the first: what an accepted opening adds is taken back.
    Its identifier follows from the call before. */
 static void open_again(struct opening *o, struct work *w, long calls)
 {
     uint32_t answer = 0;
     while (calls-- > 0) {
-        size_t used = o->used;
-        answer = mschap_open((uint8_t)(o->reply[1] + 1 + answer), o->challenge, sizeof o->challenge,
-                             RETRIES, 1,
-                             o->list, o->places * MSCHAP_CHALLENGE_SIZE, &used, o->counts,
-                                 MSCHAP_COUNTS_SIZE,
-                             o->conversation, sizeof o->conversation, o->reply, sizeof o->reply);
+        size_t used;
+        answer = mschap_open((uint8_t)(o->reply[1] + 1 + answer),
+                             MSCHAP_TERMS | MSCHAP_RETRIES(RETRIES) | MSCHAP_LM_ALLOWED,
+                             o->challenge, sizeof o->challenge,
+                             o->list, MSCHAP_LIST_SIZE(o->places),
+                             &o->conversation, sizeof o->conversation, o->reply, sizeof o->reply);
+        used = (size_t)o->list[USED] * 256 + o->list[USED + 1];
         w->wrong |= answer != o->answer;
         w->wrong |= used != o->used + (answer == MSCHAP_OK ? SPENT : 0);
-        o->counts[o->challenge[7]] = (uint16_t)(o->counts[o->challenge[7]] - (used - o->used));
+        set_used(o->list, o->used);
     }
 }
 
@@ -210,16 +230,30 @@ static void open_few(struct work *w, long calls)
 static void read_failure(struct work *w, long calls)
 {
     static uint8_t packet[4 + MESSAGE] = {4, 7, (4 + MESSAGE) >> 8, (4 + MESSAGE) & 255};
-    uint8_t peer[MSCHAP_PEER_SIZE] = {1}, fields[MSCHAP_FIELDS_SIZE];
+    mschap_peer peer = {{'P', MSCHAP_LAYOUT_VERSION, 1}};
+    uint32_t call;
+    uint64_t reason = 0;
     for (size_t i = 0; i < MESSAGE; i++)
         packet[4 + i] = (uint8_t)"words "[i % 6];
     memcpy(packet + 4, "E=691 R=1 V=2 ", 14);
     while (calls-- > 0) {
-        peer[1] = packet[1];
-        w->wrong |= mschap_read_reply(peer, sizeof peer, packet, sizeof packet, fields,
-                                      sizeof fields);
-        w->wrong |= fields[8] != 691 >> 8;
-        packet[1] = (uint8_t)(packet[1] + fields[9]);
+        peer.bytes[SENT + 1] = packet[1];
+        w->wrong |= mschap_read_reply(&peer, sizeof peer, packet, sizeof packet, &call, &reason);
+        w->wrong |= reason >> 8 != 691 >> 8;
+        packet[1] = (uint8_t)(packet[1] + reason);
+    }
+}
+
+/* A text as people type it, with a letter of two bytes and a character of four; its first letter
+   follows from the password before. */
+static void make_password(struct work *w, long calls)
+{
+    uint8_t text[] = {'c', 'l', 'i', 'e', 'n', 't', 0xc3, 0xa4, 0xf0, 0x9f, 0x94, 0x91, 's'};
+    mschap_password password;
+    while (calls-- > 0) {
+        w->wrong |= mschap_make_password(text, sizeof text, &password, sizeof password);
+        w->wrong |= password.bytes[CHARACTERS] != text[0];
+        text[0] = (uint8_t)('a' + password.bytes[CHARACTERS] % 20);
     }
 }
 
@@ -332,6 +366,7 @@ static struct line {
     {.what = "opening, 4,093, all end alike", .run = {open_alike, NULL}},
     {.what = "opening, none of 8 used", .run = {open_few, NULL}},
     {.what = "message of 256 octets, read", .run = {read_failure, NULL}},
+    {.what = "password of 13 octets UTF-8", .run = {make_password, NULL}},
 };
 
 #define LINES (sizeof lines / sizeof lines[0])
@@ -396,26 +431,32 @@ static double median(double *ns)
    made. */
 static uint32_t prepare(const struct work *w)
 {
-    static const uint8_t password[PASSWORD] = {'c', 0, 'l', 0, 'i', 0, 'e', 0, 'n', 0, 't', 0, 'P',
-                                               0, 'a', 0, 's', 0, 's', 0};
-    static const uint8_t renewed[] = {'n', 0, 'e', 0, 'w', 0, 'e', 0, 'r', 0};
+    static const uint8_t text[] = "clientPass", renewed[] = "newer";
     static const uint8_t name[] = {'D', 'O', 'M', '\\', 'U', 's', 'e', 'r'};
-    uint8_t list[SPENT * MSCHAP_CHALLENGE_SIZE];
-    uint16_t counts[MSCHAP_COUNTS_SIZE] = {0};
-    size_t used = 0;
-    uint8_t peer[MSCHAP_PEER_SIZE], fields[MSCHAP_FIELDS_SIZE];
-    uint32_t wrong = 0;
+    static uint8_t list[MSCHAP_LIST_SIZE(SPENT)];
+    const uint32_t flags = MSCHAP_FOUND | MSCHAP_HAS_NT_HASH;
+    mschap_password password;
+    mschap_new_password next;
+    mschap_nthash hash;
+    mschap_peer peer;
+    uint32_t wrong = 0, call;
+    uint64_t reason;
 
-    response.record[0] = response.record[1] = 1; /* found, with an NT hash */
-    wrong |= mschap_nt_hash(password, sizeof password, response.record + 2, MSCHAP_HASH_SIZE);
-    wrong |= mschap_open(7, w->challenge, 8, RETRIES, 0, list, sizeof list, &used, counts,
-                         MSCHAP_COUNTS_SIZE,
-                         response.conversation, sizeof response.conversation, response.reply,
-                             sizeof response.reply);
-    wrong |= mschap_read_challenge(response.reply, sizeof response.reply, peer, sizeof peer);
-    wrong |= mschap_write_response(peer, sizeof peer, password, sizeof password, name, sizeof name,
-                                   response.packet, sizeof response.packet);
-    response.size = 54 + sizeof name;
+    wrong |= mschap_make_password(text, sizeof text - 1, &password, sizeof password);
+    wrong |= mschap_make_password(renewed, sizeof renewed - 1,
+                                  &next.password, sizeof next.password);
+    wrong |= mschap_nt_hash(&password, sizeof password, &hash, sizeof hash);
+    wrong |= mschap_make_record(flags, &hash, sizeof hash, NULL, 0, &response.record,
+                                sizeof response.record);
+    wrong |= mschap_make_list(list, sizeof list);
+    wrong |= mschap_open(7, MSCHAP_TERMS | MSCHAP_RETRIES(RETRIES) | MSCHAP_LM_REFUSED,
+                         w->challenge, 8, list, sizeof list,
+                         &response.conversation, sizeof response.conversation,
+                         response.reply, sizeof response.reply);
+    wrong |= mschap_read_challenge(response.reply, sizeof response.reply, &peer, sizeof peer);
+    wrong |= mschap_write_response(&peer, sizeof peer, &password, sizeof password,
+                                   name, sizeof name, response.packet, sizeof response.packet);
+    response.size = mschap_packet_length(response.packet, sizeof response.packet);
     response.code = 3;
 
     /* the same with a wrong NT response, and with no record */
@@ -423,22 +464,24 @@ static uint32_t prepare(const struct work *w)
     wrong_response.packet[29] ^= 1;
     wrong_response.code = 4;
     unknown = response;
-    memset(unknown.record, 0, sizeof unknown.record);
+    wrong |= mschap_make_record(0, NULL, 0, NULL, 0, &unknown.record, sizeof unknown.record);
     unknown.code = 4;
 
     /* the same Response where the password has expired: then a change is awaited */
     change = response;
-    change.record[38] = 1;
-    wrong |= mschap_step(change.conversation, sizeof change.conversation, response.packet,
-                         response.size, change.record, sizeof change.record,
-                         change.reply, sizeof change.reply, change.updated, sizeof change.updated);
-    wrong |= change.conversation[0] != 6;
-    wrong |= mschap_read_reply(peer, sizeof peer, change.reply, sizeof change.reply, fields,
-                               sizeof fields);
-    wrong |= mschap_write_change(peer, sizeof peer, password, sizeof password, renewed,
-                                 sizeof renewed,
-                                 w->octets, MSCHAP_FILLER_SIZE, change.packet,
-                                     sizeof change.packet);
+    wrong |= mschap_make_record(flags | MSCHAP_EXPIRED, &hash, sizeof hash, NULL, 0,
+                                &change.record, sizeof change.record);
+    wrong |= mschap_step(&change.conversation, sizeof change.conversation,
+                         response.packet, response.size, &change.record, sizeof change.record,
+                         change.reply, sizeof change.reply, &change.answer, sizeof change.answer);
+    wrong |= mschap_conversation_awaits(&change.conversation, sizeof change.conversation)
+             != MSCHAP_AWAITS_CHANGE;
+    wrong |= mschap_read_reply(&peer, sizeof peer, change.reply, sizeof change.reply, &call,
+                               &reason);
+    wrong |= call != MSCHAP_CALL_CHANGE;
+    wrong |= mschap_write_change(&peer, sizeof peer, &password, sizeof password, &next, sizeof next,
+                                 w->octets, MSCHAP_FILLER_SIZE,
+                                 change.packet, sizeof change.packet);
     change.size = sizeof change.packet;
     return wrong;
 }
@@ -450,14 +493,14 @@ static void fill(struct opening *o, const struct work *w, size_t places, size_t 
 {
     uint32_t x = 1994; /* not as in begin, where the challenge is from */
     memcpy(o->challenge, w->challenge, sizeof o->challenge);
-    for (size_t i = 0; i < sizeof o->list; i++) {
+    for (size_t i = 0; i < sizeof o->list - PLACES; i++) {
         x = x * 1664525 + 1013904223;
-        o->list[i] = one_end && i % 8 == 7 ? o->challenge[7] : (uint8_t)(x >> 24);
+        o->list[PLACES + i] = one_end && i % 8 == 7 ? o->challenge[7] : (uint8_t)(x >> 24);
     }
     o->places = places;
     o->used = used;
-    for (size_t i = 0; i < used; i++)
-        o->counts[o->list[8 * i + 7]]++;
+    mschap_make_list(o->list, MSCHAP_LIST_SIZE(places));
+    set_used(o->list, used);
     o->answer = answer;
 }
 

@@ -3,8 +3,8 @@
  * `NAME OCTETS` for each, the most over all inputs that are tried here. After that the same calls
  * are made on a stack of MSCHAP_STACK_SIZE bytes, and from a thread with the smallest stack that
  * there is: the program dies where that is too little. tests/stack.sh compiles and runs it, and
- * compares the lines with docs/PERFORMANCE.md. Exit status 1 where a call is not answered as it
- * should be.
+ * compares the lines with what the header says of each function. Exit status 1 where a call is not
+ * answered as it should be.
  *
  * A call is measured on a stack of its own that was painted: what is no longer paint was touched.
  * The same call is made to a function that does nothing too: what that touches is the caller's.
@@ -29,7 +29,7 @@
 /* ---- the arguments: each call works on a copy of them */
 
 #define BUFFERS 5
-#define LARGEST (MSCHAP_LIST_PLACES * MSCHAP_CHALLENGE_SIZE)
+#define LARGEST MSCHAP_LIST_SIZE(MSCHAP_LIST_PLACES)
 
 struct buffer {
     uint8_t octets[LARGEST];
@@ -37,9 +37,9 @@ struct buffer {
 };
 
 static struct buffer given[BUFFERS], passed[BUFFERS];
-static uint8_t retries, lm;
-static size_t given_used, used, counts_size;
-static uint16_t given_counts[MSCHAP_COUNTS_SIZE], counts[MSCHAP_COUNTS_SIZE];
+static uint32_t terms, flags, call;
+static uint64_t reason;
+static size_t length;
 static uint32_t drawn;
 
 static uint8_t draw(void)
@@ -62,8 +62,6 @@ static void copy_given(void)
         passed[i].size = given[i].size;
         memcpy(passed[i].octets, given[i].octets, given[i].size);
     }
-    used = given_used;
-    memcpy(counts, given_counts, sizeof counts);
 }
 
 /* ---- a function, with a call of it that takes the arguments and leaves its answer */
@@ -83,7 +81,7 @@ static void nothing(void)
 {
 }
 
-#define BUFFER(i) passed[i].octets, passed[i].size
+#define BUFFER(i) (void *)passed[i].octets, passed[i].size
 #define CALL(name, ...)                                    \
     static void call_##name(void)                          \
     {                                                      \
@@ -176,17 +174,17 @@ static void try(struct measured *m, size_t expected)
 
 /* ---- ciphers and hashes */
 
+CALL(mschap_version, )
 CALL(mschap_md4, BUFFER(0), BUFFER(1))
 CALL(mschap_rc4, BUFFER(0), BUFFER(1))
-CALL(mschap_des_encrypt, BUFFER(0), BUFFER(1), BUFFER(2))
-CALL(mschap_des_decrypt, BUFFER(0), BUFFER(1), BUFFER(2))
-CALL(mschap_nt_hash, BUFFER(0), BUFFER(1))
-CALL(mschap_lm_hash, BUFFER(0), BUFFER(1))
+CALL(mschap_des_encrypt, BUFFER(0), BUFFER(1))
+CALL(mschap_des_decrypt, BUFFER(0), BUFFER(1))
 CALL(mschap_challenge_response, BUFFER(0), BUFFER(1), BUFFER(2))
 
 static void try_ciphers(void)
 {
     static const size_t keys[] = {0, 1, 7, 16, 255, 256, 257}, streams[] = {0, 1, 516, 4096};
+    TRY(mschap_version, MSCHAP_VERSION);
     for (size_t n = 0; n <= 4097; n++) {
         give(0, n);
         give(1, MSCHAP_DIGEST_SIZE);
@@ -201,121 +199,248 @@ static void try_ciphers(void)
     for (int k = 0; k < DRAWN; k++) {
         give(0, MSCHAP_KEY_SIZE);
         give(1, MSCHAP_BLOCK_SIZE);
-        give(2, MSCHAP_BLOCK_SIZE);
         TRY(mschap_des_encrypt, MSCHAP_OK);
         TRY(mschap_des_decrypt, MSCHAP_OK);
-    }
-}
-
-static void try_hashes(void)
-{
-    for (size_t n = 0; n <= 514; n++) {
-        give(0, n);
-        give(1, MSCHAP_HASH_SIZE);
-        TRY(mschap_nt_hash, n % 2 || n > 512 ? MSCHAP_INPUT : MSCHAP_OK);
-        TRY(mschap_lm_hash, n > 14 ? MSCHAP_INPUT : MSCHAP_OK);
-    }
-    for (int k = 0; k < DRAWN; k++) {
         give(0, MSCHAP_HASH_SIZE);
-        give(1, MSCHAP_CHALLENGE_SIZE);
         give(2, MSCHAP_RESPONSE_SIZE);
         TRY(mschap_challenge_response, MSCHAP_OK);
     }
 }
 
-/* ---- openings */
+/* ---- passwords: a value has its kind, its version and its size, and bytes 0 behind its end */
 
-CALL(mschap_open, 7, BUFFER(0), retries, lm, BUFFER(1), &used, counts, counts_size, BUFFER(2),
-     BUFFER(3))
+CALL(mschap_make_password, BUFFER(0), BUFFER(1))
+CALL(mschap_make_password_utf16, BUFFER(0), BUFFER(1))
+CALL(mschap_read_password, BUFFER(0), BUFFER(1), &length)
+CALL(mschap_nt_hash, BUFFER(0), BUFFER(1))
+CALL(mschap_lm_hash, BUFFER(0), BUFFER(1))
 
-/* A list with so many places and so many of them used. Alike: all entries end as the challenge. */
-static void give_list(size_t places, size_t in_use, int alike)
+static uint8_t *give_password(int i, const uint8_t *characters, size_t size)
 {
-    const uint8_t *challenge = give(0, MSCHAP_CHALLENGE_SIZE);
-    uint8_t *list = give(1, places * MSCHAP_CHALLENGE_SIZE);
-    memset(given_counts, 0, sizeof given_counts);
-    for (size_t i = 0; i < in_use; i++) {
-        if (alike)
-            list[8 * i + 7] = challenge[7];
-        given_counts[list[8 * i + 7]]++;
-    }
-    given_used = in_use;
-    counts_size = MSCHAP_COUNTS_SIZE;
-    give(2, MSCHAP_CONVERSATION_SIZE);
-    give(3, MSCHAP_REPLY_SIZE);
+    uint8_t *password = give(i, MSCHAP_PASSWORD_SIZE);
+    memset(password, 0, MSCHAP_PASSWORD_SIZE);
+    password[0] = 'W';
+    password[1] = MSCHAP_LAYOUT_VERSION;
+    password[2] = (uint8_t)(size >> 8);
+    password[3] = (uint8_t)size;
+    memcpy(password + 4, characters, size);
+    return password;
 }
 
-static void try_opening(size_t places, size_t in_use, uint8_t r, int alike)
+/* A password of drawn bytes. */
+static uint8_t *give_drawn_password(int i, size_t size)
 {
-    size_t spent = r == 255 ? 3 : r + 1u, expected = MSCHAP_OK;
-    if (r > 7 && r < 255)
-        expected = MSCHAP_RETRIES;
-    else if (places - in_use < spent)
+    uint8_t characters[MSCHAP_NT_PASSWORD_MAX];
+    for (size_t k = 0; k < size; k++)
+        characters[k] = draw();
+    return give_password(i, characters, size);
+}
+
+/* A text of copies of a piece, and in the end perhaps another: what it is made of and read into. */
+static void try_text(const char *piece, size_t copies, const char *end, size_t expected)
+{
+    size_t size = strlen(piece) * copies;
+    give(0, size + strlen(end));
+    for (size_t k = 0; k < size; k++)
+        given[0].octets[k] = (uint8_t)piece[k % strlen(piece)];
+    memcpy(given[0].octets + size, end, strlen(end));
+    give(1, MSCHAP_PASSWORD_SIZE);
+    TRY(mschap_make_password, expected);
+    if (expected != MSCHAP_OK)
+        return;
+    memcpy(given[0].octets, passed[1].octets, MSCHAP_PASSWORD_SIZE);
+    given[0].size = MSCHAP_PASSWORD_SIZE;
+    size += strlen(end);
+    for (size_t room = size < 2 ? 0 : size - 2; room <= size + 2; room++) {
+        give(1, room);
+        TRY(mschap_read_password, room < size ? MSCHAP_ROOM : MSCHAP_OK);
+    }
+}
+
+static void try_passwords(void)
+{
+    /* of one to four bytes each, two characters of 16 bits in the last, and all of them in turn */
+    static const struct { const char *piece; size_t most; } pieces[] = {
+        {"a", 256}, {"\xc3\xa4", 256}, {"\xe2\x82\xac", 256}, {"\xf0\x9f\x94\x91", 128},
+        {"a\xc3\xa4\xe2\x82\xac\xf0\x9f\x94\x91", 51},
+    };
+    static const char *const malformed[] = {
+        "\x80", "\xc0\x80", "\xc3", "\xe2\x82", "\xe0\x80\x80", "\xed\xa0\x80", "\xf0\x9f\x94",
+        "\xf4\x90\x80\x80", "\xff", "\xf0\x9f\x94\xff",
+    };
+    for (size_t p = 0; p < LENGTH(pieces); p++)
+        for (size_t n = 0; n <= pieces[p].most; n++) {
+            try_text(pieces[p].piece, n, "", MSCHAP_OK);
+            for (size_t m = 0; m < LENGTH(malformed); m++)
+                try_text(pieces[p].piece, n, malformed[m], MSCHAP_MALFORMED);
+        }
+    for (size_t p = 0; p < LENGTH(pieces); p++) {
+        try_text(pieces[p].piece, 300, "", MSCHAP_INPUT);
+        try_text(pieces[p].piece, 2000, "", MSCHAP_INPUT);
+    }
+    for (size_t n = 0; n <= 514; n++) {
+        give(0, n);
+        give(1, MSCHAP_PASSWORD_SIZE);
+        TRY(mschap_make_password_utf16, n % 2 || n > 512 ? MSCHAP_INPUT : MSCHAP_OK);
+        give(1, MSCHAP_HASH_SIZE);
+        TRY(mschap_lm_hash, n > 14 ? MSCHAP_INPUT : MSCHAP_OK);
+        if (n > 512)
+            continue;
+        give_drawn_password(0, n);
+        TRY(mschap_nt_hash, n % 2 ? ANY : MSCHAP_OK);
+        give(1, MSCHAP_TEXT_MAX);
+        TRY(mschap_read_password, ANY);
+        give_drawn_password(0, n)[n < 512 ? 515 : 0] ^= 1; /* no value */
+        TRY(mschap_nt_hash, MSCHAP_BAD_ARGUMENT);
+        TRY(mschap_read_password, MSCHAP_BAD_ARGUMENT);
+    }
+}
+
+/* ---- records: kind, version, whether there is an account, and the account */
+
+#define FOUND 2
+#define NT 3
+#define LM 20
+#define FLAGS 37
+
+CALL(mschap_make_record, flags, BUFFER(0), BUFFER(1), BUFFER(2))
+CALL(mschap_read_record, BUFFER(0), &flags, BUFFER(1), BUFFER(2))
+
+static void try_records(void)
+{
+    for (uint32_t f = 0; f < 256; f++) {
+        give(0, f & MSCHAP_HAS_NT_HASH ? MSCHAP_HASH_SIZE : 0);
+        give(1, f & MSCHAP_HAS_LM_HASH ? MSCHAP_HASH_SIZE : 0);
+        give(2, MSCHAP_RECORD_SIZE);
+        flags = f;
+        TRY(mschap_make_record, f < 128 ? MSCHAP_OK : MSCHAP_BAD_ARGUMENT);
+        given[0] = passed[2];
+        if (f >= 128)
+            give(0, MSCHAP_RECORD_SIZE);
+        give(1, MSCHAP_HASH_SIZE);
+        give(2, MSCHAP_HASH_SIZE);
+        TRY(mschap_read_record, f < 128 ? MSCHAP_OK : ANY);
+    }
+}
+
+/* ---- openings */
+
+CALL(mschap_make_list, BUFFER(1))
+CALL(mschap_list_used, BUFFER(1))
+CALL(mschap_open, 7, terms, BUFFER(0), BUFFER(1), BUFFER(2), BUFFER(3))
+
+#define PLACES 4 /* where they begin in a list */
+
+/* A list with so many places and so many of them used. Alike: all entries end as the challenge. */
+static uint8_t *give_list(size_t places, size_t used, int alike)
+{
+    const uint8_t *challenge = give(0, MSCHAP_CHALLENGE_SIZE);
+    uint8_t *list = give(1, MSCHAP_LIST_SIZE(places));
+    list[0] = 'L';
+    list[1] = MSCHAP_LAYOUT_VERSION;
+    list[2] = (uint8_t)(used >> 8);
+    list[3] = (uint8_t)used;
+    for (size_t i = 0; alike && i < used; i++)
+        list[PLACES + 8 * i + 7] = challenge[7];
+    give(2, MSCHAP_CONVERSATION_SIZE);
+    give(3, MSCHAP_REPLY_SIZE);
+    return list;
+}
+
+static void try_opening(size_t places, size_t used, uint32_t chosen, size_t spent, int alike)
+{
+    size_t expected = MSCHAP_OK;
+    if (spent > 8)
+        expected = MSCHAP_RETRIES_RANGE;
+    else if (places - used < spent)
         expected = MSCHAP_LIST_FULL;
-    give_list(places, in_use, alike);
-    retries = r;
-    lm = (uint8_t)(alike ? 255 : in_use % 2);
+    give_list(places, used, alike);
+    terms = MSCHAP_TERMS | chosen;
+    if (!alike)
+        terms |= used % 2 ? MSCHAP_LM_ALLOWED : MSCHAP_LM_REFUSED;
     TRY(mschap_open, expected);
+    TRY(mschap_list_used, used);
+    TRY(mschap_make_list, MSCHAP_OK);
 }
 
 static void try_openings(void)
 {
     static const size_t places[] = {0, 1, 3, 8, 100, MSCHAP_LIST_PLACES};
-    static const size_t last = 8 * 3999; /* of a place */
+    static const size_t last = PLACES + 8 * 3999; /* of a place */
+    uint8_t *list;
     for (size_t p = 0; p < LENGTH(places); p++)
         for (size_t quarters = 0; quarters <= 4; quarters++)
             for (int alike = 0; alike < 2; alike++) {
-                for (uint8_t r = 0; r <= 8; r++)
-                    try_opening(places[p], places[p] * quarters / 4, r, alike);
-                try_opening(places[p], places[p] * quarters / 4, 255, alike);
+                size_t used = places[p] * quarters / 4;
+                for (uint32_t r = 0; r <= 8; r++)
+                    try_opening(places[p], used, MSCHAP_RETRIES(r), r + 1, alike);
+                try_opening(places[p], used, 0, 3, alike);
             }
     /* the last successor of the challenge is the last entry */
-    retries = 7;
-    give_list(MSCHAP_LIST_PLACES, 4000, 0);
-    given_counts[given[1].octets[last + 7]]--;
-    memcpy(given[1].octets + last, given[0].octets, MSCHAP_CHALLENGE_SIZE);
-    given[1].octets[last] = (uint8_t)(given[0].octets[0] + 7 * 23);
-    given_counts[given[1].octets[last + 7]]++;
+    terms = MSCHAP_TERMS | MSCHAP_RETRIES(7);
+    list = give_list(MSCHAP_LIST_PLACES, 4000, 0);
+    memcpy(list + last, given[0].octets, MSCHAP_CHALLENGE_SIZE);
+    list[last] = (uint8_t)(given[0].octets[0] + 7 * 23);
     TRY(mschap_open, MSCHAP_SPENT);
-    given_counts[0]++;
+    list[2] = 255; /* more places used than there are */
     TRY(mschap_open, MSCHAP_LIST);
+    TRY(mschap_list_used, MSCHAP_INVALID);
+    given[1].size--;
+    TRY(mschap_make_list, MSCHAP_LIST);
     given[3].size = MSCHAP_REPLY_SIZE - 1;
     TRY(mschap_open, MSCHAP_REPLY_ROOM);
-    given[2].size = 0;
+    list[0] = 0;
     TRY(mschap_open, MSCHAP_BAD_ARGUMENT);
+    TRY(mschap_list_used, MSCHAP_INVALID);
 }
 
-/* ---- steps: the arguments are conversation, packet, record, reply and the record updated out */
+/* ---- steps: the arguments are conversation, packet, record, reply and answer */
 
 CALL(mschap_step, BUFFER(0), BUFFER(1), BUFFER(2), BUFFER(3), BUFFER(4))
+CALL(mschap_answer_reason, BUFFER(0))
+CALL(mschap_answer_record, BUFFER(0), BUFFER(1))
+CALL(mschap_conversation_awaits, BUFFER(0))
+CALL(mschap_conversation_identifier, BUFFER(0))
+CALL(mschap_conversation_retries, BUFFER(0))
+CALL(mschap_packet_length, BUFFER(0))
 CALL(mschap_account_offset, BUFFER(0))
 CALL(mschap_account_length, BUFFER(0))
 CALL(mschap_domain_offset, BUFFER(0))
 CALL(mschap_domain_length, BUFFER(0))
 
-static const uint8_t password[] = {'C', 0, 'L', 0, 'I', 0, 'E', 0, 'N', 0, 'T', 0};
-static uint8_t nt[MSCHAP_HASH_SIZE], lan[MSCHAP_HASH_SIZE], challenge[MSCHAP_CHALLENGE_SIZE];
+static const uint8_t text[] = {'C', 'L', 'I', 'E', 'N', 'T'};
+static mschap_nthash nt;
+static mschap_lmhash lan;
+static uint8_t challenge[MSCHAP_CHALLENGE_SIZE];
+
+/* A conversation, behind its kind and version: the awaited code, LM, identifier, retries, the
+   challenge and the account that is kept, which is as in a record from NT on. */
+#define AWAITED 2
+#define LM_ALLOWED 3
+#define RETRIES 5
+#define CHALLENGE 6
+#define KEPT 14
 
 /* A conversation that awaits a packet of that code with identifier 7, LM allowed and 2 retries
    left, and a record with both hashes and no flag. */
 static void give_step(uint8_t code)
 {
+    const uint8_t front[] = {'C', MSCHAP_LAYOUT_VERSION, code, 1, 7, 2};
     uint8_t *conversation = give(0, MSCHAP_CONVERSATION_SIZE);
     uint8_t *record = give(2, MSCHAP_RECORD_SIZE);
     memset(record, 0, MSCHAP_RECORD_SIZE);
-    record[0] = record[1] = record[18] = 1;
-    memcpy(record + 2, nt, sizeof nt);
-    memcpy(record + 19, lan, sizeof lan);
+    record[0] = 'R';
+    record[1] = MSCHAP_LAYOUT_VERSION;
+    record[FOUND] = record[NT] = record[LM] = 1;
+    memcpy(record + NT + 1, &nt, sizeof nt);
+    memcpy(record + LM + 1, &lan, sizeof lan);
     memset(conversation, 0, MSCHAP_CONVERSATION_SIZE);
-    conversation[0] = code;
-    conversation[1] = 1;
-    conversation[2] = 7;
-    conversation[3] = 2;
-    memcpy(conversation + 4, challenge, sizeof challenge);
-    if (code == 6)
-        memcpy(conversation + 12, record + 1, MSCHAP_ACCOUNT_SIZE);
+    memcpy(conversation, front, sizeof front);
+    memcpy(conversation + CHALLENGE, challenge, sizeof challenge);
+    if (code == MSCHAP_AWAITS_CHANGE)
+        memcpy(conversation + KEPT, record + NT, MSCHAP_RECORD_SIZE - NT);
     give(3, MSCHAP_REPLY_SIZE);
-    give(4, MSCHAP_RECORD_SIZE);
+    give(4, MSCHAP_ANSWER_SIZE);
 }
 
 /* A step that is answered with a packet of that code. */
@@ -344,8 +469,8 @@ static uint8_t *give_response(int i, size_t n, size_t backslash)
 {
     uint8_t *packet = give_packet(i, 2, 54 + n);
     packet[4] = 49;
-    mschap_challenge_response(lan, sizeof lan, challenge, sizeof challenge, packet + 5, 24);
-    mschap_challenge_response(nt, sizeof nt, challenge, sizeof challenge, packet + 29, 24);
+    mschap_challenge_response(lan.bytes, sizeof lan, challenge, sizeof challenge, packet + 5, 24);
+    mschap_challenge_response(nt.bytes, sizeof nt, challenge, sizeof challenge, packet + 29, 24);
     packet[53] = 1;
     memset(packet + 54, 'u', n);
     if (backslash < n)
@@ -357,15 +482,21 @@ static uint8_t *give_response(int i, size_t n, size_t backslash)
 static uint8_t *give_change(size_t size, size_t told)
 {
     uint8_t *packet = give_packet(1, 6, MSCHAP_CHANGE_PACKET), *block = packet + 4;
-    uint8_t hash[MSCHAP_HASH_SIZE];
-    mschap_nt_hash(block + 512 - size, size, hash, sizeof hash);
+    mschap_password password;
+    mschap_nthash hash;
+    mschap_rc4_key key;
+    mschap_make_password_utf16(block + 512 - size, size, &password, sizeof password);
+    mschap_nt_hash(&password, sizeof password, &hash, sizeof hash);
     block[512] = (uint8_t)told;
     block[513] = (uint8_t)(told >> 8);
     block[514] = block[515] = 0;
-    mschap_rc4(nt, sizeof nt, block, 516);
-    mschap_des_encrypt(hash, 7, nt, 8, packet + 520, 8);
-    mschap_des_encrypt(hash + 7, 7, nt + 8, 8, packet + 528, 8);
-    mschap_challenge_response(hash, sizeof hash, challenge, sizeof challenge, packet + 1092, 24);
+    memcpy(&key, &nt, sizeof nt);
+    mschap_rc4(&key, sizeof nt, block, 516);
+    memcpy(packet + 520, &nt, sizeof nt);
+    mschap_des_encrypt(hash.bytes, 7, packet + 520, 8);
+    mschap_des_encrypt(hash.bytes + 7, 7, packet + 528, 8);
+    mschap_challenge_response(hash.bytes, sizeof hash, challenge, sizeof challenge,
+                              packet + 1092, 24);
     packet[1116] = 0;
     packet[1117] = 1;
     return packet;
@@ -377,19 +508,19 @@ static void try_judged(void)
         give_step(2);
         give_response(1, n, n / 2);
         try_step(3);
-        given[2].octets[38] = 1; /* the password has expired */
+        given[2].octets[FLAGS + 3] = 1; /* the password has expired */
         try_step(4);
         given[1].octets[29] ^= 1; /* the NT response is wrong */
         try_step(4);
         given[1].octets[53] = 0; /* the LM response counts */
         try_step(4);
-        given[2].octets[38] = 0;
+        given[2].octets[FLAGS + 3] = 0;
         try_step(3);
-        given[0].octets[1] = 0; /* but is not allowed */
+        given[0].octets[LM_ALLOWED] = 0; /* but is not allowed */
         try_step(4);
-        given[0].octets[3] = 0; /* no retry */
+        given[0].octets[RETRIES] = 0; /* no retry */
         try_step(4);
-        given[2].octets[0] = 0; /* no record */
+        given[2].octets[FOUND] = 0; /* no record */
         try_step(4);
     }
     for (size_t n = 0; n <= 512; n += 2) {
@@ -400,7 +531,7 @@ static void try_judged(void)
         try_step(4);
         give_change(n, n + 514);
         try_step(4);
-        given[0].octets[12] = 0; /* the kept record has no NT hash */
+        given[0].octets[KEPT] = 0; /* the kept record has no NT hash */
         try_step(4);
     }
     for (int k = 0; k < DRAWN; k++) { /* with a few other bytes, and other flags */
@@ -410,9 +541,50 @@ static void try_judged(void)
         packet = k % 2 ? give_response(1, n + 1, draw()) : give_change(2 * n, 2 * n);
         for (int others = draw() % 4; others > 0; others--)
             packet[(draw() * 256u + draw()) % given[1].size] = draw();
-        for (int flag = 35; flag < 39; flag++)
+        for (int flag = FLAGS; flag < MSCHAP_RECORD_SIZE; flag++)
             given[2].octets[flag] = draw() % 2;
         TRY(mschap_step, ANY);
+    }
+}
+
+/* What tells something of a conversation or an answer, in the place of the first buffer. */
+static void try_told(const struct buffer *value, int valid)
+{
+    given[0] = *value;
+    give(1, MSCHAP_RECORD_SIZE);
+    if (value->size == MSCHAP_ANSWER_SIZE) {
+        TRY(mschap_answer_reason, valid ? ANY : MSCHAP_INVALID);
+        TRY(mschap_answer_record, valid ? ANY : MSCHAP_BAD_ARGUMENT);
+        return;
+    }
+    TRY(mschap_conversation_awaits, valid ? ANY : MSCHAP_INVALID);
+    TRY(mschap_conversation_identifier, valid ? ANY : MSCHAP_INVALID);
+    TRY(mschap_conversation_retries, valid ? ANY : MSCHAP_INVALID);
+}
+
+/* The answers of a judged Response and of an accepted change, and both conversations; and these
+   with a byte that no value has. */
+static void try_values(void)
+{
+    static struct buffer values[4];
+    for (int change = 0; change < 2; change++) {
+        give_step(change ? MSCHAP_AWAITS_CHANGE : MSCHAP_AWAITS_RESPONSE);
+        if (change)
+            give_change(12, 12);
+        else
+            give_response(1, 8, 3);
+        TRY(mschap_step, MSCHAP_OK);
+        values[2 * change] = passed[0];
+        values[2 * change + 1] = passed[4];
+    }
+    for (size_t v = 0; v < LENGTH(values); v++) {
+        try_told(&values[v], 1);
+        values[v].octets[values[v].size - 1] = 2;
+        try_told(&values[v], 0);
+        values[v].octets[0] = 0;
+        try_told(&values[v], 0);
+        values[v].size--;
+        try_told(&values[v], 0);
     }
 }
 
@@ -431,9 +603,9 @@ static void try_refused(void)
     TRY(mschap_step, MSCHAP_FRAME);
     given[3].size = MSCHAP_REPLY_SIZE - 1;
     TRY(mschap_step, MSCHAP_REPLY_ROOM);
-    given[0].octets[0] = 0;
+    given[0].octets[AWAITED] = MSCHAP_AWAITS_NOTHING;
     TRY(mschap_step, MSCHAP_ENDED);
-    given[2].octets[0] = 2;
+    given[2].octets[FOUND] = 2;
     TRY(mschap_step, MSCHAP_BAD_ARGUMENT);
 }
 
@@ -443,6 +615,7 @@ static void try_names(void)
         for (size_t quarters = 0; quarters <= 4; quarters++) {
             size_t at = n * quarters / 4, account = at < n ? at + 1 : 0;
             give_response(0, n, at);
+            TRY(mschap_packet_length, 54 + n);
             TRY(mschap_account_offset, n > 256 ? 0 : 54 + account);
             TRY(mschap_account_length, n > 256 ? 0 : n - account);
             TRY(mschap_domain_offset, n > 256 || at == n ? 0 : 54);
@@ -452,11 +625,14 @@ static void try_names(void)
 
 static void try_steps(void)
 {
-    mschap_nt_hash(password, sizeof password, nt, sizeof nt);
-    mschap_lm_hash((const uint8_t *)"CLIENT", 6, lan, sizeof lan);
+    mschap_password password;
+    mschap_make_password(text, sizeof text, &password, sizeof password);
+    mschap_nt_hash(&password, sizeof password, &nt, sizeof nt);
+    mschap_lm_hash(text, sizeof text, &lan, sizeof lan);
     for (size_t i = 0; i < sizeof challenge; i++)
         challenge[i] = draw();
     try_judged();
+    try_values();
     try_refused();
     try_names();
 }
@@ -464,22 +640,20 @@ static void try_steps(void)
 /* ---- the peer: its functions are called by what stands from here to try_peer, and nowhere else */
 
 CALL(mschap_read_challenge, BUFFER(0), BUFFER(1))
-CALL(mschap_read_reply, BUFFER(2), BUFFER(0), BUFFER(1))
+CALL(mschap_read_reply, BUFFER(2), BUFFER(0), &call, &reason)
 CALL(mschap_write_response, BUFFER(0), BUFFER(1), BUFFER(2), BUFFER(3))
 CALL(mschap_write_change, BUFFER(0), BUFFER(1), BUFFER(2), BUFFER(3), BUFFER(4))
 
 /* It sent a packet with the identifier 7. */
 static void give_peer(size_t i)
 {
-    uint8_t *peer = give(i, MSCHAP_PEER_SIZE);
-    peer[0] = 1;
-    peer[1] = 7;
+    static const uint8_t front[] = {'P', MSCHAP_LAYOUT_VERSION, 1, 7};
+    memcpy(give(i, MSCHAP_PEER_SIZE), front, sizeof front);
 }
 
 static void try_reply(uint8_t code, const char *data, size_t size, size_t expected)
 {
     memcpy(give_packet(0, code, 4 + size) + 4, data, size);
-    give(1, MSCHAP_FIELDS_SIZE);
     give_peer(2);
     TRY(mschap_read_reply, expected);
 }
@@ -494,7 +668,7 @@ static void try_challenge(size_t size, size_t expected)
 static void try_write_response(size_t password_size, size_t name_size, size_t expected)
 {
     give_peer(0);
-    give(1, password_size);
+    give_drawn_password(1, password_size);
     give(2, name_size);
     give(3, MSCHAP_RESPONSE_PACKET);
     TRY(mschap_write_response, expected);
@@ -503,8 +677,8 @@ static void try_write_response(size_t password_size, size_t name_size, size_t ex
 static void try_write_change(size_t old_size, size_t new_size, size_t room, size_t expected)
 {
     give_peer(0);
-    give(1, old_size);
-    give(2, new_size);
+    give_drawn_password(1, old_size);
+    give_drawn_password(2, new_size);
     give(3, MSCHAP_FILLER_SIZE);
     give(4, room);
     TRY(mschap_write_change, expected);
@@ -516,10 +690,19 @@ static void try_peer(void)
         try_challenge(n, n < 9 ? MSCHAP_READING : MSCHAP_OK);
     for (size_t n = 0; n <= 256; n++) {
         try_write_response(2 * n, n, n == 0 ? MSCHAP_NAME : MSCHAP_OK);
-        try_write_response(2 * n + 1, 256, MSCHAP_INPUT);
+        given[3].size = 53;
+        TRY(mschap_write_response, n == 0 ? MSCHAP_NAME : MSCHAP_ROOM);
+        given[1].octets[1] = 0; /* no value */
+        TRY(mschap_write_response, MSCHAP_BAD_ARGUMENT);
         try_write_change(2 * n, 512 - 2 * n, MSCHAP_CHANGE_PACKET, MSCHAP_OK);
         try_write_change(512, 2 * n, MSCHAP_CHANGE_PACKET - 1, MSCHAP_ROOM);
-        try_write_change(2 * n, 2 * n + 1, MSCHAP_CHANGE_PACKET, MSCHAP_INPUT);
+        given[2].octets[1] = 0;
+        TRY(mschap_write_change, MSCHAP_BAD_ARGUMENT);
+    }
+    for (size_t n = 1; n < 512; n += 2) { /* an odd number of bytes, which no password here has */
+        try_write_response(n, 256, ANY);
+        try_write_change(n, 512, MSCHAP_CHANGE_PACKET, ANY);
+        try_write_change(512, n, MSCHAP_CHANGE_PACKET, ANY);
     }
 }
 
@@ -601,7 +784,8 @@ static void *try_all(void *unused)
 {
     drawn = 2433;
     try_ciphers();
-    try_hashes();
+    try_passwords();
+    try_records();
     try_openings();
     try_steps();
     try_peer();

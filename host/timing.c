@@ -13,28 +13,34 @@
 #define LM_RESPONSE 5
 #define NT_RESPONSE 29
 
-/* record, from the header's layout */
-#define FOUND 0
-#define NT 1
-#define LM 18
-#define FLAGS 35
+/* The layouts: this test sets single bytes, so that calls differ in nothing else. A value begins
+   with its kind and version; then a record has: */
+#define FOUND 2
+#define NT 3
+#define LM 20
+#define FLAGS 37
+#define ACCOUNT_SIZE 38 /* from NT on */
 
-/* conversation */
-#define LM_ALLOWED 1
-#define RETRIES 3
-#define CHALLENGE 4
+/* and a conversation: */
+#define AWAITED 2
+#define LM_ALLOWED 3
+#define IDENTIFIER 4
+#define RETRIES 5
+#define CHALLENGE 6
 
 /* Every call works on these same bytes, so that no call differs from another by alignment. */
-static uint8_t conversation[MSCHAP_CONVERSATION_SIZE];
-static uint8_t record[MSCHAP_RECORD_SIZE];
+static mschap_conversation talk;
+static mschap_record found;
+static uint8_t *const conversation = talk.bytes, *const record = found.bytes;
 static uint8_t packet[PACKET];
 static uint8_t reply[MSCHAP_REPLY_SIZE];
-static uint8_t updated[MSCHAP_RECORD_SIZE];
+static mschap_answer answer;
 
 /* A user with both hashes, and the right responses of each. */
 static const uint8_t challenge[MSCHAP_CHALLENGE_SIZE] =
     {0x10, 0x2d, 0xb5, 0xdf, 0x08, 0x5d, 0x30, 0x41};
-static uint8_t nt_hash[MSCHAP_HASH_SIZE], lm_hash[MSCHAP_HASH_SIZE];
+static mschap_nthash nt_hash;
+static mschap_lmhash lm_hash;
 static uint8_t nt_right[MSCHAP_RESPONSE_SIZE], lm_right[MSCHAP_RESPONSE_SIZE];
 
 static uint8_t retries;
@@ -44,36 +50,46 @@ static const uint8_t success[] = {3, 7, 0, 4};
 static const uint8_t again[] = "\4\7\0\21E=691 R=1 V=2";
 static const uint8_t no_more[] = "\4\7\0\21E=691 R=0 V=2";
 
+/* The record of no account, of bytes 0 behind its kind and version. */
+static void nobody(void)
+{
+    memset(&found, 0, sizeof found);
+    record[0] = 'R';
+    record[1] = MSCHAP_LAYOUT_VERSION;
+}
+
 /* A record that was found, with both hashes; a packet with both responses right, which is judged
    by the NT one; LM is allowed. Each way changes a part of this. */
 static void rightful(void)
 {
     static const uint8_t head[] = {2, 7, 0, PACKET, 49};
     static const uint8_t name[] = {'D', 'O', 'M', '\\', 'U', 's', 'e', 'r'};
-    memset(conversation, 0, sizeof conversation);
-    conversation[0] = 2; /* a Response is awaited */
+    memset(&talk, 0, sizeof talk);
+    conversation[0] = 'C';
+    conversation[1] = MSCHAP_LAYOUT_VERSION;
+    conversation[AWAITED] = MSCHAP_AWAITS_RESPONSE;
     conversation[LM_ALLOWED] = 1;
-    conversation[2] = 7;
+    conversation[IDENTIFIER] = 7;
     conversation[RETRIES] = retries;
     memcpy(conversation + CHALLENGE, challenge, sizeof challenge);
-    memset(record, 0, sizeof record);
+    nobody();
     record[FOUND] = record[NT] = record[LM] = 1;
-    memcpy(record + NT + 1, nt_hash, sizeof nt_hash);
-    memcpy(record + LM + 1, lm_hash, sizeof lm_hash);
+    memcpy(record + NT + 1, &nt_hash, sizeof nt_hash);
+    memcpy(record + LM + 1, &lm_hash, sizeof lm_hash);
     memcpy(packet, head, sizeof head);
     memcpy(packet + LM_RESPONSE, lm_right, sizeof lm_right);
     memcpy(packet + NT_RESPONSE, nt_right, sizeof nt_right);
     packet[FLAG] = 1;
     memcpy(packet + 54, name, sizeof name);
     memset(reply, 0, sizeof reply);
-    memset(updated, 0, sizeof updated);
+    memset(&answer, 0, sizeof answer);
 }
 
 static void judged(const char *way, const char *group, const uint8_t *expected, size_t size)
 {
-    uint32_t number = mschap_step(conversation, sizeof conversation, packet, sizeof packet,
-                                  record, sizeof record, reply, sizeof reply,
-                                  updated, sizeof updated);
+    uint32_t number = mschap_step(&talk, sizeof talk, packet, sizeof packet,
+                                  &found, sizeof found, reply, sizeof reply,
+                                  &answer, sizeof answer);
     if (number != MSCHAP_OK || memcmp(reply, expected, size) != 0) {
         fprintf(stderr, "timing: %s: another reply than %s\n", way, group);
         failed = 1;
@@ -132,9 +148,9 @@ static void all_ways(void)
     packet[LM_RESPONSE] ^= 1;
     invalid("a wrong LM response, flag 1 and no NT hash");
 
-    memset(record, 0, sizeof record);
+    nobody();
     invalid("no record, octets 0");
-    memset(record, 0, sizeof record);
+    nobody();
     packet[FLAG] = 0;
     invalid("no record, octets 0, flag 0");
     record[FOUND] = 0;
@@ -147,9 +163,9 @@ static void all_ways(void)
     conversation[LM_ALLOWED] = 0;
     invalid("no record, an account's octets, every flag set, LM off");
 
-    memset(record + NT, 0, MSCHAP_ACCOUNT_SIZE);
+    memset(record + NT, 0, ACCOUNT_SIZE);
     invalid("no hash, octets 0, flag 1");
-    memset(record + NT, 0, MSCHAP_ACCOUNT_SIZE);
+    memset(record + NT, 0, ACCOUNT_SIZE);
     packet[FLAG] = 0;
     invalid("no hash, octets 0, flag 0");
     without(NT);
@@ -177,16 +193,17 @@ static void all_ways(void)
 
 int main(void)
 {
-    static const uint8_t nt_password[] = {'M', 0, 'y', 0, 'P', 0, 'w', 0};
-    static const uint8_t lm_password[] = {'M', 'y', 'P', 'w'};
+    static const uint8_t text[] = {'M', 'y', 'P', 'w'};
     static const uint8_t tries[] = {2, 1, 0}; /* retries left: the first try to the last */
+    mschap_password password;
     size_t i;
 
-    failed |= mschap_nt_hash(nt_password, sizeof nt_password, nt_hash, sizeof nt_hash) != MSCHAP_OK;
-    failed |= mschap_lm_hash(lm_password, sizeof lm_password, lm_hash, sizeof lm_hash) != MSCHAP_OK;
-    failed |= mschap_challenge_response(nt_hash, sizeof nt_hash, challenge, sizeof challenge,
+    failed |= mschap_make_password(text, sizeof text, &password, sizeof password) != MSCHAP_OK;
+    failed |= mschap_nt_hash(&password, sizeof password, &nt_hash, sizeof nt_hash) != MSCHAP_OK;
+    failed |= mschap_lm_hash(text, sizeof text, &lm_hash, sizeof lm_hash) != MSCHAP_OK;
+    failed |= mschap_challenge_response(nt_hash.bytes, sizeof nt_hash, challenge, sizeof challenge,
                                         nt_right, sizeof nt_right) != MSCHAP_OK;
-    failed |= mschap_challenge_response(lm_hash, sizeof lm_hash, challenge, sizeof challenge,
+    failed |= mschap_challenge_response(lm_hash.bytes, sizeof lm_hash, challenge, sizeof challenge,
                                         lm_right, sizeof lm_right) != MSCHAP_OK;
     for (i = 0; i < sizeof tries; i++) {
         retries = tries[i];

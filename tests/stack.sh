@@ -1,12 +1,12 @@
 #!/bin/sh
 # The stack of every function of the header: host/stack.c measures it on the worst inputs, and makes
-# the same calls where there is little of it. What was measured is held to the table in
-# docs/PERFORMANCE.md, "Stack", which has a row for each function, and so is what the header tells a
-# caller to provide. Run in the repository, once `rt staticlib mschap` has written the archive.
+# the same calls where there is little of it. The comment of each function ends in "Stack: N bytes.":
+# what was measured is at most N, and at most 64 less, so that N is true; and it is held to what the
+# header tells a caller to provide. Run in the repository, once `rt staticlib mschap` has written
+# the archive. With the argument `measured` it prints what was measured, and compares nothing.
 set -eu
 archive=target/staticlib/libmschap.a
 header=host/include/mschap.h
-table=docs/PERFORMANCE.md
 program=target/host-stack
 
 # -z now: else the loader binds memcpy and memset at their first call, on the stack that is
@@ -18,31 +18,47 @@ ${CC:-cc} -O2 -Wall -Wextra -Werror -std=c99 -pedantic -I host/include host/stac
     cat "$program.measured"
     exit 1
 }
-sed -nE 's/^(uint32_t|size_t) (mschap_[a-z0-9_]+)\(.*/\2/p' "$header" > "$program.header"
-sed -n '/^## Stack$/,/^## /p' "$table" | tr -d ',`' \
-    | sed -nE 's/^\| (mschap_[a-z0-9_]+) \| ([0-9]+) \|$/\1 \2/p' > "$program.rows"
+if [ "${1:-}" = measured ]; then
+    cat "$program.measured"
+    exit 0
+fi
+
+# A line `NAME N` for each function; N is - if the last line of its comment does not say it.
+awk '
+    /^\/\*/ || /^   / || /^ \*/ { said = "-" }
+    match($0, /Stack: [0-9,]+ bytes\. \*\/$/) {
+        said = substr($0, RSTART + 7, RLENGTH - 17)
+        gsub(",", "", said)
+    }
+    /^(uint32_t|size_t) mschap_[a-z0-9_]+\(/ {
+        sub(/\(.*/, "", $2)
+        print $2, said
+        said = "-"
+    }
+' "$header" > "$program.header"
 provided=$(sed -nE 's/^#define MSCHAP_STACK_SIZE ([0-9]+).*/\1/p' "$header")
 
 # At least 4 KiB of what a caller is told to provide are left for others than the library.
-awk -v provided="$provided" -v table="$table" '
+awk -v provided="$provided" '
     function fail(words) { print "stack: " words; failed = 1 }
-    FILENAME ~ /\.header$/ { known[$1] = 1; next }
-    FILENAME ~ /\.rows$/ { if ($1 in row) fail($1 " has two rows in " table); row[$1] = $2; next }
+    FILENAME ~ /\.header$/ { said[$1] = $2; next }
     { measured[$1] = $2 }
     END {
-        for (f in known) {
+        for (f in said) {
             n++
-            if (!(f in measured)) fail("host/stack.c does not measure " f)
-            else if (!(f in row)) fail(f " has no row in " table)
-            else if (measured[f] > row[f])
-                fail(f " takes " measured[f] " octets, and " table " allows " row[f])
+            if (!(f in measured))
+                fail("host/stack.c does not measure " f)
+            else if (said[f] == "-")
+                fail("the comment of " f " does not end in its stack; measured: " measured[f])
+            else if (measured[f] > said[f] || measured[f] + 64 < said[f])
+                fail(f " takes " measured[f] " bytes, and its comment says " said[f])
+            if (said[f] + 0 > most)
+                most = said[f] + 0
         }
-        for (f in row) {
-            if (!(f in known)) fail("the row " f " of " table " names no function of the header")
-            if (row[f] > most) most = row[f]
-        }
+        if (n < 31)
+            fail("only " n + 0 " functions were found in the header")
         if (provided < most + 4096)
             fail("MSCHAP_STACK_SIZE is " provided ", and " most " and 4 KiB are needed")
-        if (!failed) print "stack: " n " functions within their rows; the most is " most " octets"
+        if (!failed) print "stack: " n " functions as their comments say; the most is " most " bytes"
         exit failed
-    }' "$program.header" "$program.rows" "$program.measured"
+    }' "$program.header" "$program.measured"
