@@ -2,8 +2,12 @@
 #             from nothing, showfail's cases, and the library as C and Rust link it
 # make demo   a box and a peer talk: each packet as a line, with what it means
 # make bench  times of the library, next to OpenSSL's where its headers are installed
+# make lib    the library for C below target/mschap: archive, shared library, header, mschap.pc
+# make install PREFIX=/usr/local DESTDIR=    copies what `make lib` wrote
 
-.PHONY: test demo bench layout reference showfail host expected
+.PHONY: test demo bench layout reference showfail lib install host expected
+
+PREFIX = /usr/local
 
 test: layout reference
 	sh tests/gate.sh
@@ -36,11 +40,29 @@ showfail:
 	rt check showfail
 	sh tests/showfail.sh target/bin/showfail
 
-# The archive for C: the example, bad lengths, the stack of each function, what the time of a step
-# tells, and through the Rust wrapper the comparison with the independent program.
-host:
+lib:
 	rt staticlib mschap
+	sh host/lib.sh
+
+# Proves and compiles nothing, so that it may run as another user than `make lib`.
+install:
+	@test -f target/mschap/lib/libmschap.a || { echo 'install: run make lib first'; exit 1; }
+	install -d "$(DESTDIR)$(PREFIX)/include" "$(DESTDIR)$(PREFIX)/lib/pkgconfig"
+	install -m 644 target/mschap/include/mschap.h "$(DESTDIR)$(PREFIX)/include"
+	install -m 644 target/mschap/lib/libmschap.a "$(DESTDIR)$(PREFIX)/lib"
+	install -m 755 target/mschap/lib/libmschap.so.* "$(DESTDIR)$(PREFIX)/lib"
+	cp -Pf target/mschap/lib/libmschap.so "$(DESTDIR)$(PREFIX)/lib"
+	sed 's|^prefix=.*|prefix=$(PREFIX)|' target/mschap/lib/pkgconfig/mschap.pc \
+	    > "$(DESTDIR)$(PREFIX)/lib/pkgconfig/mschap.pc"
+
+# The library for C: bad lengths, exchanged arguments, the examples, a copy that is installed, the
+# stack of each function, what the time of a step tells, and through the Rust wrapper the comparison
+# with the independent program.
+host: lib
 	sh tests/host.sh
+	sh tests/exchange.sh
+	sh tests/examples.sh
+	sh tests/install.sh
 	sh tests/stack.sh
 	sh tests/timing.sh
 	cargo test --quiet --release --offline --manifest-path host/rust/Cargo.toml

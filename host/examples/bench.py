@@ -1,0 +1,227 @@
+#!/usr/bin/env python3
+"""MS-CHAP version 1 on a bench: both ends in one program, to be watched and changed.
+
+    bench.py [LIBRARY]
+
+An authenticator challenges, and a peer answers with a mistyped password, then with the right one,
+which has expired, and changes it; then both talk again with the new password. Each packet is
+printed with what it means. LIBRARY is libmschap.so; without it, the one beside this script or in
+../lib. Nothing but the standard library of Python 3 is needed.
+
+Change it and see: try a password of your own, allow no retry (RETRIES), send a packet twice.
+"""
+import ctypes
+import os
+import secrets
+import struct
+import sys
+
+# From mschap.h; the sizes are bytes.
+MSCHAP_OK = 0
+MSCHAP_SUCCESS = 0
+MSCHAP_AWAITS_NOTHING = 0
+MSCHAP_CALL_NONE = 0
+MSCHAP_CALL_RESPONSE = 1
+MSCHAP_CALL_CHANGE = 2
+MSCHAP_FOUND = 0x01
+MSCHAP_HAS_NT_HASH = 0x02
+MSCHAP_EXPIRED = 0x40
+MSCHAP_TERMS = 0x10000
+MSCHAP_LM_REFUSED = 0x200
+MSCHAP_HASH_SIZE = 16
+MSCHAP_CHALLENGE_SIZE = 8
+MSCHAP_FILLER_SIZE = 512
+MSCHAP_RECORD_SIZE = 41
+MSCHAP_CONVERSATION_SIZE = 52
+MSCHAP_ANSWER_SIZE = 43
+MSCHAP_PEER_SIZE = 21
+MSCHAP_PASSWORD_SIZE = 516
+MSCHAP_REPLY_SIZE = 17
+MSCHAP_CHANGE_PACKET = 1118
+
+RETRIES = 2
+NAME = 'DOM\\Jürgen'.encode()
+
+REASONS = {
+    MSCHAP_SUCCESS: 'Success',
+    646: 'the hours do not allow a logon',
+    647: 'the account is disabled',
+    648: 'the password has expired',
+    649: 'no permission to dial in',
+    691: 'wrong name or password',
+    709: 'the change of the password is not accepted',
+}
+
+
+def load():
+    """The library that was named, or the one that lies beside this script."""
+    here = os.path.dirname(os.path.abspath(__file__))
+    beside = [os.path.join(here, place, 'libmschap.so') for place in ('.', '../lib', '../../lib')]
+    for path in sys.argv[1:] or beside:
+        if os.path.exists(path):
+            return ctypes.CDLL(os.path.abspath(path))
+    sys.exit('bench.py: no libmschap.so; pass its path')
+
+
+def argument(value):
+    """How C takes it: a buffer with its size, a number whose address is passed, or a number."""
+    if isinstance(value, bytes):
+        return [value, ctypes.c_size_t(len(value))]
+    if isinstance(value, ctypes.Array):
+        return [value, ctypes.c_size_t(len(value))]
+    if isinstance(value, int):
+        return [ctypes.c_uint32(value)]
+    return [ctypes.byref(value)]
+
+
+def call(name, *values):
+    """Calls mschap_NAME, and gives what it returns."""
+    function = getattr(LIBRARY, 'mschap_' + name)
+    function.restype = ctypes.c_size_t if name.endswith(('_length', '_offset')) else ctypes.c_uint32
+    return function(*[part for value in values for part in argument(value)])
+
+
+def must(name, *values):
+    number = call(name, *values)
+    if number != MSCHAP_OK:
+        sys.exit(f'bench.py: mschap_{name} refuses with {number}')
+
+
+def room(size):
+    return ctypes.create_string_buffer(size)
+
+
+def packet_in(buffer):
+    """The packet at the front of a buffer, which ends at its own Length."""
+    return buffer.raw[:call('packet_length', buffer)]
+
+
+def password_of(text):
+    password = room(MSCHAP_PASSWORD_SIZE)
+    must('make_password', text.encode(), password)
+    return password
+
+
+def meaning(packet):
+    """What a packet says, by RFC 2433: code, identifier, Length and, behind them, its data."""
+    code, identifier, length = struct.unpack('>BBH', packet[:4])
+    data = packet[4:]
+    head = f'identifier {identifier}, {length} bytes'
+    if code == 1:
+        return f'Challenge, {head}: {data[1:1 + data[0]].hex(" ")}'
+    if code == 2:
+        lm, nt, flag, name = struct.unpack(f'x24s24sB{len(data) - 50}s', data)
+        by = 'NT' if flag else 'LM'
+        return f'Response, {head}: by {by} {(nt if flag else lm).hex()}, name {name.decode()}'
+    if code == 3:
+        return f'Success, {head}'
+    if code == 4:
+        reason = int(data.split()[0].split(b'=')[1])
+        return f'Failure, {head}: "{data.decode()}", {REASONS.get(reason, "unknown")}'
+    return f'change of the password, {head}: the new password under the old hash, and back'
+
+
+def show(who, packet):
+    shown = packet[:96]
+    print(f'{who:14} {meaning(packet)}')
+    for start in range(0, len(shown), 16):
+        print(f'{"":14}   {shown[start:start + 16].hex(" ")}')
+    if shown != packet:
+        print(f'{"":14}   .. and {len(packet) - len(shown)} bytes more')
+
+
+class Authenticator:
+    """It knows one account, and keeps the list of the challenges that it has issued."""
+
+    def __init__(self, password):
+        digest = room(MSCHAP_HASH_SIZE)
+        must('nt_hash', password, digest)
+        self.record = room(MSCHAP_RECORD_SIZE)
+        flags = MSCHAP_FOUND | MSCHAP_HAS_NT_HASH | MSCHAP_EXPIRED
+        must('make_record', flags, digest, b'', self.record)
+        self.issued = room(4 + 8 * 300)  # MSCHAP_LIST_SIZE(300)
+        must('make_list', self.issued)
+
+    def open(self):
+        self.talk = room(MSCHAP_CONVERSATION_SIZE)
+        reply = room(MSCHAP_REPLY_SIZE)
+        terms = MSCHAP_TERMS | (RETRIES + 1) | MSCHAP_LM_REFUSED  # MSCHAP_RETRIES(RETRIES)
+        identifier = secrets.randbelow(256)
+        challenge = secrets.token_bytes(MSCHAP_CHALLENGE_SIZE)
+        must('open', identifier, terms, challenge, self.issued, self.talk, reply)
+        show('authenticator', packet_in(reply))
+        return packet_in(reply)
+
+    def judge(self, packet):
+        reply, answer = room(MSCHAP_REPLY_SIZE), room(MSCHAP_ANSWER_SIZE)
+        number = call('step', self.talk, packet, self.record, reply, answer)
+        if number != MSCHAP_OK:
+            print(f'authenticator  refuses the packet with {number}: no reply, nothing has changed')
+            return None
+        show('authenticator', packet_in(reply))
+        if call('answer_record', answer, self.record) == MSCHAP_OK:
+            print('authenticator  stores the account with its new password')
+        if call('conversation_awaits', self.talk) == MSCHAP_AWAITS_NOTHING:
+            print(f'authenticator  is done: {REASONS[call("answer_reason", answer)]}')
+        return packet_in(reply)
+
+
+class Peer:
+    def __init__(self, challenge):
+        self.peer = room(MSCHAP_PEER_SIZE)
+        must('read_challenge', challenge, self.peer)
+
+    def respond(self, password):
+        out = room(MSCHAP_CHANGE_PACKET)
+        must('write_response', self.peer, password, NAME, out)
+        show('peer', packet_in(out))
+        return packet_in(out)
+
+    def change(self, old, new):
+        out = room(MSCHAP_CHANGE_PACKET)
+        must('write_change', self.peer, old, new, secrets.token_bytes(MSCHAP_FILLER_SIZE), out)
+        show('peer', packet_in(out))
+        return packet_in(out)
+
+    def read(self, reply):
+        calls_for, reason = ctypes.c_uint32(), ctypes.c_uint64()
+        must('read_reply', self.peer, reply, calls_for, reason)
+        return calls_for.value
+
+
+def converse(authenticator, tries, new):
+    """A peer answers with each password in turn, and changes one that has expired."""
+    peer = Peer(authenticator.open())
+    for text in tries:
+        print(f'peer           answers with the password "{text}"')
+        old = password_of(text)
+        response = peer.respond(old)
+        calls_for = peer.read(authenticator.judge(response))
+        if calls_for != MSCHAP_CALL_RESPONSE:
+            break
+    if calls_for == MSCHAP_CALL_CHANGE:
+        authenticator.judge(response)  # the same once more: refused
+        print(f'peer           changes the password to "{new}"')
+        calls_for = peer.read(authenticator.judge(peer.change(old, password_of(new))))
+    print('peer          ', 'is in' if calls_for == MSCHAP_CALL_NONE else 'is not let in')
+    return calls_for == MSCHAP_CALL_NONE
+
+
+def main():
+    version = call('version')
+    print(f'libmschap {version >> 16}.{version >> 8 & 255}.{version & 255}')
+    authenticator = Authenticator(password_of('Grün 1'))
+    print('\n-- a mistyped password, then the right one, which has expired')
+    first = converse(authenticator, ['grün 1', 'Grün 1'], 'Blau 🔑')
+    print('\n-- again, with the new password')
+    second = converse(authenticator, ['Blau 🔑'], None)
+    print('\n-- and with the old one, until there is no retry left')
+    third = converse(authenticator, ['Grün 1'] * (RETRIES + 1), None)
+    used = call('list_used', authenticator.issued)
+    print(f'\nplaces used in the list of issued challenges: {used}')
+    sys.exit(0 if first and second and not third else 1)
+
+
+LIBRARY = load()
+if __name__ == '__main__':
+    main()

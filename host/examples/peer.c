@@ -1,0 +1,80 @@
+/*
+ * A peer: it talks to an authenticator (authenticator.c) over standard input and output, and says
+ * on standard error what happens. Exit status 0 if it is let in, 1 if not.
+ *
+ *     peer NAME NEW PASSWORD ..    answers with each PASSWORD in turn, as a user who mistypes it;
+ *                                  where it has expired, changes it to NEW
+ *
+ * A real program does not take a password from the command line, where others can see it.
+ */
+#define _POSIX_C_SOURCE 200809L
+
+#include "pipe.h"
+#include <string.h>
+
+static mschap_peer peer;
+
+/* Reads the reply to what was sent last. A packet that is refused is passed over: it may be an old
+   one that was late. */
+static uint32_t await_reply(void)
+{
+    uint8_t packet[MSCHAP_REPLY_SIZE];
+    uint32_t number, call;
+    uint64_t reason;
+    do {
+        size_t size = receive_packet(packet, sizeof packet);
+        number = mschap_read_reply(&peer, sizeof peer, packet, size, &call, &reason);
+    } while (number != MSCHAP_OK);
+    fprintf(stderr, "reason: %lu\n", (unsigned long)reason);
+    return call;
+}
+
+static uint32_t respond(const char *name, const mschap_password *password)
+{
+    uint8_t packet[MSCHAP_RESPONSE_PACKET];
+    if (mschap_write_response(&peer, sizeof peer, password, sizeof *password,
+                              (const uint8_t *)name, strlen(name),
+                              packet, sizeof packet) != MSCHAP_OK)
+        die("a name that is empty or too long");
+    send_packet(packet, sizeof packet);
+    return await_reply();
+}
+
+static uint32_t change(const mschap_password *password, const char *text)
+{
+    uint8_t packet[MSCHAP_CHANGE_PACKET], filler[MSCHAP_FILLER_SIZE];
+    mschap_new_password renewed;
+    make_password(text, &renewed.password);
+    draw(filler, sizeof filler);
+    if (mschap_write_change(&peer, sizeof peer, password, sizeof *password,
+                            &renewed, sizeof renewed, filler, sizeof filler,
+                            packet, sizeof packet) != MSCHAP_OK)
+        die("the change cannot be written");
+    send_packet(packet, sizeof packet);
+    return await_reply();
+}
+
+int main(int argc, char **argv)
+{
+    uint8_t packet[MSCHAP_REPLY_SIZE];
+    mschap_password password;
+    uint32_t call = MSCHAP_CALL_RESPONSE;
+    size_t size;
+    int next = 3;
+
+    if (argc < 4)
+        die("usage: peer NAME NEW PASSWORD ..");
+    size = receive_packet(packet, sizeof packet);
+    if (mschap_read_challenge(packet, size, &peer, sizeof peer) != MSCHAP_OK)
+        die("no Challenge");
+    while (call == MSCHAP_CALL_RESPONSE && next < argc) {
+        make_password(argv[next++], &password);
+        call = respond(argv[1], &password);
+    }
+    if (call == MSCHAP_CALL_CHANGE) {
+        fprintf(stderr, "the password has expired, and is changed\n");
+        call = change(&password, argv[2]);
+    }
+    fprintf(stderr, call == MSCHAP_CALL_NONE ? "in\n" : "not let in\n");
+    return call == MSCHAP_CALL_NONE ? 0 : 1;
+}

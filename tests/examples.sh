@@ -1,0 +1,125 @@
+#!/bin/sh
+# The examples in host/ and host/examples do what they say: the one in one program prints the same
+# each time; authenticator and peer talk through pipes, over three runs that share the files of a
+# folder; and the script in Python, where that is installed, plays both ends. Run in the repository,
+# once `make lib` has written target/mschap.
+set -eu
+folder=target/mschap
+scratch=$(mktemp -d)
+trap 'rm -rf "$scratch"' EXIT
+fail() {
+    echo "examples: $1"
+    for log in "$scratch"/*.log; do
+        [ -f "$log" ] && sed "s|^|    ${log##*/}: |" "$log"
+    done
+    exit 1
+}
+compile() {
+    ${CC:-cc} -Wall -Wextra -Werror -std=c99 -pedantic -I "$folder/include" "$1" \
+        "$folder/lib/libmschap.a" -o "$2"
+}
+run=
+if command -v valgrind > /dev/null; then
+    run='valgrind --quiet --error-exitcode=9'
+fi
+
+compile host/example.c "$scratch/example"
+$run "$scratch/example" > "$scratch/example.log" || fail 'host/example.c ends in an error'
+diff host/example.txt "$scratch/example.log" || fail 'host/example.c prints something else'
+echo "examples: host/example.c prints what it should (${run:-without valgrind})"
+
+for program in authenticator peer; do
+    compile "host/examples/$program.c" "$scratch/$program"
+    if grep -nE '\.bytes|\+ [0-9]+[,;)]|\[[0-9]+\] (!|=)?=|, [1-9][0-9]{2,}[,)]' \
+        "host/examples/$program.c"; then
+        fail "$program.c has an offset or a number of its own"
+    fi
+done
+mkfifo "$scratch/to" "$scratch/from"
+
+# One conversation: how many places are used then, the exit status of both, the reasons that the
+# authenticator gives and the words of the peer, and the peer's arguments.
+converse() {
+    used=$1 status=$2 reasons=$3 words=$4
+    shift 4
+    rm -f "$scratch"/*.log
+    # shellcheck disable=SC2086
+    $run "$scratch/authenticator" "$scratch/accounts" \
+        < "$scratch/to" > "$scratch/from" 2> "$scratch/authenticator.log" &
+    authenticator=$!
+    peer_status=0
+    # shellcheck disable=SC2086
+    $run "$scratch/peer" "$@" > "$scratch/to" < "$scratch/from" 2> "$scratch/peer.log" \
+        || peer_status=$?
+    own_status=0
+    wait $authenticator || own_status=$?
+    [ "$own_status $peer_status" = "$status $status" ] \
+        || fail "exit status $own_status and $peer_status, and not $status"
+    { echo "places used: $used" && printf '%s\n' $reasons | sed 's/^/reason: /'; } \
+        > "$scratch/expected"
+    diff "$scratch/expected" "$scratch/authenticator.log" || fail 'the authenticator says otherwise'
+    { printf '%s\n' $reasons | sed 's/^/reason: /' && echo "$words"; } > "$scratch/expected"
+    grep -v 'the password has expired, and is changed' "$scratch/peer.log" > "$scratch/said" || :
+    diff "$scratch/expected" "$scratch/said" || fail 'the peer says otherwise'
+}
+mkdir "$scratch/accounts"
+"$scratch/authenticator" "$scratch/accounts" 'Jürgen' 'Grün 1'
+converse 3 0 '691 648 0' in 'DOM\Jürgen' 'Blaugrün 🔑' 'grün 1' 'Grün 1'
+grep -q 'is changed' "$scratch/peer.log" || fail 'the password was not changed'
+converse 6 0 0 in 'Jürgen' unused 'Blaugrün 🔑'
+converse 9 1 '691 691 691' 'not let in' 'DOM\Jürgen' unused 'Grün 1' 'Grün 1' 'Grün 1'
+converse 12 1 '691 691 691' 'not let in' 'nobody' unused 'Grün 1' 'Grün 1' 'Grün 1'
+[ ! -e "$scratch/accounts/new" ] || fail 'a temporary file is left'
+stored=$(find "$scratch/accounts" -type f | wc -l)
+[ "$stored" -eq 3 ] || fail "there are $stored files, and not list, lock and account"
+
+# A stored value of another version, and a list that is none.
+spoil() {
+    printf '\002' | dd of="$1" bs=1 seek=1 conv=notrunc 2> /dev/null
+}
+refused() {
+    "$scratch/authenticator" "$scratch/accounts" < "$scratch/to" > "$scratch/from" \
+        2> "$scratch/authenticator.log" &
+    authenticator=$!
+    "$scratch/peer" 'Jürgen' unused 'Blaugrün 🔑' > "$scratch/to" < "$scratch/from" \
+        2> "$scratch/peer.log" || :
+    own_status=0
+    wait $authenticator || own_status=$?
+    [ "$own_status" -eq 2 ] && grep -q "$1" "$scratch/authenticator.log" \
+        || fail "exit status $own_status, and not a word of '$1'"
+}
+spoil "$scratch"/accounts/account-*
+refused 'no record'
+spoil "$scratch/accounts/issued"
+refused 'the list is none'
+echo "examples: authenticator and peer talk, and go on after a restart (${run:-without valgrind})"
+
+# The numbers in the script are the header's.
+script=host/examples/bench.py
+sed -nE 's/^(MSCHAP_[A-Z0-9_]+) = (.*)$/\1 \2/p' "$script" > "$scratch/numbers"
+[ -s "$scratch/numbers" ] || fail "$script has no numbers of the header"
+while read -r name number; do
+    grep -qE "^#define $name ${number}u?( |$)" "$folder/include/mschap.h" \
+        || fail "$name is not $number in the header"
+done < "$scratch/numbers"
+if ! command -v python3 > /dev/null; then
+    echo "examples: $script skipped, as python3 is not installed"
+    exit 0
+fi
+rm -f "$scratch"/*.log
+PYTHONIOENCODING=utf-8 python3 "$script" "$folder/lib/libmschap.so" > "$scratch/bench.log" \
+    || fail "$script ends in an error"
+for line in \
+    'Failure, identifier [0-9]*, 17 bytes: "E=691 R=1 V=2"' \
+    'Failure, identifier [0-9]*, 17 bytes: "E=648 R=0 V=2"' \
+    'authenticator  refuses the packet with 4' \
+    'change of the password, identifier [0-9]*, 1118 bytes' \
+    'authenticator  stores the account with its new password' \
+    'Failure, identifier [0-9]*, 17 bytes: "E=691 R=0 V=2"' \
+    'places used in the list of issued challenges: 9'; do
+    grep -q "$line" "$scratch/bench.log" || fail "$script does not print: $line"
+done
+[ "$(grep -c '^peer *is in$' "$scratch/bench.log")" = 2 ] || fail "$script: not let in twice"
+cp "$script" "$folder/lib/libmschap.so" "$scratch"
+(cd / && python3 "$scratch/bench.py" > /dev/null) || fail "$script does not find the library beside it"
+echo "examples: $script plays both ends"
