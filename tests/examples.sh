@@ -121,5 +121,5 @@ for line in \
 done
 [ "$(grep -c '^peer *is in$' "$scratch/bench.log")" = 2 ] || fail "$script: not let in twice"
 cp "$script" "$folder/lib/libmschap.so" "$scratch"
-(cd / && python3 "$scratch/bench.py" > /dev/null) || fail "$script does not find the library beside it"
+(cd / && python3 "$scratch/bench.py" > /dev/null) || fail "$script: no library found beside it"
 echo "examples: $script plays both ends"

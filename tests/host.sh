@@ -20,7 +20,10 @@ ${CC:-cc} -std=c11 -O2 -Wall -Wextra -Werror -pedantic -I host/include host/benc
 echo 'host: the benchmark compiles'
 
 for name in $(sed -nE 's/^(uint32_t|size_t) (mschap_[a-z0-9_]+)\(.*/\2/p' "$header"); do
-    grep -q "$name(" host/bad_lengths.c || { echo "host: bad_lengths.c does not call $name"; exit 1; }
+    grep -q "$name(" host/bad_lengths.c || {
+        echo "host: bad_lengths.c does not call $name"
+        exit 1
+    }
 done
 ${CC:-cc} -Wall -Wextra -Werror -std=c99 -pedantic -I host/include host/bad_lengths.c "$archive" \
     -o "$lengths"

@@ -103,6 +103,7 @@ fi
 echo '#include <mschap.h>' > header.c
 $cc -std=c99 -Wall -Wextra -Werror -pedantic -fsyntax-only -I "$prefix/include" header.c
 if command -v c++ > /dev/null; then
-    c++ -x c++ -std=c++11 -Wall -Wextra -Werror -pedantic -fsyntax-only -I "$prefix/include" header.c
+    c++ -x c++ -std=c++11 -Wall -Wextra -Werror -pedantic -fsyntax-only -I "$prefix/include" \
+        header.c
 fi
 echo "install: version $version compiles, links and loads from an empty folder"

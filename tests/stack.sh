@@ -1,8 +1,8 @@
 #!/bin/sh
 # The stack of every function of the header: host/stack.c measures it on the worst inputs, and makes
-# the same calls where there is little of it. The comment of each function ends in "Stack: N bytes.":
-# what was measured is at most N, and at most 64 less, so that N is true; and it is held to what the
-# header tells a caller to provide. Run in the repository, once `rt staticlib mschap` has written
+# the same calls where there is little of it. The comment of each function ends in its stack, N
+# bytes: what was measured is at most N, and at most 64 less, so that N is true; and N is held to
+# what the header tells a caller to provide. Run in the repository, once `rt staticlib mschap` has written
 # the archive. With the argument `measured` it prints what was measured, and compares nothing.
 set -eu
 archive=target/staticlib/libmschap.a
@@ -59,6 +59,7 @@ awk -v provided="$provided" '
             fail("only " n + 0 " functions were found in the header")
         if (provided < most + 4096)
             fail("MSCHAP_STACK_SIZE is " provided ", and " most " and 4 KiB are needed")
-        if (!failed) print "stack: " n " functions as their comments say; the most is " most " bytes"
+        if (!failed)
+            print "stack: " n " functions as their comments say; the most is " most " bytes"
         exit failed
     }' "$program.header" "$program.measured"
