@@ -1,6 +1,6 @@
 #!/bin/sh
-# The archive of `mschap` as others link it: it has no writable data, the benchmark follows the
-# header, and every function of the header answers bad lengths and null pointers as it should, under
+# The archive of `mschap` as others link it: it has no writable data, the header's quick start and
+# the benchmark compile, and every function of the header answers bad lengths and null pointers as it should, under
 # valgrind where that is installed. Run in the repository, once `rt staticlib mschap` has written
 # the archive.
 set -eu
@@ -13,6 +13,32 @@ if nm "$archive" | grep -E ' [BbCDdGgSs] '; then
     exit 1
 fi
 echo 'host: no writable data'
+
+# The lines of the quick start as they stand, among what they leave to the program.
+quick=target/host-quick-start.c
+{
+    cat <<'END'
+#include <mschap.h>
+#include <sys/random.h>
+extern const uint8_t text[];
+extern const size_t text_size;
+extern uint8_t packet[MSCHAP_CHANGE_PACKET];
+size_t receive(uint8_t *into);
+void send(const uint8_t *bytes, size_t bytes_size);
+void store(mschap_record record);
+uint32_t quick_start(void);
+uint32_t quick_start(void)
+{
+    size_t size;
+END
+    sed -n '/^ \* QUICK START/,/^ \* Check each/s/^ \*     //p' "$header"
+    echo '    return mschap_answer_reason(&answer, sizeof answer);'
+    echo '}'
+} > "$quick"
+[ "$(grep -c mschap_ "$quick")" -ge 20 ] || { echo 'host: no quick start in the header'; exit 1; }
+${CC:-cc} -std=c99 -Wall -Wextra -Werror -pedantic -D_DEFAULT_SOURCE -Wno-unused-result \
+    -I host/include -c "$quick" -o "$quick.o"
+echo 'host: the quick start compiles'
 
 # make test does not run the benchmark, but it follows the header.
 ${CC:-cc} -std=c11 -O2 -Wall -Wextra -Werror -pedantic -I host/include host/bench.c "$archive" \

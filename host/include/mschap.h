@@ -32,10 +32,11 @@
  * Check each return value. examples/authenticator.c and examples/peer.c are whole programs.
  *
  * LINKING
- *   `make lib` writes libmschap.a, this header and mschap.pc below target/lib-mschap, for x86-64
- *   Linux; `make install PREFIX=/usr/local` copies them. Then
+ *   `make lib` writes libmschap.a, libmschap.so, this header and mschap.pc below target/mschap, for
+ *   x86-64 Linux; `make install PREFIX=/usr/local` copies them. Then
  *       cc program.c $(pkg-config --cflags --libs mschap)
- *   The archive needs no other library, and may be linked into a shared one.
+ *   links the archive, which needs no library but C's, and may be linked into a shared one.
+ *   libmschap.so is for programs that load it when they run, as examples/bench.py does.
  *
  * BUFFERS
  *   A buffer is passed as a pointer and, right behind it, its size in bytes, which is sizeof for
