@@ -35,7 +35,7 @@ END
     echo '    return mschap_answer_reason(&answer, sizeof answer);'
     echo '}'
 } > "$quick"
-[ "$(grep -c mschap_ "$quick")" -ge 20 ] || { echo 'host: no quick start in the header'; exit 1; }
+[ "$(grep -c mschap_ "$quick")" -ge 15 ] || { echo 'host: no quick start in the header'; exit 1; }
 ${CC:-cc} -std=c99 -Wall -Wextra -Werror -pedantic -D_DEFAULT_SOURCE -Wno-unused-result \
     -I host/include -c "$quick" -o "$quick.o"
 echo 'host: the quick start compiles'

@@ -123,6 +123,18 @@ fn a_stored_list_is_restored() {
     holds(&issued, &[0x01, 0x18, 0x2F, 0xEA, 0x50, 0x67]);
 }
 
+/// What CHANGELOG.md says of a list from before values had a kind: an opening with no retry for each
+/// used place, of which nothing is sent.
+#[test]
+fn a_list_of_before_is_carried_over() {
+    let firsts = [0x01, 0x18, 0x2F, 0xEA, 0x67];
+    let mut issued = Issued::new(8);
+    for first in firsts {
+        assert_eq!(open(&mut issued, first, 0), Ok(()));
+    }
+    holds(&issued, &firsts);
+}
+
 #[test]
 fn what_is_no_stored_list() {
     let places = vec![0; (LIST_PLACES + 1) * 8];
