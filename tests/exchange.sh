@@ -130,7 +130,10 @@ all() {
         fi
         case $what in
             *', sizes alone')
-                compile "$function" "$pair" "$1"
+                compile "$function" "$pair" "$1" || {
+                    cat "$work/errors"
+                    return 1
+                }
                 status=0
                 "$work/program" || status=$?
                 case $status in

@@ -183,7 +183,7 @@ pub mod raw {
         ) -> u32;
         /// Makes list an empty list of issued challenges.
         pub fn mschap_make_list(list: *mut u8, list_size: usize) -> u32;
-        /// How many places of a list are used; [`INVALID`] for no list.
+        /// How many places of a list are used; [`INVALID`](super::INVALID) for no list.
         pub fn mschap_list_used(list: *const u8, list_size: usize) -> u32;
         /// Opens a conversation, adds its challenges to list, and writes its Challenge into reply.
         pub fn mschap_open(
@@ -211,7 +211,7 @@ pub mod raw {
             answer: *mut u8,
             answer_size: usize,
         ) -> u32;
-        /// The reason of a step's reply; [`INVALID`] for an invalid answer.
+        /// The reason of a step's reply; [`INVALID`](super::INVALID) for an invalid answer.
         pub fn mschap_answer_reason(answer: *const u8, answer_size: usize) -> u32;
         /// The record after an accepted change of the password.
         pub fn mschap_answer_record(
@@ -220,15 +220,15 @@ pub mod raw {
             record: *mut u8,
             record_size: usize,
         ) -> u32;
-        /// What a conversation awaits; [`INVALID`] for an invalid one.
+        /// What a conversation awaits; [`INVALID`](super::INVALID) for an invalid one.
         pub fn mschap_conversation_awaits(conversation: *const u8, conversation_size: usize)
             -> u32;
-        /// The awaited identifier; [`INVALID`] for an invalid conversation.
+        /// The awaited identifier; [`INVALID`](super::INVALID) for an invalid conversation.
         pub fn mschap_conversation_identifier(
             conversation: *const u8,
             conversation_size: usize,
         ) -> u32;
-        /// The retries that are left; [`INVALID`] for an invalid conversation.
+        /// The retries that are left; [`INVALID`](super::INVALID) for an invalid conversation.
         pub fn mschap_conversation_retries(
             conversation: *const u8,
             conversation_size: usize,

@@ -123,8 +123,8 @@ fn a_stored_list_is_restored() {
     holds(&issued, &[0x01, 0x18, 0x2F, 0xEA, 0x50, 0x67]);
 }
 
-/// What CHANGELOG.md says of a list from before values had a kind: an opening with no retry for each
-/// used place, of which nothing is sent.
+/// What CHANGELOG.md says of a list from before values had a kind: an opening with no retry for
+/// each used place, of which nothing is sent.
 #[test]
 fn a_list_of_before_is_carried_over() {
     let firsts = [0x01, 0x18, 0x2F, 0xEA, 0x67];
