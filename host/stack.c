@@ -287,7 +287,7 @@ static void try_passwords(void)
         if (n > 512)
             continue;
         give_drawn_password(0, n);
-        TRY(mschap_nt_hash, n % 2 ? ANY : MSCHAP_OK);
+        TRY(mschap_nt_hash, n % 2 ? MSCHAP_INPUT : MSCHAP_OK);
         give(1, MSCHAP_TEXT_MAX);
         TRY(mschap_read_password, ANY);
         give_drawn_password(0, n)[n < 512 ? 515 : 0] ^= 1; /* no value */
@@ -700,9 +700,9 @@ static void try_peer(void)
         TRY(mschap_write_change, MSCHAP_BAD_ARGUMENT);
     }
     for (size_t n = 1; n < 512; n += 2) { /* an odd number of bytes, which no password here has */
-        try_write_response(n, 256, ANY);
-        try_write_change(n, 512, MSCHAP_CHANGE_PACKET, ANY);
-        try_write_change(512, n, MSCHAP_CHANGE_PACKET, ANY);
+        try_write_response(n, 256, MSCHAP_INPUT);
+        try_write_change(n, 512, MSCHAP_CHANGE_PACKET, MSCHAP_INPUT);
+        try_write_change(512, n, MSCHAP_CHANGE_PACKET, MSCHAP_INPUT);
     }
 }
 

@@ -208,7 +208,8 @@ typedef struct { uint8_t bytes[MSCHAP_HASH_SIZE]; } mschap_lmhash;
 typedef struct { uint8_t bytes[MSCHAP_DIGEST_SIZE]; } mschap_digest;
 typedef struct { uint8_t bytes[MSCHAP_RC4_KEY_MAX]; } mschap_rc4_key;
 
-/* Returns the version of the archive that is linked: MSCHAP_VERSION of its header. */
+/* Returns the version of the archive that is linked: MSCHAP_VERSION of its header.
+   Stack: 0 bytes. */
 uint32_t mschap_version(void);
 
 /* ---- passwords */
@@ -217,27 +218,31 @@ uint32_t mschap_version(void);
    a character beyond U+FFFF (RFC 3629, RFC 2781). Bytes are taken as they are: a program that
    wants one form of composed letters normalises before (NFC is what Windows keyboards write).
    Returns MSCHAP_OK; MSCHAP_BAD_ARGUMENT unless password is MSCHAP_PASSWORD_SIZE bytes;
-   MSCHAP_MALFORMED if text is not UTF-8; MSCHAP_INPUT if it has over 256 characters of 16 bits. */
+   MSCHAP_MALFORMED if text is not UTF-8; MSCHAP_INPUT if it has over 256 characters of 16 bits.
+   Stack: 1,664 bytes. */
 uint32_t mschap_make_password(const uint8_t *text, size_t text_size,
                               mschap_password *password, size_t password_size);
 
 /* The same of characters that are in 16 bits already, the least significant byte first, with no
    terminator; any characters, unpaired surrogates too.
    Returns MSCHAP_OK; MSCHAP_BAD_ARGUMENT unless password is MSCHAP_PASSWORD_SIZE bytes;
-   MSCHAP_INPUT for an odd number of bytes or over MSCHAP_NT_PASSWORD_MAX. */
+   MSCHAP_INPUT for an odd number of bytes or over MSCHAP_NT_PASSWORD_MAX.
+   Stack: 576 bytes. */
 uint32_t mschap_make_password_utf16(const uint8_t *characters, size_t characters_size,
                                     mschap_password *password, size_t password_size);
 
 /* The inverse of mschap_make_password: the password in UTF-8 at the front of text, and its length
    in bytes in *length. The bytes behind it are unchanged.
    Returns MSCHAP_OK; MSCHAP_BAD_ARGUMENT for an invalid password; MSCHAP_MALFORMED if a surrogate
-   has no partner; MSCHAP_ROOM if text is too small (MSCHAP_TEXT_MAX bytes are enough for any). */
+   has no partner; MSCHAP_ROOM if text is too small (MSCHAP_TEXT_MAX bytes are enough for any).
+   Stack: 1,632 bytes. */
 uint32_t mschap_read_password(const mschap_password *password, size_t password_size,
                               uint8_t *text, size_t text_size, size_t *length);
 
 /* NtPasswordHash() of RFC 2433, A.6, of a password.
    Returns MSCHAP_OK; MSCHAP_BAD_ARGUMENT for an invalid password, or unless hash is
-   MSCHAP_HASH_SIZE bytes. */
+   MSCHAP_HASH_SIZE bytes.
+   Stack: 800 bytes. */
 uint32_t mschap_nt_hash(const mschap_password *password, size_t password_size,
                         mschap_nthash *hash, size_t hash_size);
 
@@ -247,7 +252,8 @@ uint32_t mschap_nt_hash(const mschap_password *password, size_t password_size,
    make no LM hash of a password that has a character outside it. Here a to z count as A to Z, and
    no other byte is changed. For a password of ASCII alone its bytes will do.
    Returns MSCHAP_OK; MSCHAP_BAD_ARGUMENT unless hash is MSCHAP_HASH_SIZE bytes; MSCHAP_INPUT for a
-   longer password. */
+   longer password.
+   Stack: 3,336 bytes. */
 uint32_t mschap_lm_hash(const uint8_t *password, size_t password_size,
                         mschap_lmhash *hash, size_t hash_size);
 
@@ -258,7 +264,8 @@ uint32_t mschap_lm_hash(const uint8_t *password, size_t password_size,
    no flags: mschap_make_record(0, NULL, 0, NULL, 0, &record, sizeof record).
    Returns MSCHAP_OK; MSCHAP_BAD_ARGUMENT for another bit in flags, a hash that is not
    MSCHAP_HASH_SIZE bytes, one without its flag or a flag without its hash, or unless record is
-   MSCHAP_RECORD_SIZE bytes. */
+   MSCHAP_RECORD_SIZE bytes.
+   Stack: 96 bytes. */
 uint32_t mschap_make_record(uint32_t flags,
                             const mschap_nthash *nt_hash, size_t nt_hash_size,
                             const mschap_lmhash *lm_hash, size_t lm_hash_size,
@@ -266,7 +273,8 @@ uint32_t mschap_make_record(uint32_t flags,
 
 /* Reads a record: the inverse of mschap_make_record. A hash that there is not is all bytes 0.
    Returns MSCHAP_OK; MSCHAP_BAD_ARGUMENT for an invalid record, or unless both hashes are
-   MSCHAP_HASH_SIZE bytes. */
+   MSCHAP_HASH_SIZE bytes.
+   Stack: 368 bytes. */
 uint32_t mschap_read_record(const mschap_record *record, size_t record_size,
                             uint32_t *flags,
                             mschap_nthash *nt_hash, size_t nt_hash_size,
@@ -277,11 +285,13 @@ uint32_t mschap_read_record(const mschap_record *record, size_t record_size,
 /* Makes list an empty list of issued challenges, of as many places as fit: MSCHAP_LIST_SIZE(n)
    bytes for n places. To empty a list, make it again: from then on a challenge may be issued that
    was issued before.
-   Returns MSCHAP_OK; MSCHAP_LIST unless list is whole places, at most MSCHAP_LIST_PLACES. */
+   Returns MSCHAP_OK; MSCHAP_LIST unless list is whole places, at most MSCHAP_LIST_PLACES.
+   Stack: 0 bytes. */
 uint32_t mschap_make_list(uint8_t *list, size_t list_size);
 
 /* Returns how many places of a list are used, 0 to MSCHAP_LIST_PLACES; MSCHAP_INVALID if list is
-   no list, or a bad one. */
+   no list, or a bad one.
+   Stack: 0 bytes. */
 uint32_t mschap_list_used(const uint8_t *list, size_t list_size);
 
 /* Opens a conversation with an identifier, 0 to 255, terms (MSCHAP_TERMS and what is joined to it)
@@ -294,12 +304,13 @@ uint32_t mschap_list_used(const uint8_t *list, size_t list_size);
    time. A conversation with r retries may use its challenge and r successors: the first byte of
    each is that of the one before plus 23, modulo 256, and the other seven are the same. If one of
    these r + 1 is in the list, the opening is refused; else they are added. So each opening takes r
-   + 1 places, and makes one pass over the used ones. If the list is kept over a restart, store it
+   + 1 places, and its time grows with the used ones. If the list is kept over a restart, store it
    before the Challenge is sent.
 
    Returns MSCHAP_OK; or the first of these that applies: MSCHAP_BAD_ARGUMENT for another
    identifier or other terms, for a challenge or a conversation of another size, or if list is no
-   list; MSCHAP_RETRIES_RANGE; MSCHAP_REPLY_ROOM; MSCHAP_LIST; MSCHAP_SPENT; MSCHAP_LIST_FULL. */
+   list; MSCHAP_RETRIES_RANGE; MSCHAP_REPLY_ROOM; MSCHAP_LIST; MSCHAP_SPENT; MSCHAP_LIST_FULL.
+   Stack: 1,520 bytes. */
 uint32_t mschap_open(uint32_t identifier, uint32_t terms,
                      const uint8_t *challenge, size_t challenge_size,
                      uint8_t *list, size_t list_size,
@@ -320,7 +331,8 @@ uint32_t mschap_open(uint32_t identifier, uint32_t terms,
    MSCHAP_REPLY_ROOM, MSCHAP_FRAME, MSCHAP_CODE, MSCHAP_IDENTIFIER, MSCHAP_SIZE or MSCHAP_FLAGS,
    the first that applies, if the packet is refused: send no reply; the conversation goes on as if
    it had not come. Returns MSCHAP_BAD_ARGUMENT for an invalid conversation or record, or an answer
-   of another size. */
+   of another size.
+   Stack: 5,032 bytes. */
 uint32_t mschap_step(mschap_conversation *conversation, size_t conversation_size,
                      const uint8_t *packet, size_t packet_size,
                      const mschap_record *record, size_t record_size,
@@ -328,56 +340,66 @@ uint32_t mschap_step(mschap_conversation *conversation, size_t conversation_size
                      mschap_answer *answer, size_t answer_size);
 
 /* Returns the reason that a step's reply gives: MSCHAP_SUCCESS, or the Failure's, one of
-   MSCHAP_E_..; MSCHAP_INVALID for an invalid answer. */
+   MSCHAP_E_..; MSCHAP_INVALID for an invalid answer.
+   Stack: 336 bytes. */
 uint32_t mschap_answer_reason(const mschap_answer *answer, size_t answer_size);
 
 /* The record after an accepted change of the password: store it in the place of the account's.
    Returns MSCHAP_OK, with the record; MSCHAP_NO_RECORD if nothing is to be stored;
-   MSCHAP_BAD_ARGUMENT for an invalid answer, or unless record is MSCHAP_RECORD_SIZE bytes. */
+   MSCHAP_BAD_ARGUMENT for an invalid answer, or unless record is MSCHAP_RECORD_SIZE bytes.
+   Stack: 352 bytes. */
 uint32_t mschap_answer_record(const mschap_answer *answer, size_t answer_size,
                               mschap_record *record, size_t record_size);
 
 /* Returns what a conversation awaits: MSCHAP_AWAITS_RESPONSE, MSCHAP_AWAITS_CHANGE or
-   MSCHAP_AWAITS_NOTHING; MSCHAP_INVALID for an invalid conversation. */
+   MSCHAP_AWAITS_NOTHING; MSCHAP_INVALID for an invalid conversation.
+   Stack: 352 bytes. */
 uint32_t mschap_conversation_awaits(const mschap_conversation *conversation,
                                     size_t conversation_size);
 
 /* Returns the identifier of the packet that is awaited, 0 to 255 (of the last one, if none is);
-   MSCHAP_INVALID for an invalid conversation. */
+   MSCHAP_INVALID for an invalid conversation.
+   Stack: 352 bytes. */
 uint32_t mschap_conversation_identifier(const mschap_conversation *conversation,
                                         size_t conversation_size);
 
-/* Returns how many retries are left; MSCHAP_INVALID for an invalid conversation. */
+/* Returns how many retries are left; MSCHAP_INVALID for an invalid conversation.
+   Stack: 352 bytes. */
 uint32_t mschap_conversation_retries(const mschap_conversation *conversation,
                                      size_t conversation_size);
 
 /* ---- packets */
 
 /* Returns the length of a packet, which is its own Length field: the bytes to send of a buffer
-   that this library has written a packet into. 0 if it is no packet (as MSCHAP_FRAME). */
+   that this library has written a packet into. 0 if it is no packet (as MSCHAP_FRAME).
+   Stack: 0 bytes. */
 size_t mschap_packet_length(const uint8_t *packet, size_t packet_size);
 
 /* Where the account is in a Response: what follows the first backslash of its name or, if there is
    none, the whole name.
    Returns its offset in packet; 0 if the packet is refused as a Response (by MSCHAP_FRAME,
-   MSCHAP_CODE, MSCHAP_SIZE or MSCHAP_FLAGS, in any conversation). */
+   MSCHAP_CODE, MSCHAP_SIZE or MSCHAP_FLAGS, in any conversation).
+   Stack: 0 bytes. */
 size_t mschap_account_offset(const uint8_t *packet, size_t packet_size);
 
 /* The length of the account at that offset, in bytes.
    Returns 0 to MSCHAP_NAME_MAX; 0 if the packet is refused as a Response. Offset and length
-   together are at most packet_size. */
+   together are at most packet_size.
+   Stack: 0 bytes. */
 size_t mschap_account_length(const uint8_t *packet, size_t packet_size);
 
 /* Where the domain is in a Response: what precedes the first backslash of its name.
    Returns its offset in packet; 0 if the domain is not in the packet. Then either the packet is
    refused as a Response, and mschap_account_offset returns 0 too, or the name has no backslash,
    and the caller takes the home domain. A leading backslash has the empty domain before it: an
-   offset, and the length 0. */
+   offset, and the length 0.
+   Stack: 0 bytes. */
 size_t mschap_domain_offset(const uint8_t *packet, size_t packet_size);
 
 /* The length of the domain at that offset, in bytes.
    Returns 0 to 255; 0 if the domain is not in the packet. Offset and length together are at most
-   packet_size. */
+   packet_size.
+   Stack: 0 bytes. */
 size_t mschap_domain_length(const uint8_t *packet, size_t packet_size);
 
 /* ---- the peer
@@ -390,7 +412,8 @@ size_t mschap_domain_length(const uint8_t *packet, size_t packet_size);
    the Challenge's identifier. Call it for each new Challenge.
    Returns MSCHAP_OK; MSCHAP_BAD_ARGUMENT unless peer is MSCHAP_PEER_SIZE bytes; MSCHAP_FRAME;
    MSCHAP_READING for another kind of packet, one that is cut short, or a challenge that is not
-   MSCHAP_CHALLENGE_SIZE bytes. */
+   MSCHAP_CHALLENGE_SIZE bytes.
+   Stack: 48 bytes. */
 uint32_t mschap_read_challenge(const uint8_t *packet, size_t packet_size,
                                mschap_peer *peer, size_t peer_size);
 
@@ -403,7 +426,8 @@ uint32_t mschap_read_challenge(const uint8_t *packet, size_t packet_size,
    harm.
    Returns MSCHAP_OK; MSCHAP_BAD_ARGUMENT for an invalid peer; MSCHAP_FRAME; MSCHAP_IDENTIFIER for
    another identifier than that of the packet that was written last, or if none was written;
-   MSCHAP_READING for another kind of packet, or a message that cannot be read. */
+   MSCHAP_READING for another kind of packet, or a message that cannot be read.
+   Stack: 752 bytes. */
 uint32_t mschap_read_reply(mschap_peer *peer, size_t peer_size,
                            const uint8_t *packet, size_t packet_size,
                            uint32_t *call, uint64_t *reason);
@@ -411,7 +435,8 @@ uint32_t mschap_read_reply(mschap_peer *peer, size_t peer_size,
 /* Writes the peer's Response by a password, with a name of 1 to MSCHAP_NAME_MAX bytes, at the
    front of out. The packet is 54 bytes longer than its name; the bytes behind it are unchanged.
    Returns MSCHAP_OK; MSCHAP_BAD_ARGUMENT for an invalid peer or password; MSCHAP_NAME; MSCHAP_ROOM
-   if out is too small. */
+   if out is too small.
+   Stack: 4,040 bytes. */
 uint32_t mschap_write_response(mschap_peer *peer, size_t peer_size,
                                const mschap_password *password, size_t password_size,
                                const uint8_t *name, size_t name_size,
@@ -423,7 +448,8 @@ uint32_t mschap_write_response(mschap_peer *peer, size_t peer_size,
    filler, MSCHAP_FILLER_SIZE bytes, fills the block that hides the new password's length; it must
    be unpredictable: from a CSPRNG.
    Returns MSCHAP_OK; MSCHAP_BAD_ARGUMENT for an invalid peer or password; MSCHAP_FILLER;
-   MSCHAP_ROOM if out is too small. */
+   MSCHAP_ROOM if out is too small.
+   Stack: 4,296 bytes. */
 uint32_t mschap_write_change(mschap_peer *peer, size_t peer_size,
                              const mschap_password *old_password, size_t old_password_size,
                              const mschap_new_password *new_password, size_t new_password_size,
@@ -434,30 +460,35 @@ uint32_t mschap_write_change(mschap_peer *peer, size_t peer_size,
 
 /* The MD4 digest (RFC 1320) of at most MSCHAP_MD4_INPUT_MAX bytes.
    Returns MSCHAP_OK; MSCHAP_BAD_ARGUMENT unless digest is MSCHAP_DIGEST_SIZE bytes; MSCHAP_INPUT
-   for more bytes. */
+   for more bytes.
+   Stack: 384 bytes. */
 uint32_t mschap_md4(const uint8_t *input, size_t input_size,
                     mschap_digest *digest, size_t digest_size);
 
 /* RC4 over bytes in place, from the start of the stream of a key: the first key_size bytes of it,
    1 to MSCHAP_RC4_KEY_MAX. The key has a type of its own, so that the two cannot be exchanged.
-   Returns MSCHAP_OK; MSCHAP_INPUT for another key_size. */
+   Returns MSCHAP_OK; MSCHAP_INPUT for another key_size.
+   Stack: 296 bytes. */
 uint32_t mschap_rc4(const mschap_rc4_key *key, size_t key_size,
                     uint8_t *bytes, size_t bytes_size);
 
 /* DES of a block (MSCHAP_BLOCK_SIZE bytes) in place, under a key of 56 bits: MSCHAP_KEY_SIZE
    bytes, without parity.
-   Returns MSCHAP_OK; MSCHAP_BAD_ARGUMENT for another size. */
+   Returns MSCHAP_OK; MSCHAP_BAD_ARGUMENT for another size.
+   Stack: 3,288 bytes. */
 uint32_t mschap_des_encrypt(const uint8_t *key, size_t key_size,
                             uint8_t *block, size_t block_size);
 
 /* The inverse of mschap_des_encrypt.
-   Returns MSCHAP_OK; MSCHAP_BAD_ARGUMENT for another size. */
+   Returns MSCHAP_OK; MSCHAP_BAD_ARGUMENT for another size.
+   Stack: 3,384 bytes. */
 uint32_t mschap_des_decrypt(const uint8_t *key, size_t key_size,
                             uint8_t *block, size_t block_size);
 
 /* ChallengeResponse() of RFC 2433, A.7: the response (MSCHAP_RESPONSE_SIZE bytes) of a hash, NT or
    LM (MSCHAP_HASH_SIZE), to a challenge (MSCHAP_CHALLENGE_SIZE).
-   Returns MSCHAP_OK; MSCHAP_BAD_ARGUMENT for another size. */
+   Returns MSCHAP_OK; MSCHAP_BAD_ARGUMENT for another size.
+   Stack: 3,368 bytes. */
 uint32_t mschap_challenge_response(const uint8_t *hash, size_t hash_size,
                                    const uint8_t *challenge, size_t challenge_size,
                                    uint8_t *response, size_t response_size);

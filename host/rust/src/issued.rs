@@ -7,8 +7,8 @@ use std::fmt;
 /// accepted by another, so all that know the same accounts share one list, one opening at a time.
 ///
 /// An opening with r retries spends r + 1 challenges, and a place for each: the list has room for
-/// `places / (r + 1)` openings. Once it is full, openings are refused until it is emptied. Each
-/// opening passes once over all used places.
+/// `places / (r + 1)` openings. Once it is full, openings are refused until it is emptied. The time
+/// of an opening grows with the used places.
 ///
 /// It is no `Clone`: of two copies neither would know what is issued by the other. To outlast a
 /// restart, its [`as_bytes`](Issued::as_bytes) are stored after each opening, before the Challenge

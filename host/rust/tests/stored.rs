@@ -352,11 +352,15 @@ fn passwords() {
     for characters in [PASSWORD, b"", &longest] {
         let mut turns = 0;
         spoiled(&layout::password(characters), |bytes| {
-            // An odd number of bytes is in no password that this library makes. The layout has it;
-            // whether it is refused as no value or as no password is not said.
+            // An odd number of bytes is in no password that this library makes, but the layout has
+            // it: it is refused as no password, and not as no value.
             let value = layout::to_password(bytes);
             let even = value.filter(|characters| characters.len() % 2 == 0);
-            let refusals: &[u32] = if value.is_some() { &[8, 100] } else { &[100] };
+            let refusal = if value.is_some() {
+                8
+            } else {
+                sys::BAD_ARGUMENT
+            };
             seen.note(even.is_some());
 
             let mut hash = [FILL; 16];
@@ -367,7 +371,7 @@ fn passwords() {
                     assert_eq!((number, hash), (sys::OK, theirs), "{bytes:?}");
                 }
                 None => {
-                    assert!(refusals.contains(&number), "{number}: {bytes:?}");
+                    assert_eq!(number, refusal, "{bytes:?}");
                     assert_eq!(hash, [FILL; 16]);
                 }
             }
@@ -406,7 +410,7 @@ fn passwords() {
                 let written = peer::write_response(&turn, characters, b"User", &mut theirs);
                 assert_eq!((number, written.refusal), (sys::OK, 0));
             } else {
-                assert!(refusals.contains(&number), "{number}: {bytes:?}");
+                assert_eq!(number, refusal, "{bytes:?}");
                 assert_eq!(after, peer);
             }
             assert_eq!(ours, theirs);
@@ -430,7 +434,7 @@ fn passwords() {
                     let written = peer::write_change(&turn, old, new, &filler, &mut theirs);
                     assert_eq!((number, written.refusal), (sys::OK, 0));
                 } else {
-                    assert!(refusals.contains(&number), "{number}: {bytes:?}");
+                    assert_eq!(number, refusal, "{bytes:?}");
                     assert_eq!(after, peer);
                 }
                 assert_eq!(ours, theirs);
