@@ -1,6 +1,6 @@
 #!/bin/sh
 # The examples in host/ and host/examples do what they say: the one in one program prints the same
-# each time; authenticator and peer talk through pipes, over three runs that share the files of a
+# each time; authenticator and peer talk through pipes, over some runs that share the files of a
 # folder; and the script in Python, where that is installed, plays both ends. Run in the repository,
 # once `make lib` has written target/mschap.
 set -eu
@@ -69,6 +69,14 @@ grep -q 'is changed' "$scratch/peer.log" || fail 'the password was not changed'
 converse 6 0 0 in 'Jürgen' unused 'Blaugrün 🔑'
 converse 9 1 '691 691 691' 'not let in' 'DOM\Jürgen' unused 'Grün 1' 'Grün 1' 'Grün 1'
 converse 12 1 '691 691 691' 'not let in' 'nobody' unused 'Grün 1' 'Grün 1' 'Grün 1'
+
+# The list is stored before the Challenge is sent: where nothing can be sent, it has grown.
+status=0
+"$scratch/authenticator" "$scratch/accounts" < /dev/null > /dev/full 2> "$scratch/full.log" \
+    || status=$?
+[ $status -eq 2 ] || fail "exit status $status where nothing can be sent"
+converse 18 0 0 in 'Jürgen' unused 'Blaugrün 🔑'
+
 [ ! -e "$scratch/accounts/new" ] || fail 'a temporary file is left'
 stored=$(find "$scratch/accounts" -type f | wc -l)
 [ "$stored" -eq 3 ] || fail "there are $stored files, and not list, lock and account"
