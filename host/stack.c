@@ -287,9 +287,9 @@ static void try_passwords(void)
         if (n > 512)
             continue;
         give_drawn_password(0, n);
-        TRY(mschap_nt_hash, n % 2 ? MSCHAP_INPUT : MSCHAP_OK);
+        TRY(mschap_nt_hash, n % 2 ? MSCHAP_BAD_ARGUMENT : MSCHAP_OK);
         give(1, MSCHAP_TEXT_MAX);
-        TRY(mschap_read_password, ANY);
+        TRY(mschap_read_password, n % 2 ? MSCHAP_BAD_ARGUMENT : ANY);
         give_drawn_password(0, n)[n < 512 ? 515 : 0] ^= 1; /* no value */
         TRY(mschap_nt_hash, MSCHAP_BAD_ARGUMENT);
         TRY(mschap_read_password, MSCHAP_BAD_ARGUMENT);
@@ -699,10 +699,10 @@ static void try_peer(void)
         given[2].octets[1] = 0;
         TRY(mschap_write_change, MSCHAP_BAD_ARGUMENT);
     }
-    for (size_t n = 1; n < 512; n += 2) { /* an odd number of bytes, which no password here has */
-        try_write_response(n, 256, MSCHAP_INPUT);
-        try_write_change(n, 512, MSCHAP_CHANGE_PACKET, MSCHAP_INPUT);
-        try_write_change(512, n, MSCHAP_CHANGE_PACKET, MSCHAP_INPUT);
+    for (size_t n = 1; n < 512; n += 2) { /* an odd number of bytes, which no password has */
+        try_write_response(n, 256, MSCHAP_BAD_ARGUMENT);
+        try_write_change(n, 512, MSCHAP_CHANGE_PACKET, MSCHAP_BAD_ARGUMENT);
+        try_write_change(512, n, MSCHAP_CHANGE_PACKET, MSCHAP_BAD_ARGUMENT);
     }
 }
 

@@ -16,7 +16,7 @@ ${CC:-cc} -O2 -Wall -Wextra -Werror -std=c99 -pedantic -I host/include host/stac
     -pthread -Wl,-z,now -o "$program"
 "$program" > "$program.measured" || {
     echo "stack: host/stack.c ended with status $?; it had written"
-    cat "$program.measured"
+    head -n 40 "$program.measured"
     exit 1
 }
 if [ "${1:-}" = measured ]; then

@@ -449,7 +449,7 @@ uint32_t mschap_write_response(mschap_peer *peer, size_t peer_size,
    be unpredictable: from a CSPRNG.
    Returns MSCHAP_OK; MSCHAP_BAD_ARGUMENT for an invalid peer or password; MSCHAP_FILLER;
    MSCHAP_ROOM if out is too small.
-   Stack: 4,296 bytes. */
+   Stack: 4,312 bytes. */
 uint32_t mschap_write_change(mschap_peer *peer, size_t peer_size,
                              const mschap_password *old_password, size_t old_password_size,
                              const mschap_new_password *new_password, size_t new_password_size,

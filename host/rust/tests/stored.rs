@@ -352,33 +352,25 @@ fn passwords() {
     for characters in [PASSWORD, b"", &longest] {
         let mut turns = 0;
         spoiled(&layout::password(characters), |bytes| {
-            // An odd number of bytes is in no password that this library makes, but the layout has
-            // it: it is refused as no password, and not as no value.
             let value = layout::to_password(bytes);
-            let even = value.filter(|characters| characters.len() % 2 == 0);
-            let refusal = if value.is_some() {
-                8
-            } else {
-                sys::BAD_ARGUMENT
-            };
-            seen.note(even.is_some());
+            seen.note(value.is_some());
 
             let mut hash = [FILL; 16];
             let number = sys::nt_hash(bytes, &mut hash);
-            match even {
+            match value {
                 Some(characters) => {
                     let theirs = hashes::nt_hash(characters).expect("a hash");
                     assert_eq!((number, hash), (sys::OK, theirs), "{bytes:?}");
                 }
                 None => {
-                    assert_eq!(number, refusal, "{bytes:?}");
+                    assert_eq!(number, sys::BAD_ARGUMENT, "{bytes:?}");
                     assert_eq!(hash, [FILL; 16]);
                 }
             }
 
             let (mut text, mut length) = ([FILL; sys::TEXT_MAX], usize::MAX);
             let number = sys::read_password(bytes, &mut text, &mut length);
-            let expected = even.and_then(|characters| {
+            let expected = value.and_then(|characters| {
                 let units = characters
                     .chunks(2)
                     .map(|c| u16::from_le_bytes([c[0], c[1]]));
@@ -400,17 +392,17 @@ fn passwords() {
             // The writers take longer, so of the many values that they accept each fiftieth is
             // compared; all that they refuse are.
             turns += 1;
-            if even.is_some() && turns % 50 != 0 {
+            if value.is_some() && turns % 50 != 0 {
                 return;
             }
             let mut after = peer;
             let (mut ours, mut theirs) = ([FILL; 70], [FILL; 70]);
             let number = sys::write_response(&mut after, bytes, b"User", &mut ours);
-            if let Some(characters) = even {
+            if let Some(characters) = value {
                 let written = peer::write_response(&turn, characters, b"User", &mut theirs);
                 assert_eq!((number, written.refusal), (sys::OK, 0));
             } else {
-                assert_eq!(number, refusal, "{bytes:?}");
+                assert_eq!(number, sys::BAD_ARGUMENT, "{bytes:?}");
                 assert_eq!(after, peer);
             }
             assert_eq!(ours, theirs);
@@ -424,7 +416,7 @@ fn passwords() {
                 };
                 let number =
                     sys::write_change(&mut after, passed[0], passed[1], &filler, &mut ours);
-                if let Some(characters) = even {
+                if let Some(characters) = value {
                     let n: &[u8] = b"n\0";
                     let [old, new] = if new {
                         [n, characters]
@@ -434,7 +426,7 @@ fn passwords() {
                     let written = peer::write_change(&turn, old, new, &filler, &mut theirs);
                     assert_eq!((number, written.refusal), (sys::OK, 0));
                 } else {
-                    assert_eq!(number, refusal, "{bytes:?}");
+                    assert_eq!(number, sys::BAD_ARGUMENT, "{bytes:?}");
                     assert_eq!(after, peer);
                 }
                 assert_eq!(ours, theirs);

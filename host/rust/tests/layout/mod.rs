@@ -186,7 +186,7 @@ pub fn to_peer(bytes: &[u8]) -> Option<(Option<Turn>, Turn)> {
     Some((sent, to_turn(&body[10..])))
 }
 
-/// A password of at most 512 bytes.
+/// A password of at most 512 bytes, an even number.
 pub fn password(characters: &[u8]) -> [u8; sys::PASSWORD_SIZE] {
     tagged(PASSWORD, |to| {
         to[..2].copy_from_slice(&(characters.len() as u16).to_be_bytes());
@@ -197,7 +197,7 @@ pub fn password(characters: &[u8]) -> [u8; sys::PASSWORD_SIZE] {
 pub fn to_password(bytes: &[u8]) -> Option<&[u8]> {
     let body = body(PASSWORD, sys::PASSWORD_SIZE, bytes)?;
     let size = usize::from(u16::from_be_bytes(part(body, 0)));
-    let characters = body.get(2..2 + size)?;
+    let characters = body.get(2..2 + size).filter(|_| size % 2 == 0)?;
     body[2 + size..]
         .iter()
         .all(|byte| *byte == 0)
