@@ -117,7 +117,7 @@ extern "C" {
 /* What a function that returns a value returns instead, if it was passed an invalid one. */
 #define MSCHAP_INVALID 0xffffffffu
 
-/* ---- the reasons of a Failure (RFC 2433, section 6); MSCHAP_SUCCESS stands for Success */
+/* ---- the reasons of a Failure (RFC 2433, section 8); MSCHAP_SUCCESS stands for Success */
 
 #define MSCHAP_SUCCESS 0
 #define MSCHAP_E_RESTRICTED_LOGON_HOURS 646
@@ -216,7 +216,7 @@ uint32_t mschap_version(void);
 
 /* Makes a password of a text in UTF-8, as people type it: its characters in 16 bits each, two for
    a character beyond U+FFFF (RFC 3629, RFC 2781). Bytes are taken as they are: a program that
-   wants one form of composed letters normalises before (NFC is what Windows keyboards write).
+   wants one form of composed letters normalises it before, to NFC for instance.
    Returns MSCHAP_OK; MSCHAP_BAD_ARGUMENT unless password is MSCHAP_PASSWORD_SIZE bytes;
    MSCHAP_MALFORMED if text is not UTF-8; MSCHAP_INPUT if it has over 256 characters of 16 bits.
    Stack: 1,664 bytes. */
@@ -271,7 +271,8 @@ uint32_t mschap_make_record(uint32_t flags,
                             const mschap_lmhash *lm_hash, size_t lm_hash_size,
                             mschap_record *record, size_t record_size);
 
-/* Reads a record: the inverse of mschap_make_record. A hash that there is not is all bytes 0.
+/* Reads a record: the inverse of mschap_make_record. The bytes of a hash whose flag is not set have
+   no meaning.
    Returns MSCHAP_OK; MSCHAP_BAD_ARGUMENT for an invalid record, or unless both hashes are
    MSCHAP_HASH_SIZE bytes.
    Stack: 368 bytes. */
