@@ -6,4 +6,5 @@ pub mod AnswerLaws
 pub mod ConversationLaws
 pub mod PeerLaws
 pub mod PasswordLaws
+pub mod ListLaws
 pub mod Tags

@@ -11,14 +11,14 @@ use lib.Seq.{take-at}
 use Rattle.octets.specs.Parts.{fixed}
 use Rattle.octets.proofs.Parts.{length-fixed, over-fits}
 use Rattle.octets.proofs.Numbers.{fromBe-toBe}
-use Rattle.credentials.specs.Credentials.{badNtPassword}
+use Rattle.credentials.specs.Credentials.{longestNt, badNtPassword}
 use Rattle.layouts.specs.Passwords as layout
 use Rattle.layouts.proofs.Encodings.{encoding-fits}
 
 pub length-password : (p : List ℕ) → length (layout.encodePassword p) ≡ layout.passwordSize
 length-password p = ap (λ (n : ℕ). suc (suc (suc (suc n)))) (length-fixed 512 p)
 
-module _ (p : List ℕ) (fits : length p ≤ layout.mostPasswordBytes) where
+module _ (p : List ℕ) (fits : length p ≤ longestNt) where
   pub password-back : layout.decodePassword (layout.encodePassword p) ≡ p
   password-back =
       let room : length p ≤ length (replicate {A = ℕ} 512 0) =

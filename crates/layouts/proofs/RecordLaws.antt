@@ -30,7 +30,15 @@ pub account-same : {n n' l l' : Hash} {d d' h h' o o' e e' : Bool} → n ≡ n' 
     → h ≡ h' → o ≡ o' → e ≡ e'
     → _≡_ {A = Account}
     (record { nt = n; lm = l; disabled = d; «hours_denied» = h; «dialin_denied» = o; expired = e })
-    (record { nt = n'; lm = l'; disabled = d'; «hours_denied» = h'; «dialin_denied» = o'; expired = e' })
+    (record {
+      nt = n';
+      lm = l';
+      disabled = d';
+      «hours_denied» = h';
+      «dialin_denied» = o';
+      expired =
+          e';
+    })
 account-same e₁ e₂ e₃ e₄ e₅ e₆ = cc
 
 pub lookup-same : {f f' : Bool} {a a' : Account} → f ≡ f' → a ≡ a'
@@ -105,7 +113,8 @@ account-back a s =
 
     flags : List ℕ
     flags =
-        layout.flag (a .disabled) ∷ layout.flag (a .«hours_denied») ∷ layout.flag (a .«dialin_denied»)
+        layout.flag (a .disabled) ∷ layout.flag (a .«hours_denied») ∷ layout.flag
+        (a .«dialin_denied»)
         ∷ layout.flag (a .expired) ∷ []
 
     bytes : List ℕ

@@ -65,7 +65,8 @@ password-tagged bytes e =
 pub list-tagged : (bytes : List ℕ) → isList bytes ≡ true → Tagged listKind bytes
 unfolding isList
 list-tagged bytes e =
-    let head = agrees-equal (part 0 2 bytes) (tagged listKind []) (both (not (ltb (length bytes) 4)) _ e .1) in
+    let head = agrees-equal (part 0 2 bytes) (tagged listKind [])
+    (both (not (ltb (length bytes) 4)) _ e .1) in
     record {
       first = sym (getD-take 2 bytes 0 0 (omega arith)) ∙ ap (octet 0) head;
       second = sym (getD-take 2 bytes 1 0 (omega arith)) ∙ ap (octet 1) head;

@@ -8,13 +8,10 @@ use lib.ListN.{length}
 use Rattle.octets.specs.Parts.{part, fixed}
 use Rattle.octets.specs.Numbers.{toBe, fromBe}
 use Rattle.packets.specs.Frame.{octet}
-use Rattle.credentials.specs.Credentials.{badNtPassword}
+use Rattle.credentials.specs.Credentials.{longestNt, badNtPassword}
 use Rattle.layouts.specs.Values.{passwordKind, tagged, isEncoding}
 
--- the sizes, in bytes; of a password's own bytes there are at most 512 (document 01)
-abbrev pub mostPasswordBytes : ℕ
-mostPasswordBytes = 512
-
+-- the size, in bytes; of the password's own there is room for the most that one has
 abbrev pub passwordSize : ℕ
 passwordSize = 516
 
@@ -26,7 +23,7 @@ abbrev pub passwordBytesAt : ℕ
 passwordBytesAt = 4
 
 abbrev pub encodePassword : List ℕ → List ℕ
-encodePassword p = tagged passwordKind (toBe 2 (length p) ++ fixed mostPasswordBytes p)
+encodePassword p = tagged passwordKind (toBe 2 (length p) ++ fixed longestNt p)
 
 -- as many bytes as the value says, or as there are
 abbrev pub decodePassword : List ℕ → List ℕ

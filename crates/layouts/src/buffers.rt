@@ -1,6 +1,5 @@
 // The buffers that C passes: their sizes tested, and one filled.
 ghost use mathlib.Core.Path.{_≡_};
-ghost use mathlib.Core.Bool.{_&&_};
 ghost use lib.ListN.{length};
 ghost use Rattle.layouts.specs.Call.{Fills, sized, bothSized};
 
@@ -11,16 +10,6 @@ pub fn wide(n: u8) -> u32
     ensures { λ r. ⌜ r ≡ n ⌝ }
 {
     n as u32
-}
-
-// As a function, so that a test of several things has one way through it.
-pub fn both(a: bool, b: bool) -> bool
-    ensures { λ r. ⌜ r ≡ (a && b) ⌝ }
-{
-    if a {
-        return b;
-    }
-    false
 }
 
 // Whether a has n bytes and b has m.

@@ -16,7 +16,6 @@ pub use answers::is_encoded_answer;
 pub use answers::put_answer;
 pub use buffers::BAD_ARGUMENT;
 pub use buffers::are_sized;
-pub use buffers::both;
 pub use buffers::fill;
 pub use buffers::wide;
 pub use conversations::CONVERSATION_SIZE;

@@ -1,7 +1,7 @@
 // The layout of a password in 16-bit characters.
-use crate::buffers::both;
 use crate::buffers::fill;
 use crate::room::LAYOUT_VERSION;
+use refusals::both;
 ghost use mathlib.Core.Path.{_≡_};
 ghost use Rattle.layouts.specs.Call.{Fills, sized};
 ghost use Rattle.layouts.specs.Passwords.{encodePassword, decodePassword};

@@ -21,11 +21,13 @@ use Rattle.packets.specs.declared.Change as changes
 use Rattle.authenticator.proofs.Spends.{length-incremented}
 use Rattle.accounts.specs.Account.{blankAccount}
 use Rattle.authenticator.specs.Conversation.{ended, retried, closed}
-use Rattle.authenticator.specs.Opening.{Opening, openRefusal, openedIssued, firstConversation, openingPacket, opened}
+use Rattle.authenticator.specs.Opening.{Opening, openRefusal, openedIssued, firstConversation}
+use Rattle.authenticator.specs.Opening.{openingPacket, opened}
 use Rattle.authenticator.specs.Admit.{stepRefusal}
 use Rattle.authenticator.specs.declared.Judgement.{Judgement}
 use Rattle.authenticator.specs.Judge.{reasonOf, mayRetry, replyFor, afterReason}
-use Rattle.authenticator.specs.Judge.{judgeResponse, changeJudgement, newHashIn, judgeChange, judgeIn, judge}
+use Rattle.authenticator.specs.Judge.{judgeResponse, changeJudgement, newHashIn, judgeChange}
+use Rattle.authenticator.specs.Judge.{judgeIn, judge}
 use Rattle.verify.specs.Response.{responseReason}
 use Rattle.verify.specs.Change.{contentHash, unsealedHash, proves, proven, newHash}
 use Rattle.authenticator.specs.Step.{Outcome, judgedAs, refusedAs, step, reasonIn}
@@ -49,6 +51,9 @@ use Rattle.layouts.proofs.RecordLaws.{SizedAccount, decoded-lookup-sized, recor
 use Rattle.layouts.proofs.AnswerLaws.{decoded-answer-sized, answer-fits, answer-back}
 use Rattle.layouts.proofs.ConversationLaws.{SizedConversation, conversation-fits}
 use Rattle.layouts.proofs.ConversationLaws.{decoded-conversation-sized}
+use Rattle.layouts.proofs.ListLaws.{list-back}
+use Rattle.layouts.specs.Lists.{encodeList, decodeList, isList}
+use Rattle.authenticator.proofs.Openings.{opened-sound}
 
 -- ---- the successors keep the sizes
 
@@ -83,7 +88,8 @@ module _ (c : Conversation) (s : SizedConversation c) where
   after-sized : (a : Account) (e : ℕ) → SizedAccount a → SizedConversation (afterReason c a e)
   after-sized a e t =
       choice-sized (mayRetry c e) retried-sized
-      (choice-sized (eqb e passwordExpired) (record { challenge = s .challenge; kept = t }) ended-sized)
+      (choice-sized (eqb e passwordExpired) (record { challenge = s .challenge; kept = t })
+      ended-sized)
 
   -- ---- the hash of an accepted change has sixteen bytes
 
@@ -100,7 +106,8 @@ module _ (c : Conversation) (s : SizedConversation c) where
   choice-whole true x h = h
   choice-whole false x h = tt
 
-  proven-whole : (f : changes.Change) (x : Option (List ℕ)) → Whole x → Whole (proven (c .kept) (c .challenge) f x)
+  proven-whole : (f : changes.Change) (x : Option (List ℕ)) → Whole x
+      → Whole (proven (c .kept) (c .challenge) f x)
   proven-whole f none h = tt
   proven-whole f (some v) h = choice-whole (proves (c .kept) (c .challenge) f v) (some v) h
 
@@ -108,7 +115,8 @@ module _ (c : Conversation) (s : SizedConversation c) where
   unfolding newHash
   new-whole f =
       let o = unsealedAs (c .kept .nt .octets) (f .block) in
-      choice-whole (c .kept .nt .present && eqb (f .flags % 2) 1) (proven (c .kept) (c .challenge) f (unsealedHash o))
+      choice-whole (c .kept .nt .present && eqb (f .flags % 2) 1)
+      (proven (c .kept) (c .challenge) f (unsealedHash o))
       (proven-whole f (unsealedHash o) (inside-whole (o .content) o))
 
   change-sized : (x : Option (List ℕ)) → Whole x → SizedJudgement (changeJudgement c x)
@@ -213,3 +221,10 @@ opened-sized o e = by (eqb (openRefusal o) 0)
 pub open-fits : (o : Opening) → length (o .challenge) ≡ 8
     → isEncodedConversation (encodeConversation (opened o .conversation)) ≡ true
 open-fits o e = conversation-fits (opened o .conversation) (opened-sized o e)
+
+-- the list that an opening leaves is valid, and the next opening is made on just that list
+pub open-list-fits : (o : Opening) → length (o .challenge) ≡ 8 → opened o .refusal ≡ 0
+    → (isList (encodeList (openedIssued o)) ≡ true)
+    × (decodeList (encodeList (openedIssued o)) ≡ openedIssued o)
+open-list-fits o e ok =
+    let s = opened-sound o e ok in list-back (openedIssued o) (s .0) (s .1)

@@ -79,11 +79,6 @@ pub opening-same : {c c' : List ℕ} {r r' : Retries} {l l' : LmChoice} {i i' : 
     (record { id = id; challenge = c'; retries = r'; lm = l'; issued = i'; buffer = buffer })
 opening-same id buffer e₁ e₂ e₃ e₄ = cc
 
-pub issued-same : {b b' : List ℕ} {u u' : ℕ} {k k' : List ℕ} → b ≡ b' → u ≡ u' → k ≡ k'
-    → _≡_ {A = Issued} (record { buffer = b; used = u; counts = k })
-    (record { buffer = b'; used = u'; counts = k' })
-issued-same e₁ e₂ e₃ = cc
-
 -- the places are all that follows the head
 pub places-whole : (list : List ℕ) → take (length list - 4) (drop 4 list) ≡ drop 4 list
 places-whole list = take-all (length list - 4) (drop 4 list) (omega (arith, length-drop 4 list))
@@ -109,7 +104,8 @@ module _ (o : Opening) (list : List ℕ) (head : 4 ≤ length list)
     joined : whole ≡ take 4 list ++ b
     joined =
         let short : length (drop 4 list) ≤ length list - 4 = omega (arith, length-drop 4 list) in
-        let none : drop (length list - 4) (drop 4 list) ≡ [] = drop-of-length-le (drop 4 list) short in
+        let none : drop (length list - 4) (drop 4 list) ≡ [] = drop-of-length-le (drop 4 list)
+        short in
         ap (λ (x : List ℕ). take 4 list ++ (b ++ x)) none
         ∙ ap (λ (x : List ℕ). take 4 list ++ x) (append-nil b)
 
@@ -130,7 +126,8 @@ module _ (o : Opening) (list : List ℕ) (head : 4 ≤ length list)
         → after ≡ over (listHead (answer .used)) whole → OpenedOn o list answer after reply
     accepted-on {after} e put =
         let four : length (take 4 list) ≡ 4 = length-take-le 4 list head in
-        let room : 4 ≤ length (take 4 list ++ b) = omega (arith, four, length-append (take 4 list) b) in
+        let room : 4 ≤ length (take 4 list ++ b) = omega
+        (arith, four, length-append (take 4 list) b) in
         record {
           answered = made .answer;
           issued =

@@ -102,7 +102,8 @@ module _ (writes : Turn → Wrote) (peer out : List ℕ) (valid : Bool) (good : 
   wrote = writes (decodePeer peer .turn)
 
   -- the packet was written, and the next peer was put into the caller's buffer
-  pub wrote-called : {q : Peer} {w : Wrote} {answer : PacketWritten} {r : ℕ} {peerAfter outAfter : List ℕ}
+  pub wrote-called : {q : Peer} {w : Wrote} {answer : PacketWritten} {r : ℕ}
+      {peerAfter outAfter : List ℕ}
       → q ≡ decodePeer peer → w ≡ writes (q .turn) → peers.Writes q w answer outAfter
       → Fills (sized peerSize peer) (answer .written .refusal) (encodePeer (answer .peer)) peer
       r peerAfter

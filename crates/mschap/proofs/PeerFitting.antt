@@ -11,8 +11,8 @@ use lib.Dec.{eqb, ltb}
 use lib.ListN.{length}
 use Rattle.octets.specs.Parts.{part, fixed}
 use Rattle.octets.proofs.Parts.{length-fixed}
-use Rattle.message.specs.Message.{words, firstField, fieldE, fieldC, pairs, newChallengeFrom, readFields}
-use Rattle.message.specs.Message.{readMessage}
+use Rattle.message.specs.Message.{words, firstField, fieldE, fieldC, pairs, newChallengeFrom}
+use Rattle.message.specs.Message.{readFields, readMessage}
 use Rattle.message.specs.Inner.{IfSome, Eight}
 use Rattle.message.specs.declared.Call.{Call}
 use Rattle.message.specs.declared.Call.the-variants.{Retry, ChangeTwo, ChangeOne, End}
@@ -99,13 +99,15 @@ module _ (q : Peer) (s : SizedPeer q) (c : NewChallenge) (e : length (c .octets)
 
 after-challenge-sized : (packet : List ℕ) → SizedPeer (afterChallenge (readChallenge packet))
 unfolding readChallenge
-after-challenge-sized packet = record { sent = refl; turn = by (badFrame packet) (badChallenge packet) }
+after-challenge-sized packet =
+    record { sent = refl; turn = by (badFrame packet) (badChallenge packet) }
   where
     read : ChallengeFields
     read = record { refusal = 0; id = octet 1 packet; challenge = fixed 8 (part 5 8 packet) }
 
     by : (b d : Bool)
-        → length (cond {A = ChallengeFields} b (refusedChallenge 3) (cond d (refusedChallenge 11) read) .challenge) ≡ 8
+        → length (cond {A = ChallengeFields} b (refusedChallenge 3)
+        (cond d (refusedChallenge 11) read) .challenge) ≡ 8
     by true d = refl
     by false true = refl
     by false false = length-fixed 8 (part 5 8 packet)
@@ -129,7 +131,8 @@ abbrev pub Fits : Peer → Type 0
 Fits q = isEncodedPeer (encodePeer q) ≡ true
 
 pub challenge-fits : (packet : List ℕ) → Fits (afterChallenge (readChallenge packet))
-challenge-fits packet = peer-fits (afterChallenge (readChallenge packet)) (after-challenge-sized packet)
+challenge-fits packet =
+    peer-fits (afterChallenge (readChallenge packet)) (after-challenge-sized packet)
 
 pub writing-fits : (peer : List ℕ) (w : Written) → Fits (afterWriting (decodePeer peer) w)
 writing-fits peer w =

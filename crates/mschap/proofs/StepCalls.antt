@@ -35,7 +35,8 @@ step-sizes conversation account out e =
 
 -- a refused packet leaves the buffer alone
 step-kept : (c : Conversation) (p : List ℕ) (l : Lookup) (b : List ℕ)
-    → step c p l b .buffer ≡ afterCall (refusalIn (step c p l b .answer .kind)) (step c p l b .buffer) b
+    → step c p l b .buffer ≡ afterCall (refusalIn (step c p l b .answer .kind))
+    (step c p l b .buffer) b
 unfolding step
 step-kept c p l b = by (eqb (stepRefusal c p b) 0) refl
   where
@@ -61,7 +62,8 @@ module _ (conversation packet account buffer out : List ℕ)
       let kept =
       step-kept (decodeConversation conversation) packet (decodeRecord account) buffer in
       record {
-        number = number ∙ sym (ap (λ (t : Bool). numbered t (refusalIn (done .answer .kind))) valid);
+        number = number ∙ sym (ap (λ (t : Bool). numbered t (refusalIn (done .answer .kind)))
+            valid);
         next =
             put .next
             ∙ ap (λ (v : Answer). afterCall r (encodeConversation (v .next)) conversation) e;

@@ -1,12 +1,12 @@
 // The list of issued challenges: made empty, and how much of it is used.
 use crate::INVALID;
 use layouts::LIST_HEAD_SIZE;
-use layouts::both;
 use layouts::is_list;
 use layouts::places_in;
 use layouts::put_list_head;
 use layouts::used_in;
 use packets::CHALLENGE_SIZE;
+use refusals::both;
 ghost use mathlib.Core.Path.{_≡_};
 ghost use Rattle.mschap.specs.Lists.{badPlaces, MakeListCall, isGoodList};
 ghost use Rattle.mschap.specs.Sizes.{valueOr};

@@ -1,12 +1,12 @@
 // Passwords: made of a text or of 16-bit characters, read as a text, and hashed.
 use layouts::BAD_ARGUMENT;
-use layouts::both;
 use layouts::decode_password;
 use layouts::fill;
 use layouts::is_encoded_password;
 use layouts::put_password;
 use layouts::wide;
 use packets::HASH_SIZE;
+use refusals::both;
 use refusals::refuse_if;
 use unicode::Text;
 ghost use mathlib.Core.Path.{_≡_};

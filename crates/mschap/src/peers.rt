@@ -1,6 +1,5 @@
 // The peer: what it reads, and its two packets. The caller keeps its encoding between the calls.
 use layouts::BAD_ARGUMENT;
-use layouts::both;
 use layouts::decode_password;
 use layouts::decode_peer;
 use layouts::is_encoded_password;
@@ -11,6 +10,7 @@ use numbers::call_in;
 use numbers::failure_reason;
 use numbers::verdict_number;
 use peer::Peer;
+use refusals::both;
 ghost use mathlib.Core.Path.{_≡_};
 ghost use Rattle.mschap.specs.Peers.{ChallengeCall};
 ghost use Rattle.mschap.specs.Peers.{ReplyCall, responseArguments, changeArguments};

@@ -1,6 +1,5 @@
 // A record: made of flags and hashes, and read.
 use layouts::BAD_ARGUMENT;
-use layouts::both;
 use layouts::decode_record;
 use layouts::is_encoded_record;
 use layouts::put_record;
@@ -8,6 +7,7 @@ use numbers::are_record_arguments;
 use numbers::flags_of;
 use numbers::record_from;
 use packets::HASH_SIZE;
+use refusals::both;
 ghost use mathlib.Core.Path.{_≡_};
 ghost use Rattle.mschap.specs.Records.{MakeRecordCall, readRecordArguments};
 ghost use Rattle.mschap.specs.Records.{ReadRecordCall};

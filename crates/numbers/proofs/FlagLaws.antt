@@ -91,7 +91,11 @@ record-again l s =
     (small (a .«hours_denied»)) (small (a .«dialin_denied»)) (small (a .expired)) in
     lookup-same (ap isFlag (bits .0) ∙ flag-back (l .found))
     (account-same
-    (hash-same (ap isFlag (bits .1) ∙ flag-back (a .nt .present)) (fixed-whole 16 (a .nt .octets) (s .nt)))
-    (hash-same (ap isFlag (bits .2) ∙ flag-back (a .lm .present)) (fixed-whole 16 (a .lm .octets) (s .lm)))
-    (ap isFlag (bits .3) ∙ flag-back (a .disabled)) (ap isFlag (bits .4) ∙ flag-back (a .«hours_denied»))
-    (ap isFlag (bits .5) ∙ flag-back (a .«dialin_denied»)) (ap isFlag (bits .6) ∙ flag-back (a .expired)))
+    (hash-same (ap isFlag (bits .1) ∙ flag-back (a .nt .present))
+    (fixed-whole 16 (a .nt .octets) (s .nt)))
+    (hash-same (ap isFlag (bits .2) ∙ flag-back (a .lm .present))
+    (fixed-whole 16 (a .lm .octets) (s .lm)))
+    (ap isFlag (bits .3) ∙ flag-back (a .disabled))
+    (ap isFlag (bits .4) ∙ flag-back (a .«hours_denied»))
+    (ap isFlag (bits .5) ∙ flag-back (a .«dialin_denied»))
+    (ap isFlag (bits .6) ∙ flag-back (a .expired)))

@@ -1,7 +1,7 @@
 // A record as C makes and reads it: flags and hashes.
 use accounts::Lookup;
-use layouts::both;
 use packets::HASH_SIZE;
+use refusals::both;
 ghost use mathlib.Core.Path.{_≡_};
 ghost use Prim.Native.Nat.{_*_, _≤_, _<_};
 ghost use Rattle.layouts.specs.Records.{flag};

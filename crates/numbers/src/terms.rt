@@ -1,7 +1,7 @@
 // The terms of an opening as C passes them.
 use authenticator::LmChoice;
 use authenticator::Retries;
-use layouts::both;
+use refusals::both;
 ghost use mathlib.Core.Path.{_≡_};
 ghost use Rattle.numbers.specs.Terms.{isTerms, retriesFor, lmFor, retriesTerm, lmTerm};
 

@@ -35,7 +35,17 @@
 //    101  a text that is not UTF-8, or characters that are not UTF-16 (`unicode`)
 //    102  an answer that has no record to be stored (`numbers`)
 ghost use mathlib.Core.Path.{_≡_};
-ghost use mathlib.Core.Bool.{cond};
+ghost use mathlib.Core.Bool.{cond, _&&_};
+
+// Two tests in one. As a function, so that a test of several things has one way through it.
+pub fn both(a: bool, b: bool) -> bool
+    ensures { λ r. ⌜ r ≡ (a && b) ⌝ }
+{
+    if a {
+        return b;
+    }
+    false
+}
 
 // The number where the test found fault, else what the tests behind it answer.
 pub fn refuse_if(bad: bool, number: u8, rest: u8) -> u8

@@ -4,9 +4,9 @@
 mod utf16;
 mod utf8;
 
+use refusals::both;
 use refusals::refuse_if;
 ghost use mathlib.Core.Path.{_≡_};
-ghost use mathlib.Core.Bool.{_&&_};
 ghost use Prim.Native.Nat.{_<_};
 ghost use lib.ListN.{getD};
 ghost use Rattle.octets.specs.Digits.{between};
@@ -44,16 +44,6 @@ struct Char {
 struct Encoding {
     size: usize,
     octets: [u8; 4],
-}
-
-// As a function, so that what is tested has one way through it.
-fn both(a: bool, b: bool) -> bool
-    ensures { λ r. ⌜ r ≡ (a && b) ⌝ }
-{
-    if a {
-        return b;
-    }
-    false
 }
 
 fn is_between(low: u32, high: u32, n: u32) -> bool

@@ -1,9 +1,9 @@
 // UTF-16 (RFC 2781), the least significant octet of each unit first.
 use crate::Char;
 use crate::Encoding;
-use crate::both;
 use crate::is_between;
 use crate::octet_at;
+use refusals::both;
 ghost use mathlib.Core.Path.{_≡_};
 ghost use mathlib.Core.List.{_++_};
 ghost use Prim.Native.Nat.{_<_};

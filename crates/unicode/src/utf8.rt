@@ -1,10 +1,10 @@
 // UTF-8 (RFC 3629).
 use crate::Char;
 use crate::Encoding;
-use crate::both;
 use crate::is_between;
 use crate::is_scalar;
 use crate::octet_at;
+use refusals::both;
 ghost use mathlib.Core.Path.{_≡_};
 ghost use Rattle.unicode.specs.Scalars.{encodingOf, wellFormed};
 ghost use Rattle.unicode.specs.Utf8.{utf8Of, isTail, charIfValid, charFromOctets, utf8First};

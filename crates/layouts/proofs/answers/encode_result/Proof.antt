@@ -21,9 +21,11 @@ returns c =
     let v = empty .before .before .args .result in
     let room = empty .empty-room .result .bytes in
     let two = number .u16-to-be .ensures in
-    let s₁ = first 0 room (number .u16-to-be .result) 2 (ap length two) (reason .put-two .ensures) in
+    let s₁ = first 0 room (number .u16-to-be .result) 2 (ap length two) (reason .put-two .ensures)
+    in
     last s₁ (encodeLookup (v .updated)) (c .encode-lookup .ensures)
-    ∙ ap₂ over (ap (λ (l : List ℕ). l ++ encodeLookup (v .updated)) two) (empty .empty-room .ensures)
+    ∙ ap₂ over (ap (λ (l : List ℕ). l ++ encodeLookup (v .updated)) two)
+    (empty .empty-room .ensures)
 
 pub encode-result-spec : {M : Type 1} → statement M
 encode-result-spec =

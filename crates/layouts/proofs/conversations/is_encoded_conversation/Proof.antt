@@ -19,8 +19,10 @@ returns c =
     let decoded = encoded .before in
     let bytes = decoded .before .before .args .bytes .now in
     let v = decodeConversation bytes in
-    compared conversationKind 50 (omega arith) (encodeState v) (length-state v (decoded-conversation-sized bytes))
-    (encoded .encode-state .ensures ∙ ap (λ (u : Conversation). inRoom (encodeState u)) (decoded .decode-conversation .ensures)) bytes
+    compared conversationKind 50 (omega arith) (encodeState v)
+    (length-state v (decoded-conversation-sized bytes))
+    (encoded .encode-state .ensures ∙ ap (λ (u : Conversation). inRoom (encodeState u))
+    (decoded .decode-conversation .ensures)) bytes
     (c .is-value .ensures)
 
 pub is-encoded-conversation-spec : {M : Type 1} → statement M

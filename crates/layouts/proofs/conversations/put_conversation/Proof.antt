@@ -19,7 +19,8 @@ returns c =
     let encoded = put .before .before in
     let start = encoded .before .before in
     let v = start .args .conversation in
-    filled conversationKind 50 (omega arith) (encodeState v) (length-state v (sized start)) (encoded .encode-state .ensures)
+    filled conversationKind 50 (omega arith) (encodeState v) (length-state v (sized start))
+    (encoded .encode-state .ensures)
     (put .put-value .ensures)
 
 pub put-conversation-spec : {M : Type 1} → statement M

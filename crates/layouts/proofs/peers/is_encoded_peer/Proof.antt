@@ -20,7 +20,8 @@ returns c =
     let bytes = decoded .before .before .args .bytes .now in
     let v = decodePeer bytes in
     compared peerKind 19 (omega arith) (encodeTurns v) (length-turns v (decoded-peer-sized bytes))
-    (encoded .encode-turns .ensures ∙ ap (λ (u : Peer). inRoom (encodeTurns u)) (decoded .decode-peer .ensures)) bytes
+    (encoded .encode-turns .ensures ∙ ap (λ (u : Peer). inRoom (encodeTurns u))
+    (decoded .decode-peer .ensures)) bytes
     (c .is-value .ensures)
 
 pub is-encoded-peer-spec : {M : Type 1} → statement M

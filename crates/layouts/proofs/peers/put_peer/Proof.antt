@@ -18,7 +18,8 @@ returns c =
     let encoded = put .before .before in
     let start = encoded .before .before in
     let v = start .args .peer in
-    filled peerKind 19 (omega arith) (encodeTurns v) (length-turns v (sized start)) (encoded .encode-turns .ensures)
+    filled peerKind 19 (omega arith) (encodeTurns v) (length-turns v (sized start))
+    (encoded .encode-turns .ensures)
     (put .put-value .ensures)
 
 pub put-peer-spec : {M : Type 1} → statement M

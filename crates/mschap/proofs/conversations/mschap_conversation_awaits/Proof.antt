@@ -22,7 +22,8 @@ returns-2 c =
     let decoded = c .before in
     let passed = decoded .before in
     let bytes = passed .before .before .before .args .conversation .now in
-    let valid = sym (passed .before .is-encoded-conversation .ensures) ∙ not-false _ (passed .if1 .left) in
+    let valid = sym (passed .before .is-encoded-conversation .ensures) ∙ not-false _
+    (passed .if1 .left) in
     c .awaited-code .ensures
     ∙ ap (λ (v : Conversation). awaitedCode (v .phase)) (decoded .decode-conversation .ensures)
     ∙ ap (λ (t : Bool). valueOr t (awaitedCode (decodeConversation bytes .phase))) (sym valid)

@@ -21,7 +21,8 @@ returns-2 c =
     let decoded = c .before in
     let passed = decoded .before in
     let bytes = passed .before .before .before .args .conversation .now in
-    let valid = sym (passed .before .is-encoded-conversation .ensures) ∙ not-false _ (passed .if1 .left) in
+    let valid = sym (passed .before .is-encoded-conversation .ensures) ∙ not-false _
+    (passed .if1 .left) in
     ap (λ (v : Conversation). v .retries) (decoded .decode-conversation .ensures)
     ∙ ap (λ (t : Bool). valueOr t (decodeConversation bytes .retries)) (sym valid)
 

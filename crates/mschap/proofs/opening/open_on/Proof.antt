@@ -9,7 +9,8 @@ use Rattle.issued.specs.Issued.{trueCounts}
 use Rattle.octets.proofs.Parts.{fixed-whole}
 use Rattle.authenticator.specs.Opening.{Opening, OpenedAs}
 use Rattle.mschap.specs.Opening.{openingFor}
-use Rattle.mschap.proofs.OpenCalls.{opening-same, issued-same, places-whole}
+use Rattle.layouts.proofs.ListLaws.{issued-same}
+use Rattle.mschap.proofs.OpenCalls.{opening-same, places-whole}
 use Rattle.mschap.proofs.OpenCalls.{refused-on, accepted-on}
 use Rattle.mschap.proofs.opening.open_on.Statement.{statement}
 use Rattle.mschap.proofs.opening.open_on.Tie as tie

@@ -40,7 +40,8 @@ refusal : (c : tie.After-read-refusal)
     → let passed = c .before .before .before .before in
     c .read-refusal .result
     ≡ numbered (isEncodedPassword (password passed))
-    (readRefusal (textFrom (password passed)) (passed .before .before .before .before .args .text .now))
+    (readRefusal (textFrom (password passed))
+    (passed .before .before .before .before .args .text .now))
 refusal c =
     let made = c .before .before in
     let passed = made .before .before in

@@ -21,7 +21,8 @@ returns-2 c =
     let decoded = c .before in
     let passed = decoded .before in
     let bytes = passed .before .before .before .args .answer .now in
-    let valid = sym (passed .before .is-encoded-answer .ensures) ∙ not-false _ (passed .if1 .left) in
+    let valid = sym (passed .before .is-encoded-answer .ensures) ∙ not-false _ (passed .if1 .left)
+    in
     ap (λ (v : StepResult). v .reason) (decoded .decode-answer .ensures)
     ∙ ap (λ (t : Bool). valueOr t (decodeAnswer bytes .reason)) (sym valid)
 

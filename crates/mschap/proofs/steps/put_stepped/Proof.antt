@@ -28,11 +28,13 @@ returns c =
           fills-number (start .pre .1) (second .put-answer .ensures) ∙ numbered .number-of .ensures;
       next =
           first .put-conversation .ensures .bytes
-          ∙ ap (λ (i : ℕ). afterCall i (encodeConversation (a .answer .next)) (a .conversation .now))
+          ∙ ap (λ (i : ℕ). afterCall i (encodeConversation (a .answer .next))
+          (a .conversation .now))
           same;
       found =
           second .put-answer .ensures .bytes
-          ∙ ap (λ (v : StepResult). afterCall (second .put-answer .result) (encodeAnswer v) (a .out .now))
+          ∙ ap (λ (v : StepResult). afterCall (second .put-answer .result) (encodeAnswer v)
+          (a .out .now))
           (result .result-of .ensures);
     }
 

@@ -20,8 +20,10 @@ returns c =
     ∙ ap (λ (t : Bool). ltb (a .flags) 128 && t)
     (c .before .both .ensures
     ∙ ap₂ _&&_
-    (nt .is-hash-passed .ensures ∙ ap (λ (t : Bool). isHashPassed t (a .nt .now)) (nt-set .is-set .ensures))
-    (lm .is-hash-passed2 .ensures ∙ ap (λ (t : Bool). isHashPassed t (a .lm .now)) (lm-set .is-set2 .ensures)))
+    (nt .is-hash-passed .ensures ∙ ap (λ (t : Bool). isHashPassed t (a .nt .now))
+    (nt-set .is-set .ensures))
+    (lm .is-hash-passed2 .ensures ∙ ap (λ (t : Bool). isHashPassed t (a .lm .now))
+    (lm-set .is-set2 .ensures)))
 
 pub are-record-arguments-spec : {M : Type 1} → statement M
 are-record-arguments-spec =

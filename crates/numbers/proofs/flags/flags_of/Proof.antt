@@ -13,29 +13,64 @@ add-marks c = omega (arith, c .weighed3 .ensures .1, c .before .weighed2 .ensure
 
 add-marks-2 : tie.Need-add-marks-2
 add-marks-2 c =
-    omega (arith, c .weighed3 .ensures .1, c .before .weighed2 .ensures .1, c .before .before .weighed .ensures .1)
+    omega (
+      arith,
+      c .weighed3 .ensures .1,
+      c .before .weighed2 .ensures .1,
+      c .before .before .weighed .ensures .1,
+    )
 
 add-hashes : tie.Need-add-hashes
 add-hashes c =
     let three = c .before .before in
-    omega (arith, c .weighed5 .ensures .1, three .weighed3 .ensures .1, three .before .weighed2 .ensures .1, three .before .before .weighed .ensures .1)
+    omega (
+      arith,
+      c .weighed5 .ensures .1,
+      three .weighed3 .ensures .1,
+      three .before .weighed2 .ensures .1,
+      three .before .before .weighed .ensures .1,
+    )
 
 add-hashes-2 : tie.Need-add-hashes-2
 add-hashes-2 c =
     let three = c .before .before in
-    omega (arith, c .weighed5 .ensures .1, c .before .weighed4 .ensures .1, three .weighed3 .ensures .1, three .before .weighed2 .ensures .1, three .before .before .weighed .ensures .1)
+    omega (
+      arith,
+      c .weighed5 .ensures .1,
+      c .before .weighed4 .ensures .1,
+      three .weighed3 .ensures .1,
+      three .before .weighed2 .ensures .1,
+      three .before .before .weighed .ensures .1,
+    )
 
 add-result : tie.Need-add-result
 add-result c =
     let five = c .before .before in
     let three = five .before .before in
-    omega (arith, c .weighed7 .ensures .1, five .weighed5 .ensures .1, five .before .weighed4 .ensures .1, three .weighed3 .ensures .1, three .before .weighed2 .ensures .1, three .before .before .weighed .ensures .1)
+    omega (
+      arith,
+      c .weighed7 .ensures .1,
+      five .weighed5 .ensures .1,
+      five .before .weighed4 .ensures .1,
+      three .weighed3 .ensures .1,
+      three .before .weighed2 .ensures .1,
+      three .before .before .weighed .ensures .1,
+    )
 
 add-result-2 : tie.Need-add-result-2
 add-result-2 c =
     let five = c .before .before in
     let three = five .before .before in
-    omega (arith, c .weighed7 .ensures .1, c .before .weighed6 .ensures .1, five .weighed5 .ensures .1, five .before .weighed4 .ensures .1, three .weighed3 .ensures .1, three .before .weighed2 .ensures .1, three .before .before .weighed .ensures .1)
+    omega (
+      arith,
+      c .weighed7 .ensures .1,
+      c .before .weighed6 .ensures .1,
+      five .weighed5 .ensures .1,
+      five .before .weighed4 .ensures .1,
+      three .weighed3 .ensures .1,
+      three .before .weighed2 .ensures .1,
+      three .before .before .weighed .ensures .1,
+    )
 
 plus : {a b c d : ℕ} → a ≡ b → c ≡ d → a + c ≡ b + d
 plus e f = ap₂ _+_ e f

@@ -23,8 +23,10 @@ returns c =
     ∙ lookup-same (found .is-set7 .ensures)
     (account .account-with .ensures
     ∙ account-same
-    (nt .hash-if .ensures ∙ hash-same (nt .before .before .is-set .ensures) (nt .before .sixteen-at .ensures))
-    (lm .hash-if2 .ensures ∙ hash-same (lm .before .before .is-set2 .ensures) (lm .before .sixteen-at2 .ensures))
+    (nt .hash-if .ensures ∙ hash-same (nt .before .before .is-set .ensures)
+    (nt .before .sixteen-at .ensures))
+    (lm .hash-if2 .ensures ∙ hash-same (lm .before .before .is-set2 .ensures)
+    (lm .before .sixteen-at2 .ensures))
     (disabled .is-set3 .ensures) (hours .is-set4 .ensures) (dialin .is-set5 .ensures)
     (expired .is-set6 .ensures))
 
