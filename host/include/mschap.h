@@ -51,6 +51,8 @@
  *   Each begins with its kind and the version of its layout, MSCHAP_LAYOUT_VERSION; one of another
  *   kind or version, of another size or with bytes that no value has is refused with
  *   MSCHAP_BAD_ARGUMENT. Bytes are not signed: store values where nobody else writes.
+ *   Arguments that are exchanged by mistake are refused, or are no C: GCC 14 says so by default,
+ *   and other compilers with -Werror=incompatible-pointer-types.
  *
  * WHAT A FUNCTION RETURNS
  *   MSCHAP_OK (0), or the number of the first thing that is wrong, by the macros below.
