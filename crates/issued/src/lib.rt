@@ -42,21 +42,21 @@ pub fn is_bad_buffer(buffer: &[u8], used: usize, width: usize) -> bool
 }
 
 // A count for each octet in which an entry may end.
-pub struct LastOctets {
+pub struct LastOctetCounts {
     pub counts: [u16; OCTET_VALUES],
 }
 
 // The counts that are true of the used places of buffer, for a caller who does not keep them; zeros
 // where the buffer is bad.
-pub fn true_counts(buffer: &[u8], used: usize, width: usize) -> LastOctets
+pub fn true_counts(buffer: &[u8], used: usize, width: usize) -> LastOctetCounts
     ensures { λ r. ⌜ r .counts ≡ trueCounts width used (now (buffer .entry)) ⌝ }
 {
     let mut counts = [0u16; OCTET_VALUES];
     if is_bad_buffer(buffer, used, width) {
-        return LastOctets { counts };
+        return LastOctetCounts { counts };
     }
     entries::count(buffer, used, width, &mut counts);
-    LastOctets { counts }
+    LastOctetCounts { counts }
 }
 
 // Whether fewer than n places are left.

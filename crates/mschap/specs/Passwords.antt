@@ -34,7 +34,7 @@ MakeCharactersCall characters out r outAfter =
 abbrev pub textFrom : List ℕ → Text
 textFrom password = textOf (decodePassword password)
 
--- 101 (8 has no password that is valid), then 9: the buffer is too small
+-- 101 (a valid password is never too long), then 9: the buffer is too small
 unfoldable pub readRefusal : Text → List ℕ → ℕ
 readRefusal t out = cond (eqb (t .refusal) 0) (cond (ltb (length out) (t .size)) 9 0) (t .refusal)
 
