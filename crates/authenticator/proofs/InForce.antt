@@ -4,10 +4,10 @@
 use mathlib.Core.Bool.{Bool, true, false, cond, _||_, _&&_, or-true}
 use mathlib.Core.List.{List}
 use mathlib.Core.Option.{Option, none, some}
-use mathlib.Core.Path.{_≡_, refl, sym, ap, _∙_, subst}
+use mathlib.Core.Path.{_≡_, refl, ap, _∙_, subst}
 use Prim.Native.Nat.{ℕ, suc, _-_, _<_}
 use native.Mathlib.Omega.{arith}
-use borrow.Author.Tests.{eqb-true, eqb-false, ltb-true}
+use borrow.Author.Tests.{ltb-true}
 use lib.Dec.{eqb, ltb}
 use Rattle.octets.specs.Parts.{agrees}
 use Rattle.octets.proofs.Parts.{agrees-refl}
@@ -18,15 +18,21 @@ use Rattle.packets.specs.Response.{readResponse}
 use Rattle.packets.specs.declared.Response as fields
 use Rattle.packets.specs.declared.Change as changes
 use Rattle.authenticator.specs.Conversation.{ended, retried, awaitingChange}
-use Rattle.authenticator.specs.Admit.{stepRefusal}
 use Rattle.verify.specs.Response.{responseReason}
-use Rattle.authenticator.specs.Judge.{afterReason, judgeResponse, changeJudgement, judgeChange, judgeIn, judge}
+use Rattle.authenticator.specs.Judge.{
+  afterReason,
+  judgeResponse,
+  changeJudgement,
+  judgeChange,
+  judgeIn,
+  judge,
+}
 use Rattle.verify.specs.Change.{newHash}
 use Rattle.authenticator.specs.Step.{Outcome}
-use Rattle.authenticator.specs.Steps.{StepInput, stepOn, nextAfter, refusalAt}
+use Rattle.authenticator.specs.Steps.{StepInput, stepOn, nextAfter}
 use Rattle.accounts.specs.declared.Account.{Account}
 use Rattle.accounts.specs.declared.Lookup.{Lookup}
-use Rattle.authenticator.proofs.Steps.{judged-step, number-step, refused-same}
+use Rattle.authenticator.proofs.Steps.{Case, refused, repeated, judged, case-of}
 use Rattle.authenticator.specs.declared.Conversation.{Conversation}
 use Rattle.authenticator.specs.declared.Phase.{Phase}
 use Rattle.authenticator.specs.declared.Phase.the-variants.{Response, Change, Ended}
@@ -37,29 +43,40 @@ CanBeInForce c x = contains (challengesFrom (suc (c .retries)) (c .challenge)) x
 
 pub now-in-force : (c : Conversation) → CanBeInForce c (c .challenge)
 unfolding contains challengesFrom
-now-in-force c = ap (λ (t : Bool). t || contains (challengesFrom (c .retries) (incremented (c .challenge))) (c .challenge)) (agrees-refl (c .challenge))
+now-in-force c = ap (λ (t : Bool). t || contains (challengesFrom (c .retries)
+    (incremented (c .challenge))) (c .challenge)) (agrees-refl (c .challenge))
 
-retried-adds-none : (c : Conversation) (x : List ℕ) → 0 < c .retries → CanBeInForce (retried c) x → CanBeInForce c x
+retried-adds-none : (c : Conversation) (x : List ℕ) → 0 < c .retries → CanBeInForce (retried c) x
+    → CanBeInForce c x
 unfolding contains challengesFrom
 retried-adds-none c x more h =
     let e : suc (c .retries - 1) ≡ c .retries = omega arith in
-    ap (λ (t : Bool). agrees (c .challenge) x || t) (subst (λ (n : ℕ). contains (challengesFrom n (incremented (c .challenge))) x ≡ true) e h) ∙ or-true (agrees (c .challenge) x)
+    ap (λ (t : Bool). agrees (c .challenge) x || t)
+    (subst (λ (n : ℕ). contains (challengesFrom n (incremented (c .challenge))) x ≡ true) e h)
+    ∙ or-true (agrees (c .challenge) x)
 
-after-adds-none : (c : Conversation) (a : Account) (e : ℕ) (x : List ℕ) → CanBeInForce (afterReason c a e) x → CanBeInForce c x
-after-adds-none c a e x = which (eqb e authenticationFailure) (ltb 0 (c .retries)) (eqb e passwordExpired) refl
+after-adds-none : (c : Conversation) (a : Account) (e : ℕ) (x : List ℕ)
+    → CanBeInForce (afterReason c a e) x → CanBeInForce c x
+after-adds-none c a e x = which (eqb e authenticationFailure) (ltb 0 (c .retries))
+    (eqb e passwordExpired) refl
   where
-    which : (t u v : Bool) → ltb 0 (c .retries) ≡ u → CanBeInForce (cond (t && u) (retried c) (cond v (awaitingChange c a) (ended c))) x → CanBeInForce c x
+    which : (t u v : Bool) → ltb 0 (c .retries) ≡ u
+        → CanBeInForce (cond (t && u) (retried c) (cond v (awaitingChange c a) (ended c))) x
+        → CanBeInForce c x
     which true true v p h = retried-adds-none c x (ltb-true 0 (c .retries) p) h
     which true false true p h = h
     which true false false p h = h
     which false u true p h = h
     which false u false p h = h
 
-response-adds-none : (c : Conversation) (l : Lookup) (f : fields.Response) (x : List ℕ) → CanBeInForce (judgeResponse c l f .next) x → CanBeInForce c x
+response-adds-none : (c : Conversation) (l : Lookup) (f : fields.Response) (x : List ℕ)
+    → CanBeInForce (judgeResponse c l f .next) x → CanBeInForce c x
 unfolding judgeResponse
-response-adds-none c l f x h = after-adds-none c (l .account) (responseReason (c .terms) (c .challenge) l f) x h
+response-adds-none c l f x h = after-adds-none c (l .account)
+    (responseReason (c .terms) (c .challenge) l f) x h
 
-change-adds-none : (c : Conversation) (f : changes.Change) (x : List ℕ) → CanBeInForce (judgeChange c f .next) x → CanBeInForce c x
+change-adds-none : (c : Conversation) (f : changes.Change) (x : List ℕ)
+    → CanBeInForce (judgeChange c f .next) x → CanBeInForce c x
 unfolding judgeChange
 change-adds-none c f x = which (newHash (c .kept) (c .challenge) f)
   where
@@ -67,21 +84,25 @@ change-adds-none c f x = which (newHash (c .kept) (c .challenge) f)
     which none h = h
     which (some v) h = h
 
-phase-adds-none : (ph : Phase) (c : Conversation) (p : List ℕ) (l : Lookup) (x : List ℕ) → CanBeInForce (judgeIn ph c p l .next) x → CanBeInForce c x
+phase-adds-none : (ph : Phase) (c : Conversation) (p : List ℕ) (l : Lookup) (x : List ℕ)
+    → CanBeInForce (judgeIn ph c p l .next) x → CanBeInForce c x
 phase-adds-none Response c p l x h = response-adds-none c l (readResponse p) x h
 phase-adds-none Change c p l x h = change-adds-none _ _ x h
 phase-adds-none Ended c p l x h = h
 
-judge-adds-none : (c : Conversation) (p : List ℕ) (l : Lookup) (x : List ℕ) → CanBeInForce (judge c p l .next) x → CanBeInForce c x
+judge-adds-none : (c : Conversation) (p : List ℕ) (l : Lookup) (x : List ℕ)
+    → CanBeInForce (judge c p l .next) x → CanBeInForce c x
 unfolding judge
 judge-adds-none c p l x h = phase-adds-none (c .phase) c p l x h
 
 -- for any packet, record and buffer
-pub step-adds-none : (c : Conversation) (s : StepInput) (x : List ℕ) → CanBeInForce (nextAfter stepOn c s) x → CanBeInForce c x
-step-adds-none c s x h = which (eqb (refusalAt stepOn c s) 0) refl
+pub step-adds-none : (c : Conversation) (s : StepInput) (x : List ℕ)
+    → CanBeInForce (nextAfter stepOn c s) x → CanBeInForce c x
+step-adds-none c s x h = which (case-of c (s .packet) (s .account) (s .buffer))
   where
-    which : (t : Bool) → eqb (refusalAt stepOn c s) 0 ≡ t → CanBeInForce c x
-    which true e =
-        let ok : stepRefusal c (s .packet) (s .buffer) ≡ 0 = sym (number-step c (s .packet) (s .account) (s .buffer)) ∙ eqb-true (refusalAt stepOn c s) 0 e in
-        judge-adds-none c (s .packet) (s .account) x (subst (λ (o : Outcome). CanBeInForce (o .answer .next) x) (judged-step c (s .packet) (s .account) (s .buffer) ok) h)
-    which false e = subst (λ (d : Conversation). CanBeInForce d x) (refused-same c s (eqb-false (refusalAt stepOn c s) 0 e)) h
+    which : Case c (s .packet) (s .account) (s .buffer) → CanBeInForce c x
+    which (refused n e) = subst (λ (o : Outcome). CanBeInForce (o .answer .next) x) e h
+    which (repeated z r e) = subst (λ (o : Outcome). CanBeInForce (o .answer .next) x) e h
+    which (judged ok e) =
+        judge-adds-none c (s .packet) (s .account) x
+        (subst (λ (o : Outcome). CanBeInForce (o .answer .next) x) e h)

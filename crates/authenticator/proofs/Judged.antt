@@ -9,8 +9,7 @@ use mathlib.Core.Option.{Option, some}
 use mathlib.Core.Path.{_≡_, refl, sym, ap, _∙_}
 use Prim.Native.Nat.{ℕ, _<_}
 use native.Mathlib.Omega.{arith}
-use borrow.Author.Tests.{lt-ltb, eqb-true, eqb-false}
-use lib.Dec.{eqb}
+use borrow.Author.Tests.{lt-ltb}
 use Rattle.accounts.specs.Account.{notFound, found, changed, Rightful}
 use Rattle.accounts.specs.declared.Account.{Account}
 use Rattle.accounts.specs.declared.Lookup.{Lookup}
@@ -23,7 +22,6 @@ use Rattle.verify.specs.Accepted.{SameButIgnored}
 use Rattle.verify.proofs.Accepted.{ignored-hash}
 use Rattle.verify.proofs.Reasons.{reason-invalid, rightful-reason}
 use Rattle.authenticator.specs.Conversation.{ended, retried, awaitingChange}
-use Rattle.authenticator.specs.Admit.{stepRefusal}
 use Rattle.authenticator.specs.Judge.{
   judgementFor,
   judgeResponse,
@@ -38,7 +36,9 @@ use Rattle.authenticator.specs.declared.Judgement.{Judgement}
 use Rattle.authenticator.specs.declared.Phase.{Phase}
 use Rattle.authenticator.specs.declared.Phase.the-variants.{Response, Change, Ended}
 use Rattle.authenticator.specs.declared.Reply.the-variants.{Success, Failure}
-use Rattle.authenticator.proofs.Steps.{judged-step, refused-step}
+use Rattle.authenticator.proofs.Admitted.{Passes}
+use Rattle.authenticator.proofs.Steps.{Case, refused, repeated, judged, case-of, judged-step}
+use Rattle.authenticator.proofs.Steps.{repeated-step, refused-step}
 
 -- ---- what is drawn
 
@@ -58,14 +58,16 @@ accepted c = record { reply = Success; next = ended c; updated = notFound }
 abbrev pub changedTo : Conversation → List ℕ → Judgement
 changedTo c h = record { reply = Success; next = ended c; updated = found (changed (c .kept) h) }
 
-module _ (c : Conversation) (p b : List ℕ) (ok : stepRefusal c p b ≡ 0) where
-  step-in : (l : Lookup) {ph : Phase} → c .phase ≡ ph → step c p l b ≡ judgedAs c (judgeIn ph c p l) b
+module _ (c : Conversation) (p b : List ℕ) (ok : Passes c p b) where
+  step-in : (l : Lookup) {ph : Phase} → c .phase ≡ ph → step c p l b
+      ≡ judgedAs c (judgeIn ph c p l) b
   unfolding judge
   step-in l e = judged-step c p l b ok ∙ ap (λ (x : Phase). judgedAs c (judgeIn x c p l) b) e
 
   response-step : (l : Lookup) → c .phase ≡ Response
       → step c p l b
-      ≡ judgedAs c (judgementFor c (l .account) (responseReason (c .terms) (c .challenge) l (readResponse p))) b
+      ≡ judgedAs c (judgementFor c (l .account) (responseReason (c .terms) (c .challenge) l
+      (readResponse p))) b
   unfolding judgeResponse
   response-step l e = step-in l e
 
@@ -84,7 +86,7 @@ rightful-judged : (x : Bool) (c : Conversation) (a : Account)
 rightful-judged true c a = refl
 rightful-judged false c a = refl
 
-module _ (c : Conversation) (p b : List ℕ) (ok : stepRefusal c p b ≡ 0) where
+module _ (c : Conversation) (p b : List ℕ) (ok : Passes c p b) where
   pub invalid-law : (l : Lookup) → c .phase ≡ Response
       → foundValid (c .terms) (c .challenge) l (readResponse p) ≡ false → 0 < c .retries
       → step c p l b ≡ judgedAs c (tryAgain c) b
@@ -113,7 +115,7 @@ module _ (c : Conversation) (p b : List ℕ) (ok : stepRefusal c p b ≡ 0) wher
 
 -- nor has what is to be ignored of the packet
 pub ignored-step : (c : Conversation) (p q b : List ℕ) (l m : Lookup) → c .phase ≡ Change
-    → stepRefusal c p b ≡ 0 → stepRefusal c q b ≡ 0 → SameButIgnored (readChange p) (readChange q)
+    → Passes c p b → Passes c q b → SameButIgnored (readChange p) (readChange q)
     → step c p l b ≡ step c q m b
 ignored-step c p q b l m ph x y e =
     change-step c p b x l ph
@@ -129,23 +131,25 @@ changed-rightful a h g =
 
 -- ---- no record and an invalid Response
 
--- the whole outcome, answer and buffer: by the phase, and by whether the packet is refused
+-- the whole outcome, answer and buffer: by the phase, and by whether the packet is judged
 module _ (c : Conversation) (p b : List ℕ) where
-  by-refusal : (l m : Lookup) → (stepRefusal c p b ≡ 0 → step c p l b ≡ step c p m b) → step c p l b ≡ step c p m b
-  by-refusal l m ok = which (eqb (stepRefusal c p b) 0) refl
+  -- a refused packet and a repeat are answered without the record
+  by-case : (l m : Lookup) → (Passes c p b → step c p l b ≡ step c p m b)
+      → step c p l b ≡ step c p m b
+  by-case l m ok = which (case-of c p l b)
     where
-      which : (t : Bool) → eqb (stepRefusal c p b) 0 ≡ t → step c p l b ≡ step c p m b
-      which true e = ok (eqb-true (stepRefusal c p b) 0 e)
-      which false e =
-          let n = eqb-false (stepRefusal c p b) 0 e in
-          refused-step c p l b n ∙ sym (refused-step c p m b n)
+      which : Case c p l b → step c p l b ≡ step c p m b
+      which (refused n e) = e ∙ sym (refused-step c p m b n)
+      which (repeated z r e) = e ∙ sym (repeated-step c p m b z r)
+      which (judged h e) = ok h
 
   -- where no Response is awaited, the record passed has no effect
   pub same-record : (l m : Lookup) → c .phase ≢ Response → step c p l b ≡ step c p m b
   unfolding judge
   same-record l m h =
-      by-refusal l m
-      (λ ok. judged-step c p l b ok ∙ ap (λ (j : Judgement). judgedAs c j b) (which (c .phase) h) ∙ sym (judged-step c p m b ok))
+      by-case l m
+      (λ ok. judged-step c p l b ok ∙ ap (λ (j : Judgement). judgedAs c j b) (which (c .phase) h)
+      ∙ sym (judged-step c p m b ok))
     where
       which : (ph : Phase) → ph ≢ Response → judgeIn ph c p l ≡ judgeIn ph c p m
       which Response n = absurd (n refl)
@@ -154,12 +158,13 @@ module _ (c : Conversation) (p b : List ℕ) where
 
   -- two lookups with no record, or with one for which the Response is invalid: in every phase, for
   -- any packet, refused or not
-  pub same-invalid : (l m : Lookup) → foundValid (c .terms) (c .challenge) l (readResponse p) ≡ false
+  pub same-invalid : (l m : Lookup) → foundValid (c .terms) (c .challenge) l (readResponse p)
+      ≡ false
       → foundValid (c .terms) (c .challenge) m (readResponse p) ≡ false
       → step c p l b ≡ step c p m b
-  same-invalid l m v w = by-refusal l m (λ ok. which (c .phase) ok refl)
+  same-invalid l m v w = by-case l m (λ ok. which (c .phase) ok refl)
     where
-      which : (ph : Phase) → stepRefusal c p b ≡ 0 → c .phase ≡ ph → step c p l b ≡ step c p m b
+      which : (ph : Phase) → Passes c p b → c .phase ≡ ph → step c p l b ≡ step c p m b
       which Response ok e =
           response-step c p b ok l e
           ∙ ap (λ (n : ℕ). judgedAs c (judgementFor c (l .account) n) b)
@@ -167,7 +172,8 @@ module _ (c : Conversation) (p b : List ℕ) where
           ∙ ap (λ (n : ℕ). judgedAs c (judgementFor c (m .account) n) b)
           (sym (reason-invalid (c .terms) (c .challenge) (readResponse p) m w))
           ∙ sym (response-step c p b ok m e)
-      which Change ok e = same-record l m (λ f. let z : _≡_ {A = ℕ} 0 1 = cc in absurd (omega arith))
+      which Change ok e = same-record l m (λ f. let z : _≡_ {A = ℕ} 0 1 = cc in absurd
+          (omega arith))
       which Ended ok e = same-record l m (λ f. let z : _≡_ {A = ℕ} 0 1 = cc in absurd (omega arith))
 
   pub same-answer : (a : Account) → valid (c .terms) (c .challenge) a (readResponse p) ≡ false

@@ -1,5 +1,8 @@
 pub mod Admitted
 pub mod Steps
+pub mod Seen
+pub mod Repeats
+pub mod Fresh
 pub mod Judged
 pub mod Judgements
 pub mod Padding

@@ -1,26 +1,35 @@
 -- "Octets after Length are padding and ignored" (document 01), for whole steps: a packet with a
--- good frame, cut at its Length with any octets behind, makes the same step, refused or judged, in
--- any conversation.
+-- good frame, cut at its Length with any octets behind, makes the same step, refused, repeated or
+-- judged, in any conversation.
 -- Assumes nothing.
 use mathlib.Core.Bool.{Bool, true, false, cond}
 use mathlib.Core.List.{List, _++_}
 use mathlib.Core.Path.{_≡_, refl, sym, ap, _∙_}
 use Prim.Native.Nat.{ℕ}
 use native.Mathlib.Omega.{arith}
-use borrow.Author.Tests.{eqb-true, eqb-false}
-use lib.Dec.{eqb}
 use lib.ListN.{take}
 use Rattle.packets.specs.Frame.{lengthOf, badFrame}
 use Rattle.packets.specs.Response.{badResponseSize, badResponseFlag, responseRefusal}
 use Rattle.packets.specs.Change.{badChangeSize, badChangeFlags, changeRefusal}
-use Rattle.packets.proofs.Padding.{SamePacket, cut-at-length, same-code, same-id, same-response-refusal, same-response, same-change-refusal, same-change}
+use Rattle.packets.proofs.Padding.{
+  SamePacket,
+  cut-at-length,
+  same-code,
+  same-id,
+  same-response-refusal,
+  same-response,
+  same-change-refusal,
+  same-change,
+}
 use Rattle.authenticator.specs.Judge.{judgeChange, judgeResponse, judgeIn, judge}
-use Rattle.authenticator.specs.Admit.{bodyRefusal, stepRefusal}
+use Rattle.authenticator.specs.Admit.{isRepeat, bodyRefusal, refusalFor, stepRefusal}
 use Rattle.authenticator.specs.declared.Judgement.{Judgement}
 use Rattle.authenticator.specs.Step.{judgedAs, refusedAs, step}
 use Rattle.accounts.specs.declared.Lookup.{Lookup}
-use Rattle.authenticator.proofs.Steps.{judged-step, refused-step}
-use Rattle.authenticator.proofs.Admitted.{passed}
+use Rattle.authenticator.proofs.Steps.{Case, refused, repeated, judged, case-of, judged-step}
+use Rattle.authenticator.proofs.Steps.{repeated-step, refused-step}
+use Rattle.authenticator.proofs.Admitted.{passes, passed}
+use Rattle.authenticator.specs.declared.LastAnswer.{LastAnswer}
 use Rattle.authenticator.specs.declared.Conversation.{Conversation}
 use Rattle.authenticator.specs.declared.Phase.{Phase}
 use Rattle.authenticator.specs.declared.Phase.the-variants.{Response, Change, Ended}
@@ -36,33 +45,41 @@ module _ (p q : List ℕ) (s : SamePacket p q) where
   same-body Change = same-change-refusal p q s
   same-body Ended = refl
 
+  same-repeat : (last : LastAnswer) → isRepeat last q ≡ isRepeat last p
+  same-repeat last = simp (same-code p q s, same-id p q s)
+
   same-refusal : (c : Conversation) (b : List ℕ) → stepRefusal c q b ≡ stepRefusal c p b
-  unfolding stepRefusal
+  unfolding refusalFor
   same-refusal c b = simp (s .frame, same-code p q s, same-id p q s, same-body (c .phase))
 
   -- where neither 6 nor 7 is due, the fields are the same
-  same-judged : (ph : Phase) (c : Conversation) (l : Lookup) → bodyRefusal ph p ≡ 0 → judgeIn ph c q l ≡ judgeIn ph c p l
+  same-judged : (ph : Phase) (c : Conversation) (l : Lookup) → bodyRefusal ph p ≡ 0
+      → judgeIn ph c q l ≡ judgeIn ph c p l
   unfolding responseRefusal changeRefusal
   same-judged Response c l e =
-      ap (judgeResponse c l) (same-response p q s (size-good (badResponseSize p) (badResponseFlag p) e))
+      ap (judgeResponse c l) (same-response p q s (size-good (badResponseSize p)
+      (badResponseFlag p) e))
   same-judged Change c l e =
       ap (judgeChange c) (same-change p q s (size-good (badChangeSize p) (badChangeFlags p) e))
   same-judged Ended c l e = refl
 
   same-step : (c : Conversation) (l : Lookup) (b : List ℕ) → step c q l b ≡ step c p l b
   unfolding judge
-  same-step c l b = which (eqb (stepRefusal c p b) 0) refl
+  same-step c l b = which (case-of c p l b)
     where
-      which : (t : Bool) → eqb (stepRefusal c p b) 0 ≡ t → step c q l b ≡ step c p l b
-      which true e =
-          let ok = eqb-true (stepRefusal c p b) 0 e in
-          judged-step c q l b (same-refusal c b ∙ ok)
-          ∙ ap (λ (j : Judgement). judgedAs c j b) (same-judged (c .phase) c l (passed c p b ok .body)) ∙ sym (judged-step c p l b ok)
-      which false e =
-          let no = eqb-false (stepRefusal c p b) 0 e in
-          refused-step c q l b (λ z. no (sym (same-refusal c b) ∙ z))
-          ∙ ap (λ (n : ℕ). refusedAs n c b) (same-refusal c b) ∙ sym (refused-step c p l b no)
+      which : Case c p l b → step c q l b ≡ step c p l b
+      which (refused n e) =
+          refused-step c q l b (λ z. n (sym (same-refusal c b) ∙ z))
+          ∙ ap (λ (n : ℕ). refusedAs n c b) (same-refusal c b) ∙ sym e
+      which (repeated z r e) =
+          repeated-step c q l b (same-refusal c b ∙ z) (same-repeat (c .last) ∙ r) ∙ sym e
+      which (judged h e) =
+          judged-step c q l b
+          (passed c q b (same-refusal c b ∙ passes c p b h) (same-repeat (c .last) ∙ h .fresh))
+          ∙ ap (λ (j : Judgement). judgedAs c j b) (same-judged (c .phase) c l (h .body)) ∙ sym e
 
-pub padding-ignored : (p behind : List ℕ) → badFrame p ≡ false → (c : Conversation) (l : Lookup) (b : List ℕ)
+pub padding-ignored : (p behind : List ℕ) → badFrame p ≡ false
+    → (c : Conversation) (l : Lookup) (b : List ℕ)
     → step c (take (lengthOf p) p ++ behind) l b ≡ step c p l b
-padding-ignored p behind good = same-step p (take (lengthOf p) p ++ behind) (cut-at-length p behind good)
+padding-ignored p behind good = same-step p (take (lengthOf p) p ++ behind)
+    (cut-at-length p behind good)

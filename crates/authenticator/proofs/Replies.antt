@@ -22,26 +22,36 @@ use Rattle.packets.proofs.ReadBack.{success-back, failure-read}
 use Rattle.verify.specs.Response.{responseReason}
 use Rattle.verify.specs.Change.{newHash}
 use Rattle.verify.proofs.Reasons.{Reason, success, change, three-digits, response-reason}
-use Rattle.authenticator.specs.Admit.{stepRefusal}
-use Rattle.authenticator.specs.Judge.{reasonOf, mayRetry, replyFor, judgeResponse, changeJudgement, judgeChange, judgeIn, judge}
+use Rattle.authenticator.specs.Judge.{
+  reasonOf,
+  mayRetry,
+  replyFor,
+  judgeResponse,
+  changeJudgement,
+  judgeChange,
+  judgeIn,
+  judge,
+}
 use Rattle.authenticator.specs.Encode.{version, retryDigit, replyPacket}
-use Rattle.authenticator.specs.Step.{reasonIn, Outcome, judgedAs}
-use Rattle.authenticator.specs.Steps.{StepInput, stepOn, refusalAt, replyOf}
+use Rattle.authenticator.specs.Admit.{isRepeat}
+use Rattle.authenticator.specs.Step.{reasonIn, isRepeated, Outcome, judgedAs}
+use Rattle.authenticator.specs.Steps.{StepInput, stepOn, replyOf}
 use Rattle.authenticator.specs.declared.Conversation.{Conversation}
 use Rattle.authenticator.specs.declared.Judgement.{Judgement}
 use Rattle.authenticator.specs.declared.Phase.{Phase}
 use Rattle.authenticator.specs.declared.Phase.the-variants.{Response, Change, Ended}
 use Rattle.authenticator.specs.declared.Reply.{Reply}
 use Rattle.authenticator.specs.declared.Reply.the-variants.{Success, Failure}
-use Rattle.authenticator.proofs.Admitted.{passed}
-use Rattle.authenticator.proofs.Steps.{judged-step, number-step, reply-of}
+use Rattle.authenticator.proofs.Admitted.{Passes, readable-by}
+use Rattle.authenticator.proofs.Steps.{judged-step, kind-repeated, reply-of, repeated-reply}
 
 -- ---- the reply is the one for its reason
 
 reason-of-reply : (c : Conversation) (e : ℕ) → reasonOf (replyFor c e) ≡ e
 reason-of-reply c e = which (eqb e noReason) refl
   where
-    which : (t : Bool) → eqb e noReason ≡ t → reasonOf (cond t Success (Failure e (mayRetry c e))) ≡ e
+    which : (t : Bool) → eqb e noReason ≡ t → reasonOf (cond t Success (Failure e (mayRetry c e)))
+        ≡ e
     which true z = sym (eqb-true e noReason z)
     which false z = refl
 
@@ -89,18 +99,15 @@ read-reply id (Failure e true) behind small =
 read-reply id (Failure e false) behind small =
     failure-read id e 0 version behind small (omega arith) (omega arith)
 
-module _ (c : Conversation) (s : StepInput) (ok : refusalAt stepOn c s ≡ 0) where
+module _ (c : Conversation) (s : StepInput) (ok : Passes c (s .packet) (s .buffer)) where
   abbrev reason : ℕ
   reason = reasonIn (stepOn c s .answer .kind)
 
   abbrev judgement : Judgement
   judgement = judge c (s .packet) (s .account)
 
-  none-refused : stepRefusal c (s .packet) (s .buffer) ≡ 0
-  none-refused = sym (number-step c (s .packet) (s .account) (s .buffer)) ∙ ok
-
   took : stepOn c s ≡ judgedAs c judgement (s .buffer)
-  took = judged-step c (s .packet) (s .account) (s .buffer) none-refused
+  took = judged-step c (s .packet) (s .account) (s .buffer) ok
 
   same-reason : reason ≡ reasonOf (judgement .reply)
   same-reason = ap (λ (o : Outcome). reasonIn (o .answer .kind)) took
@@ -116,7 +123,7 @@ module _ (c : Conversation) (s : StepInput) (ok : refusalAt stepOn c s ≡ 0) wh
   pub judged-reply : replyOf (stepOn c s) ≡ replyPacket (c .id) (replyFor c reason)
   judged-reply =
       ap replyOf took
-      ∙ reply-of c judgement (s .buffer) (passed c (s .packet) (s .buffer) none-refused .room)
+      ∙ reply-of c judgement (s .buffer) (ok .readable .room)
       ∙ ap (replyPacket (c .id)) same-reply
 
   -- and it reads as the reason, R and V=2
@@ -126,3 +133,16 @@ module _ (c : Conversation) (s : StepInput) (ok : refusalAt stepOn c s ≡ 0) wh
       ap (λ (x : List ℕ). readReply (c .id) (x ++ behind)) judged-reply
       ∙ read-reply (c .id) (replyFor c reason) behind
       (subst (λ (e : ℕ). e < 1000) (sym (reason-of-reply c reason)) (three-digits judged-reason))
+
+-- a repeat reads as the reply that was given
+pub repeat-read : (c : Conversation) (s : StepInput)
+    → isRepeated (stepOn c s .answer .kind) ≡ true → reasonOf (c .last .reply) < 1000
+    → (behind : List ℕ)
+    → readReply (c .last .id) (replyOf (stepOn c s) ++ behind) ≡ readingFor (c .last .reply)
+repeat-read c s r small behind =
+    let k = kind-repeated c (s .packet) (s .account) (s .buffer) r in
+    let room = readable-by c (s .packet) (s .buffer) (isRepeat (c .last) (s .packet))
+    (k .0) .room in
+    ap (λ (x : List ℕ). readReply (c .last .id) (x ++ behind))
+    (ap replyOf (k .1) ∙ repeated-reply c (s .buffer) room)
+    ∙ read-reply (c .last .id) (c .last .reply) behind small

@@ -1,4 +1,5 @@
--- The conversation and its successors (document 01, "How the box judges").
+-- The conversation and its successors (document 01, "How the box judges"), and what it keeps of its
+-- last answer (document 02, request 2026-01).
 -- Assumes nothing: these are definitions.
 use mathlib.Core.Bool.{Bool, true, false}
 use mathlib.Core.List.{List}
@@ -9,8 +10,11 @@ use Rattle.packets.specs.Codes.{responseCode, changeCode}
 use Rattle.accounts.specs.Account.{blankAccount}
 use Rattle.accounts.specs.declared.Account.{Account}
 use Rattle.authenticator.specs.declared.Conversation.{Conversation}
+use Rattle.authenticator.specs.declared.LastAnswer.{LastAnswer}
 use Rattle.authenticator.specs.declared.Phase.{Phase}
 use Rattle.authenticator.specs.declared.Phase.the-variants.{Response, Change, Ended}
+use Rattle.authenticator.specs.declared.Reply.{Reply}
+use Rattle.authenticator.specs.declared.Reply.the-variants.{Success}
 
 -- the code of the packet that each phase awaits; 0 is none
 abbrev pub awaitedCode : Phase → ℕ
@@ -23,7 +27,7 @@ isEnded Response = false
 isEnded Change = false
 isEnded Ended = true
 
--- every successor keeps the terms
+-- every successor keeps the terms and, until the step puts the new one there, the last answer
 abbrev pub successor : Conversation → ℕ → List ℕ → ℕ → Phase → Account → Conversation
 successor c id challenge retries phase kept =
     record {
@@ -33,6 +37,7 @@ successor c id challenge retries phase kept =
       retries = retries;
       phase = phase;
       kept = kept;
+      last = c .last;
     }
 
 -- the end: the kept record is dropped
@@ -48,6 +53,32 @@ retried c = successor c (nextId (c .id)) (incremented (c .challenge)) (c .retrie
 abbrev pub awaitingChange : Conversation → Account → Conversation
 awaitingChange c a = successor c (nextId (c .id)) (c .challenge) (c .retries) Change a
 
+-- ---- the last answer
+
+-- none yet: the Challenge is no answer
+abbrev pub noAnswer : LastAnswer
+noAnswer = record { present = false; code = 0; id = 0; reply = Success }
+
+-- the reply that the awaited packet draws: a packet that is judged has the awaited code and the
+-- awaited identifier
+abbrev pub answerWith : Conversation → Reply → LastAnswer
+answerWith c reply =
+    record { present = true; code = awaitedCode (c .phase); id = c .id; reply = reply }
+
+abbrev pub withLast : LastAnswer → Conversation → Conversation
+withLast last c =
+    record {
+      terms = c .terms;
+      id = c .id;
+      challenge = c .challenge;
+      retries = c .retries;
+      phase = c .phase;
+      kept = c .kept;
+      last = last;
+    }
+
+-- ---- no conversation
+
 -- what a refused opening hands out
 abbrev pub closed : Conversation
 closed =
@@ -58,4 +89,5 @@ closed =
       retries = 0;
       phase = Ended;
       kept = blankAccount;
+      last = noAnswer;
     }

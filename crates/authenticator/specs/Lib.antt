@@ -5,3 +5,4 @@ pub mod Judge
 pub mod Encode
 pub mod Step
 pub mod Steps
+pub mod Repeats

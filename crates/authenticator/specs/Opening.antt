@@ -12,7 +12,7 @@ use Rattle.packets.specs.Frame.{writtenOver}
 use Rattle.challenges.specs.Challenges.{challengesFrom}
 use Rattle.packets.specs.Reply.{challengePacket, badReplyBuffer}
 use Rattle.accounts.specs.Account.{blankAccount}
-use Rattle.authenticator.specs.Conversation.{closed}
+use Rattle.authenticator.specs.Conversation.{noAnswer, closed}
 use Rattle.authenticator.specs.declared.Retries.{Retries}
 use Rattle.authenticator.specs.declared.Retries.the-variants.{Default, Count}
 use Rattle.authenticator.specs.declared.LmChoice.{LmChoice}
@@ -74,6 +74,7 @@ firstConversation o =
       retries = retriesOf (o .retries);
       phase = Response;
       kept = blankAccount;
+      last = noAnswer;
     }
 
 abbrev pub openingPacket : Opening → List ℕ

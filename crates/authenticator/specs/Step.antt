@@ -1,8 +1,8 @@
 -- One step of a conversation: a packet, a record or none, and a reply buffer are passed to it. The
--- packet is admitted or refused (specs/Admit), judged (specs/Judge), and its reply is encoded
--- (specs/Encode).
+-- packet is refused, a repeat, or awaited (specs/Admit), an awaited one is judged (specs/Judge),
+-- and the reply is encoded (specs/Encode).
 -- Assumes nothing: these are definitions.
-use mathlib.Core.Bool.{cond}
+use mathlib.Core.Bool.{Bool, true, false, cond, _&&_}
 use mathlib.Core.List.{List}
 use Prim.Native.Nat.{ℕ}
 use lib.Dec.{eqb}
@@ -10,40 +10,64 @@ use lib.ListN.{length}
 use Rattle.accounts.specs.Account.{notFound}
 use Rattle.accounts.specs.declared.Lookup.{Lookup}
 use Rattle.packets.specs.Frame.{writtenOver}
-use Rattle.authenticator.specs.Admit.{stepRefusal}
+use Rattle.authenticator.specs.Conversation.{answerWith, withLast}
+use Rattle.authenticator.specs.Admit.{isRepeat, stepRefusal}
 use Rattle.authenticator.specs.Judge.{reasonOf, judge}
 use Rattle.authenticator.specs.Encode.{replyPacket}
 use Rattle.authenticator.specs.declared.Conversation.{Conversation}
 use Rattle.authenticator.specs.declared.Judgement.{Judgement}
 use Rattle.authenticator.specs.declared.Kind.{Kind}
-use Rattle.authenticator.specs.declared.Kind.the-variants.{Refused, Judged}
+use Rattle.authenticator.specs.declared.Kind.the-variants.{Refused, Repeated, Judged}
 use Rattle.authenticator.specs.declared.Answer.{Answer}
 
--- document 01's refusal number of an answer (0 is none), and the reason of a judged packet (0 is
--- Success)
+-- document 01's refusal number of an answer (0 is none); the reason that its reply gives (0 is
+-- Success, and none beside a refusal); and whether the reply is the last one again
 abbrev pub refusalIn : Kind → ℕ
 refusalIn (Refused n) = n
+refusalIn (Repeated e) = 0
 refusalIn (Judged e) = 0
 
 abbrev pub reasonIn : Kind → ℕ
 reasonIn (Refused n) = 0
+reasonIn (Repeated e) = e
 reasonIn (Judged e) = e
+
+abbrev pub isRepeated : Kind → Bool
+isRepeated (Refused n) = false
+isRepeated (Repeated e) = true
+isRepeated (Judged e) = false
 
 -- the answer, and the reply buffer afterwards
 pub record Outcome : Type 0 where
   pub answer : Answer
   pub buffer : List ℕ
 
--- "Every reply carries the answered identifier": the one that the conversation awaited.
+-- "Every reply carries the answered identifier": the one that the conversation awaited. The next
+-- conversation keeps the answer.
 abbrev pub judgedAs : Conversation → Judgement → List ℕ → Outcome
 judgedAs c j b =
     let reply = replyPacket (c .id) (j .reply) in
     record {
       answer = record {
         kind = Judged (reasonOf (j .reply));
-        next = j .next;
+        next = withLast (answerWith c (j .reply)) (j .next);
         written = length reply;
         updated = j .updated;
+      };
+      buffer = writtenOver reply b;
+    }
+
+-- "draws the same reply octets and is not judged; the conversation stays as it was, and no record
+-- is handed out"
+abbrev pub repeatedAs : Conversation → List ℕ → Outcome
+repeatedAs c b =
+    let reply = replyPacket (c .last .id) (c .last .reply) in
+    record {
+      answer = record {
+        kind = Repeated (reasonOf (c .last .reply));
+        next = c;
+        written = length reply;
+        updated = notFound;
       };
       buffer = writtenOver reply b;
     }
@@ -56,12 +80,19 @@ refusedAs n c b =
       buffer = b;
     }
 
--- the reason with which a packet is judged; 0 beside a refusal
+-- the reason of the reply to a packet that is not refused: the last one's again, or the judgement's
 unfoldable pub stepReason : Conversation → List ℕ → Lookup → List ℕ → ℕ
-stepReason c p l b = cond (eqb (stepRefusal c p b) 0) (reasonOf (judge c p l .reply)) 0
+stepReason c p l b =
+    cond (eqb (stepRefusal c p b) 0)
+    (cond (isRepeat (c .last) p) (reasonOf (c .last .reply)) (reasonOf (judge c p l .reply)))
+    0
+
+-- a repeat that is not refused
+abbrev pub stepRepeats : Conversation → List ℕ → List ℕ → Bool
+stepRepeats c p b = eqb (stepRefusal c p b) 0 && isRepeat (c .last) p
 
 unfoldable pub step : Conversation → List ℕ → Lookup → List ℕ → Outcome
 step c p l b =
     cond (eqb (stepRefusal c p b) 0)
-    (judgedAs c (judge c p l) b)
+    (cond (isRepeat (c .last) p) (repeatedAs c b) (judgedAs c (judge c p l) b))
     (refusedAs (stepRefusal c p b) c b)

@@ -10,7 +10,7 @@ use message::reasons;
 const VERSION: u8 = 2;
 
 // The reason that a reply gives; 0 is Success.
-pub(crate) fn reason_of(reply: Reply) -> u16
+pub fn reason_of(reply: Reply) -> u16
     ensures { λ r. ⌜ r ≡ reasonOf reply ⌝ }
 {
     match reply {

@@ -1,6 +1,6 @@
 // The authenticator (document 01's box): a conversation that is opened and takes one step for each
-// packet. A step has three parts: a packet is admitted or refused (admit), judged (judge), and its
-// reply is written (encode).
+// packet. A step has three parts: a packet is refused, a repeat or awaited (admit), an awaited one
+// is judged (judge), and the reply is written (encode).
 mod admit;
 mod encode;
 mod judge;
@@ -8,13 +8,18 @@ mod opening;
 mod successors;
 
 ghost use mathlib.Core.Path.{_≡_};
+ghost use Prim.Native.Nat.{_≤_};
+ghost use lib.ListN.{length};
+ghost use Rattle.packets.specs.Reply.{longestReply};
 ghost use Rattle.authenticator.specs.Admit.{stepRefusal};
-ghost use Rattle.authenticator.specs.Step.{refusalIn, reasonIn, stepReason, step};
+ghost use Rattle.authenticator.specs.Step.{refusalIn, reasonIn, isRepeated};
+ghost use Rattle.authenticator.specs.Step.{stepReason, stepRepeats, repeatedAs, step};
 use accounts::Account;
 use accounts::Lookup;
 use accounts::not_found;
 pub use admit::awaited_code;
-use encode::reason_of;
+use admit::is_repeat;
+pub use encode::reason_of;
 use encode::write_reply;
 use verify::Terms;
 
@@ -25,9 +30,18 @@ pub enum Phase {
     Ended,
 }
 
+// What was answered last: the code and the identifier of the packet, and the reply. Before the
+// first answer none is present, and the rest has no effect.
+pub struct LastAnswer {
+    pub present: bool,
+    pub code: u8,
+    pub id: u8,
+    pub reply: Reply,
+}
+
 // A conversation is a value: each step takes it and gives back the next. It holds what the opening
-// fixed, the awaited identifier, the challenge in force, the retries left and, while a change is
-// awaited, the kept record (else a blank one).
+// fixed, the awaited identifier, the challenge in force, the retries left, while a change is
+// awaited the kept record (else a blank one), and the last answer, for a peer that missed it.
 pub struct Conversation {
     pub terms: Terms,
     pub id: u8,
@@ -35,6 +49,7 @@ pub struct Conversation {
     pub retries: u8,
     pub phase: Phase,
     pub kept: Account,
+    pub last: LastAnswer,
 }
 
 // What an opening says of the retries, or leaves silent.
@@ -74,9 +89,11 @@ pub struct Judgement {
     pub updated: Lookup,
 }
 
-// A step's packet was refused with a number, or judged with a reason (0 is Success).
+// A step's packet was refused with a number; or it repeats the packet last answered and draws the
+// same reply, whose reason is here; or it was judged with a reason (0 is Success).
 pub enum Kind {
     Refused(u8),
+    Repeated(u16),
     Judged(u16),
 }
 
@@ -90,17 +107,41 @@ pub struct Answer {
 }
 
 impl Conversation {
-    // One step: a packet is refused, and conversation and buffer stay as they were, or it is judged
-    // and draws a reply.
+    // The last answer again.
+    fn repeat(self, reply: &mut [u8]) -> Answer
+        requires { ⌜ longestReply ≤ length (now reply) ⌝ }
+        ensures { λ r. ⌜ (r ≡ repeatedAs self (now (reply .entry)) .answer)
+            × (now (reply .exit) ≡ repeatedAs self (now (reply .entry)) .buffer) ⌝ }
+    {
+        let last = self.last;
+        let value = last.reply;
+        let written = write_reply(last.id, value, reply);
+        let reason = reason_of(value);
+        let updated = not_found();
+        Answer {
+            kind: Kind::Repeated(reason),
+            next: self,
+            written,
+            updated,
+        }
+    }
+
+    // One step: a packet is refused, and conversation and buffer stay as they were; or it repeats
+    // the one last answered, draws the same reply, and the conversation stays as it was, whatever
+    // record is passed; or it is judged and draws a reply.
     pub fn step(self, packet: &[u8], lookup: Lookup, reply: &mut [u8]) -> Answer
         ensures { λ r. ⌜ (r ≡ step self (now (packet .entry)) lookup (now (reply .entry)) .answer)
             × (now (reply .exit)
             ≡ step self (now (packet .entry)) lookup (now (reply .entry)) .buffer)
             × (refusalIn (r .kind) ≡ stepRefusal self (now (packet .entry)) (now (reply .entry)))
             × (reasonIn (r .kind)
-            ≡ stepReason self (now (packet .entry)) lookup (now (reply .entry))) ⌝ }
+            ≡ stepReason self (now (packet .entry)) lookup (now (reply .entry)))
+            × (isRepeated (r .kind)
+            ≡ stepRepeats self (now (packet .entry)) (now (reply .entry))) ⌝ }
     {
-        let refusal = self.refusal(packet, reply);
+        let last = self.last;
+        let repeated = is_repeat(last, packet);
+        let refusal = self.refusal(repeated, packet, reply);
         if refusal != 0 {
             let updated = not_found();
             return Answer {
@@ -110,11 +151,15 @@ impl Conversation {
                 updated,
             };
         }
+        if repeated {
+            return self.repeat(reply);
+        }
         let judged = self.judge(packet, lookup);
         let value = judged.reply;
         let written = write_reply(self.id, value, reply);
         let reason = reason_of(value);
-        let next = judged.next;
+        let answer = self.answer_with(value);
+        let next = judged.next.with_last(answer);
         let updated = judged.updated;
         Answer {
             kind: Kind::Judged(reason),

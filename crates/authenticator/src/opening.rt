@@ -14,6 +14,7 @@ use crate::Opened;
 use crate::Phase;
 use crate::Retries;
 use crate::successors::closed_conversation;
+use crate::successors::no_answer;
 use accounts::blank_account;
 use issued::Spent;
 use refusals::refuse_if;
@@ -124,6 +125,7 @@ impl Conversation {
         }
         let written = packets::write_challenge(id, challenge, reply);
         let kept = blank_account();
+        let last = no_answer();
         let lm = is_lm_allowed(lm);
         Opened {
             refusal: 0,
@@ -134,6 +136,7 @@ impl Conversation {
                 retries: r,
                 phase: Phase::Response,
                 kept,
+                last,
             },
             written,
             used: spent.used,

@@ -1,10 +1,14 @@
 // The conversations that a step can lead to. Every successor is made in one place and keeps the
-// terms.
+// terms; the step then puts the answer there that was given.
 ghost use mathlib.Core.Path.{_≡_};
 ghost use Prim.Native.Nat.{_-_};
-ghost use Rattle.authenticator.specs.Conversation.{successor, ended, retried, awaitingChange, closed};
+ghost use Rattle.authenticator.specs.Conversation.{successor, ended, retried, awaitingChange};
+ghost use Rattle.authenticator.specs.Conversation.{noAnswer, answerWith, withLast, closed};
 use crate::Conversation;
+use crate::LastAnswer;
 use crate::Phase;
+use crate::Reply;
+use crate::admit::awaited_code;
 use accounts::Account;
 use accounts::blank_account;
 use verify::Terms;
@@ -28,6 +32,7 @@ impl Conversation {
         ensures { λ r. ⌜ r ≡ successor self id challenge retries phase kept ⌝ }
     {
         let terms = self.terms;
+        let last = self.last;
         Conversation {
             terms,
             id,
@@ -35,6 +40,7 @@ impl Conversation {
             retries,
             phase,
             kept,
+            last,
         }
     }
 
@@ -81,6 +87,51 @@ impl Conversation {
             account,
         )
     }
+
+    // The answer to the awaited packet.
+    pub(crate) fn answer_with(self, reply: Reply) -> LastAnswer
+        ensures { λ r. ⌜ r ≡ answerWith self reply ⌝ }
+    {
+        let phase = self.phase;
+        let code = awaited_code(phase);
+        let id = self.id;
+        LastAnswer {
+            present: true,
+            code,
+            id,
+            reply,
+        }
+    }
+
+    pub(crate) fn with_last(self, last: LastAnswer) -> Conversation
+        ensures { λ r. ⌜ r ≡ withLast last self ⌝ }
+    {
+        let terms = self.terms;
+        let challenge = self.challenge;
+        let phase = self.phase;
+        let kept = self.kept;
+        Conversation {
+            terms,
+            id: self.id,
+            challenge,
+            retries: self.retries,
+            phase,
+            kept,
+            last,
+        }
+    }
+}
+
+// None yet.
+pub fn no_answer() -> LastAnswer
+    ensures { λ r. ⌜ r ≡ noAnswer ⌝ }
+{
+    LastAnswer {
+        present: false,
+        code: 0,
+        id: 0,
+        reply: Reply::Success,
+    }
 }
 
 // What a refused opening hands out.
@@ -88,6 +139,7 @@ pub fn closed_conversation() -> Conversation
     ensures { λ r. ⌜ r ≡ closed ⌝ }
 {
     let kept = blank_account();
+    let last = no_answer();
     Conversation {
         terms: Terms { lm: false },
         id: 0,
@@ -95,5 +147,6 @@ pub fn closed_conversation() -> Conversation
         retries: 0,
         phase: Phase::Ended,
         kept,
+        last,
     }
 }

@@ -4,10 +4,10 @@
 // Each test is a total function that answers a bool, and the order of the numbers is composed by
 // this one chooser, from the last test to the first:
 //
-//     refuse_if(ended, 1, refuse_if(small, 2, body))
+//     refuse_if(small, 2, refuse_if(cut, 3, rest))
 //
 // So the code reads like its definition, a chain of `cond`, and no proof repeats a chain of early
-// returns. The numbers, and when each is given:
+// returns. The numbers, and when each is given (1 and 4 to 7 for a packet that is no repeat):
 //
 //      0  none
 //      1  the conversation has ended

@@ -56,7 +56,8 @@ told : (c : tie.After-argument-refusal)
     → c .argument-refusal .result ≡ argumentRefusal (opening c)
 told c =
     c .argument-refusal .ensures
-    ∙ ap (λ (r : ℕ). cond {A = ℕ} (ltb mostRetries r) 13 (cond (badReplyBuffer (opening c .buffer)) 2 0))
+    ∙ ap (λ (r : ℕ). cond {A = ℕ} (ltb mostRetries r) 13
+    (cond (badReplyBuffer (opening c .buffer)) 2 0))
     (retries c .retries-of .ensures)
 
 -- 13, 2
@@ -74,7 +75,12 @@ spend-requires : tie.Need-spend-requires
 spend-requires c κs =
     let e = c .before .before in
     let r = retries (e .before) .retries-of in
-    omega (arith, r .ensures, ltb-false mostRetries (retriesOf (opening (e .before) .retries)) (good e .few))
+    omega (
+      arith,
+      r .ensures,
+      ltb-false mostRetries (retriesOf (opening (e .before) .retries))
+          (good e .few),
+    )
 
 -- ---- behind the list
 
@@ -103,8 +109,10 @@ refusal-told c = list-refusal (given c) (good (else c)) ∙ sym (list-told c)
 
 after-told : (c : tie.After-spend) {list : List ℕ} {used : ℕ} {counts : List ℕ}
     → record { buffer = list; used = used; counts = counts }
-    ≡ spent 8 (challengesFrom (suc (retries (else c .before) .retries-of .result)) (given c .challenge)) (given c .issued)
-    → record { buffer = list; used = used; counts = counts } ≡ spent 8 (spends (given c)) (given c .issued)
+    ≡ spent 8 (challengesFrom (suc (retries (else c .before) .retries-of .result))
+    (given c .challenge)) (given c .issued)
+    → record { buffer = list; used = used; counts = counts }
+    ≡ spent 8 (spends (given c)) (given c .issued)
 after-told c e =
     e ∙ ap (λ (es : List (List ℕ)). spent 8 es (given c .issued)) (entries-told c)
 
@@ -124,7 +132,7 @@ returns-2 c =
 -- opened
 returns-3 : tie.Need-returns-3
 returns-3 c =
-    let w = c .before .before .before .before in
+    let w = c .before .before .before .before .before in
     let e = w .before .before in
     let k = e .before .before .before .before .before .before in
     let o = given k in
@@ -132,7 +140,8 @@ returns-3 c =
     ltb-false (length (o .buffer)) longestReply (good (else k) .roomy) in
     let written : w .write-challenge .result ≡ length (challengePacket (o .id) (o .challenge)) =
     w .write-challenge .ensures .0
-    ∙ written-whole _ _ (challenge-fits (o .id) (o .challenge) (eight (start (else k .before)))) room in
+    ∙ written-whole _ _ (challenge-fits (o .id) (o .challenge) (eight (start (else k .before))))
+    room in
     let retried = retries (else k .before) .retries-of .ensures in
     accepted-promise o (refusal-told k ∙ e .if2 .left) (after-told k (k .spend .ensures .1)) (cc)
     (w .write-challenge .ensures .1)
@@ -144,4 +153,5 @@ open-spec =
     (λ c κs. search needs) (λ c κs. search needs) (λ c κs. search needs) (λ c. search needs) returns
     spend-requires (λ c κs. search needs) (λ c. search needs) (λ c. search needs)
     (λ c. search needs) returns-2 (λ c κs. search needs) (λ c κs. search needs)
-    (λ c κs. search needs) (λ c. search needs) (λ c. search needs) (λ c. search needs) returns-3)
+    (λ c κs. search needs) (λ c κs. search needs) (λ c. search needs) (λ c. search needs)
+    (λ c. search needs) returns-3)
