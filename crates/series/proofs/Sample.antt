@@ -12,7 +12,15 @@ use Rattle.issued.specs.Issued.{emptyList, badBuffer}
 use Rattle.credentials.specs.Credentials.{ntHashOf, badNtPassword}
 use Rattle.packets.specs.Response.{readResponse}
 use Rattle.packets.specs.declared.Response as fields
-use Rattle.accounts.specs.Account.{noHash, blankAccount, notFound, found, Rightful, hashOf, accountWith}
+use Rattle.accounts.specs.Account.{
+  noHash,
+  blankAccount,
+  notFound,
+  found,
+  Rightful,
+  hashOf,
+  accountWith,
+}
 use Rattle.verify.specs.Response.{answers, valid}
 use Rattle.authenticator.specs.Judge.{validIn}
 use Rattle.authenticator.specs.Opening.{Opening, opened}
@@ -24,7 +32,20 @@ use Rattle.authenticator.specs.declared.Retries.{Retries}
 use Rattle.authenticator.specs.declared.Retries.the-variants.{Default, Count}
 use Rattle.authenticator.specs.declared.LmChoice.the-variants.{Disallowed}
 use Rattle.authenticator.proofs.Openings.{may-open-empty}
-use Rattle.series.specs.Series.{Packet, invalid, right, passwordChange, ExchangeInput, Step, ours, SeriesState, exchange, TryWithin, ChangeWithin, Allowed}
+use Rattle.series.specs.Series.{
+  Packet,
+  invalid,
+  right,
+  passwordChange,
+  ExchangeInput,
+  Step,
+  ours,
+  SeriesState,
+  exchange,
+  TryWithin,
+  ChangeWithin,
+  Allowed,
+}
 use Rattle.series.specs.Writers.{Writer}
 
 -- ---- openings, passwords, records
@@ -48,10 +69,12 @@ unfolding badBuffer
 three-places = refl
 
 pub opens-default : opened (opening Default) .refusal ≡ 0
-opens-default = may-open-empty (opening Default) (omega arith) (omega arith) three-places refl refl (omega arith)
+opens-default = may-open-empty (opening Default) (omega arith) (omega arith) three-places refl refl
+    (omega arith)
 
 pub opens-once : opened (opening (Count 1)) .refusal ≡ 0
-opens-once = may-open-empty (opening (Count 1)) (omega arith) (omega arith) three-places refl refl (omega arith)
+opens-once = may-open-empty (opening (Count 1)) (omega arith) (omega arith) three-places refl refl
+    (omega arith)
 
 -- "MyPw", "bad" and "MyNewPw"
 abbrev pub old : List ℕ
@@ -77,7 +100,14 @@ rightful expired = record { nt = refl; enabled = refl; hours = refl; dialin = re
 
 -- an output buffer of n octets, and padding behind the packet and behind the reply
 abbrev pub line : ℕ → Lookup → ExchangeInput
-line n l = record { out = replicate n 0; packetPadding = 9 ∷ []; account = l; buffer = replicate 17 0; replyPadding = 9 ∷ 9 ∷ [] }
+line n l = record {
+  out = replicate n 0;
+  packetPadding = 9 ∷ [];
+  account = l;
+  buffer = replicate 17
+      0;
+  replyPadding = 9 ∷ 9 ∷ [];
+}
 
 abbrev pub badTry : Lookup → Step
 badTry l = ours (invalid bad user) (line 60 l)
@@ -105,12 +135,21 @@ no-hash c f = which (eqb (f .flag) 1) (c .terms .lm)
     which false false = refl
 
 -- the limits of a try, with a name of one octet, and of the change
-pub try-within : (password : List ℕ) (l : ExchangeInput) → badNtPassword password ≡ false → 55 ≤ length (l .out) → 17 ≤ length (l .buffer)
+pub try-within : (password : List ℕ) (l : ExchangeInput) → badNtPassword password ≡ false
+    → 55 ≤ length (l .out) → 17 ≤ length (l .buffer)
     → TryWithin password user l
 try-within password l good out room = record { not8 = good; not10 = refl; not9 = out; not2 = room }
 
-change-within : (l : ExchangeInput) → 1118 ≤ length (l .out) → 17 ≤ length (l .buffer) → ChangeWithin old new (replicate 512 7) l
-change-within l out room = record { oldNot8 = refl; newNot8 = refl; not12 = refl; not9 = out; not2 = room }
+change-within : (l : ExchangeInput) → 1118 ≤ length (l .out) → 17 ≤ length (l .buffer)
+    → ChangeWithin old new (replicate 512 7) l
+change-within l out room = record {
+  oldNot8 = refl;
+  newNot8 = refl;
+  not12 = refl;
+  not9 = out;
+  not2 =
+      room;
+}
 
 pub new-within : (l : Lookup) → TryWithin new user (line 55 l)
 new-within l = try-within new (line 55 l) refl (omega arith) (omega arith)
@@ -119,16 +158,26 @@ new-within l = try-within new (line 55 l) refl (omega arith) (omega arith)
 module _ (box : Box) (writer : Writer) (p : SeriesState) where
   -- passed no record, or one with no hash
   pub bad-allowed : (a : Account) → Allowed box writer a p (badTry notFound)
-  bad-allowed a = (try-within bad (line 60 notFound) refl (omega arith) (omega arith), λ e. absurd (false≢true e))
+  bad-allowed a = (
+    try-within bad (line 60 notFound) refl (omega arith) (omega arith),
+    λ e. absurd
+        (false≢true e),
+  )
 
   pub blank-allowed : (a : Account) → Allowed box writer a p (badTry (found blankAccount))
   blank-allowed a = (
     try-within bad (line 60 (found blankAccount)) refl (omega arith) (omega arith),
-    λ e. no-hash (p .conversation) (readResponse (exchange box writer p (invalid bad user) (line 60 (found blankAccount)) .input .packet)),
+    λ e. no-hash (p .box .conversation) (readResponse
+        (exchange box writer p (invalid bad user) (line 60 (found blankAccount)) .input .packet)),
   )
 
   pub right-allowed : (expired : Bool) → Allowed box writer (account expired) p (rightTry expired)
-  right-allowed expired = (try-within old (line 55 (found (account expired))) refl (omega arith) (omega arith), (refl, refl))
+  right-allowed expired = (
+    try-within old (line 55 (found (account expired))) refl (omega arith)
+        (omega arith),
+    (refl, refl),
+  )
 
-  pub change-allowed : (expired : Bool) (l : Lookup) → Allowed box writer (account expired) p (change l)
+  pub change-allowed : (expired : Bool) (l : Lookup)
+      → Allowed box writer (account expired) p (change l)
   change-allowed expired l = (change-within (line 1118 l) (omega arith) (omega arith), refl)

@@ -18,13 +18,22 @@ use Rattle.accounts.specs.Account.{found, Rightful}
 use Rattle.verify.specs.Response.{answers, valid}
 use Rattle.authenticator.specs.Judge.{validIn, newHashIn}
 use Rattle.authenticator.specs.Conversation.{awaitedCode, isEnded}
-use Rattle.authenticator.specs.Admit.{bodyRefusal, stepRefusal}
+use Rattle.authenticator.specs.Admit.{bodyRefusal}
 use Rattle.verify.specs.Change.{unsealedHash}
 use Rattle.authenticator.specs.Step.{judgedAs, step}
 use Rattle.accounts.specs.declared.Account.{Account}
 use Rattle.accounts.specs.declared.Lookup.{Lookup}
-use Rattle.authenticator.proofs.Admitted.{passes}
-use Rattle.authenticator.proofs.Judged.{tryAgain, expiredFor, accepted, changedTo, invalid-law, valid-law, change-law}
+use Rattle.authenticator.proofs.Admitted.{Passes}
+use Rattle.authenticator.proofs.Fresh.{Fresh, new-packet}
+use Rattle.authenticator.proofs.Judged.{
+  tryAgain,
+  expiredFor,
+  accepted,
+  changedTo,
+  invalid-law,
+  valid-law,
+  change-law,
+}
 use Rattle.verify.proofs.Accepted.{hash-sealed, new-hash}
 use Rattle.authenticator.specs.declared.Conversation.{Conversation}
 use Rattle.authenticator.specs.declared.Phase.{Phase}
@@ -47,7 +56,31 @@ valid-nt s t u v p q r = rw (p, q, r)
 
 -- ---- a try
 
-module _ (c : Conversation) (t : Turn) (h : InStep c t) (ph : c .phase ≡ Response) (password name after b : List ℕ) (room : 17 ≤ length b)
+-- a Response from the right password to the challenge in force is valid, whatever its identifier
+module _ (c : Conversation) (t : Turn) (same : c .challenge ≡ t .challenge)
+    (password name after : List ℕ)
+    (named : (1 ≤ length name) × (length name ≤ 256)) (a : Account) (there : a .nt .present ≡ true)
+    (right : ntHashOf password ≡ a .nt .octets) where
+  right-answers : answers (a .nt) (c .challenge) (responseFields (t .challenge) password .nt) ≡ true
+  unfolding answers
+  right-answers =
+      both (a .nt .present) (agrees (responseOf (ntHashOf password) (t .challenge))
+      (responseOf (a .nt .octets) (c .challenge))) there
+      (ap₂ (λ (x y : List ℕ). agrees (responseOf (ntHashOf password) (t .challenge))
+      (responseOf x y)) (sym right) same
+      ∙ agrees-refl (responseOf (ntHashOf password) (t .challenge)))
+
+  pub right-valid : validIn c a (readResponse (responseFor t password name ++ after)) ≡ true
+  unfolding valid
+  right-valid =
+      let f = responseFields (t .challenge) password in
+      ap (validIn c a) (response-found t password name after (named .0) (named .1) .fields)
+      ∙ valid-nt (eqb (f .flag) 1) (a .nt .present) (answers (a .nt) (c .challenge) (f .nt))
+      (c .terms .lm && answers (a .lm) (c .challenge) (f .lm))
+      (eq-eqb (f .flag) 1 (response-flag (t .challenge) password)) there right-answers
+
+module _ (c : Conversation) (t : Turn) (h : InStep c t) (fresh : Fresh c) (ph : c .phase ≡ Response)
+    (password name after b : List ℕ) (room : 17 ≤ length b)
     (named : (1 ≤ length name) × (length name ≤ 256)) where
   abbrev try : List ℕ
   try = responseFor t password name ++ after
@@ -55,45 +88,34 @@ module _ (c : Conversation) (t : Turn) (h : InStep c t) (ph : c .phase ≡ Respo
   try-found : ResponseBack (t .id) (responseFields (t .challenge) password) name try
   try-found = response-found t password name after (named .0) (named .1)
 
-  try-passes : stepRefusal c try b ≡ 0
+  try-passes : Passes c try b
   try-passes =
       let f = try-found in
-      passes c try b
-      (record {
+      record {
+        readable = record { room = room; frame = f .frame };
+        fresh = new-packet c try fresh (ap isEnded ph) (f .id ∙ sym (h .id));
         live = ap isEnded ph;
-        room = room;
-        frame = f .frame;
         code = f .code ∙ sym (ap awaitedCode ph);
         id = f .id ∙ sym (h .id);
         body = ap (λ (x : Phase). bodyRefusal x try) ph ∙ f .fit (omega arith);
-      })
+      }
 
-  pub invalid-taken : (l : Lookup) → (l .found && validIn c (l .account) (readResponse try)) ≡ false → 0 < c .retries
+  pub invalid-taken : (l : Lookup) → (l .found && validIn c (l .account) (readResponse try)) ≡ false
+      → 0 < c .retries
       → step c try l b ≡ judgedAs c (tryAgain c) b
   invalid-taken l v pos = invalid-law c try b try-passes l ph v pos
 
   module _ (a : Account) (g : Rightful a) (right : ntHashOf password ≡ a .nt .octets) where
-    right-answers : answers (a .nt) (c .challenge) (responseFields (t .challenge) password .nt) ≡ true
-    unfolding answers
-    right-answers =
-        both (a .nt .present) (agrees (responseOf (ntHashOf password) (t .challenge)) (responseOf (a .nt .octets) (c .challenge))) (g .nt)
-        (ap₂ (λ (x y : List ℕ). agrees (responseOf (ntHashOf password) (t .challenge)) (responseOf x y)) (sym right) (h .challenge)
-        ∙ agrees-refl (responseOf (ntHashOf password) (t .challenge)))
-
-    right-valid : validIn c a (readResponse try) ≡ true
-    unfolding valid
-    right-valid =
-        let f = responseFields (t .challenge) password in
-        ap (validIn c a) (try-found .fields)
-        ∙ valid-nt (eqb (f .flag) 1) (a .nt .present) (answers (a .nt) (c .challenge) (f .nt)) (c .terms .lm && answers (a .lm) (c .challenge) (f .lm))
-        (eq-eqb (f .flag) 1 (response-flag (t .challenge) password)) (g .nt) right-answers
-
-    pub right-taken : step c try (found a) b ≡ judgedAs c (cond (a .expired) (expiredFor c a) (accepted c)) b
-    right-taken = valid-law c try b try-passes a ph g right-valid
+    pub right-taken : step c try (found a) b ≡ judgedAs c
+        (cond (a .expired) (expiredFor c a) (accepted c)) b
+    right-taken =
+        valid-law c try b try-passes a ph g
+        (right-valid c t (h .challenge) password name after named a (g .nt) right)
 
 -- ---- the change
 
-module _ (c : Conversation) (t : Turn) (h : InStep c t) (ph : c .phase ≡ Change) (old new filler after b : List ℕ) (room : 17 ≤ length b)
+module _ (c : Conversation) (t : Turn) (h : InStep c t) (fresh : Fresh c) (ph : c .phase ≡ Change)
+    (old new filler after b : List ℕ) (room : 17 ≤ length b)
     (full : length filler ≡ 512) (fits : (length new ≤ 512) × (length new % 2 ≡ 0)) where
   abbrev change : List ℕ
   change = changeFor t old new filler ++ after
@@ -101,33 +123,38 @@ module _ (c : Conversation) (t : Turn) (h : InStep c t) (ph : c .phase ≡ Chang
   change-there : ChangeBack (t .id) (changeFields (t .challenge) old new filler) change
   change-there = change-found t old new filler full (fits .0) after
 
-  change-passes : stepRefusal c change b ≡ 0
+  change-passes : Passes c change b
   change-passes =
       let f = change-there in
-      passes c change b
-      (record {
+      record {
+        readable = record { room = room; frame = f .frame };
+        fresh = new-packet c change fresh (ap isEnded ph) (f .id ∙ sym (h .id));
         live = ap isEnded ph;
-        room = room;
-        frame = f .frame;
         code = f .code ∙ sym (ap awaitedCode ph);
         id = f .id ∙ sym (h .id);
         body = ap (λ (x : Phase). bodyRefusal x change) ph ∙ f .fit (omega arith);
-      })
+      }
 
   module _ (there : c .kept .nt .present ≡ true) (right : ntHashOf old ≡ c .kept .nt .octets) where
     change-hash : newHashIn c (readChange change) ≡ some (ntHashOf new)
     change-hash =
         let f = changeFields (t .challenge) old new filler in
-        let inside : unsealedHash (unsealedAs (c .kept .nt .octets) (f .block)) ≡ some (ntHashOf new) =
-        ap (λ (x : List ℕ). unsealedHash (unsealedAs x (f .block))) (sym right) ∙ hash-sealed (ntHashOf old) filler new full (fits .0) (fits .1) in
-        let verifier : agrees (f .verifier) (oldUnderNew (c .kept .nt .octets) (ntHashOf new)) ≡ true =
-        ap (λ (x : List ℕ). agrees (f .verifier) (oldUnderNew x (ntHashOf new))) (sym right) ∙ agrees-refl (f .verifier) in
+        let inside : unsealedHash (unsealedAs (c .kept .nt .octets) (f .block))
+        ≡ some (ntHashOf new) =
+        ap (λ (x : List ℕ). unsealedHash (unsealedAs x (f .block))) (sym right)
+        ∙ hash-sealed (ntHashOf old) filler new full (fits .0) (fits .1) in
+        let verifier : agrees (f .verifier) (oldUnderNew (c .kept .nt .octets) (ntHashOf new))
+        ≡ true =
+        ap (λ (x : List ℕ). agrees (f .verifier) (oldUnderNew x (ntHashOf new))) (sym right)
+        ∙ agrees-refl (f .verifier) in
         let nt : agrees (f .nt) (responseOf (ntHashOf new) (c .challenge)) ≡ true =
-        ap (λ (x : List ℕ). agrees (f .nt) (responseOf (ntHashOf new) x)) (h .challenge) ∙ agrees-refl (f .nt) in
+        ap (λ (x : List ℕ). agrees (f .nt) (responseOf (ntHashOf new) x)) (h .challenge)
+        ∙ agrees-refl (f .nt) in
         ap (newHashIn c) (change-there .fields)
         ∙ new-hash (c .kept) (c .challenge) f (ntHashOf new) there
         (ap (λ (n : ℕ). eqb (n % 2) 1) (change-flags (t .challenge) old new filler)) inside
-        (both (agrees (f .verifier) (oldUnderNew (c .kept .nt .octets) (ntHashOf new))) (agrees (f .nt) (responseOf (ntHashOf new) (c .challenge))) verifier nt)
+        (both (agrees (f .verifier) (oldUnderNew (c .kept .nt .octets) (ntHashOf new)))
+        (agrees (f .nt) (responseOf (ntHashOf new) (c .challenge))) verifier nt)
 
     pub change-taken : (l : Lookup) → step c change l b ≡ judgedAs c (changedTo c (ntHashOf new)) b
     change-taken l = change-law c change b change-passes l (ntHashOf new) ph change-hash

@@ -1,33 +1,71 @@
 -- The premises of demand 3 can be met: identifier 255, a challenge that begins with E9, r = 1, LM
 -- disallowed, an expired record, one invalid try (with a record that has no hash), the right
--- password and the change, each with padding, and refused steps before, between and behind them;
--- and a later conversation.
+-- password and the change, each with padding, refused steps before, between and behind them, and
+-- each of the three packets once more after its answer, with another record; and a later
+-- conversation.
 -- Assumes nothing.
-use mathlib.Core.Bool.{Bool, true, false, cond}
+use mathlib.Core.Bool.{Bool, true, false}
 use mathlib.Core.List.{List, [], _∷_}
-use mathlib.Core.Logic.{inr}
-use mathlib.Core.Path.{_≡_, refl, sym, _∙_}
+use mathlib.Core.Logic.{inl, inr}
+use mathlib.Core.Path.{_≡_, refl, ap, _∙_}
 use Prim.Native.Nat.{ℕ, _<_}
 use native.Mathlib.Omega.{arith}
-use lib.ListN.{take, replicate}
+use borrow.Author.Tests.{eqb-true, eqb-false}
+use lib.Dec.{eqb}
+use lib.ListN.{replicate}
 use Rattle.issued.specs.Issued.{emptyList}
+use Rattle.message.specs.Message.{textOf}
+use Rattle.packets.specs.Frame.{octet}
 use Rattle.accounts.specs.Account.{blankAccount, notFound, found}
-use Rattle.authenticator.specs.Conversation.{isEnded}
+use Rattle.authenticator.specs.Admit.{refusalFor}
+use Rattle.authenticator.specs.Encode.{version}
 use Rattle.authenticator.specs.Opening.{Opening, opened}
-use Rattle.authenticator.specs.Admit.{stepRefusal}
-use Rattle.authenticator.specs.Steps.{StepInput, stepOn, Refused}
+use Rattle.authenticator.specs.Step.{Outcome}
+use Rattle.authenticator.specs.Steps.{StepInput, stepOn, replyOf, BoxState, nextAfter, refusalAt}
+use Rattle.authenticator.specs.Steps.{unanswered, nextState, NotJudged}
 use Rattle.accounts.specs.declared.Account.{Account}
 use Rattle.authenticator.specs.declared.Conversation.{Conversation}
 use Rattle.authenticator.specs.declared.Phase.the-variants.{Ended}
 use Rattle.authenticator.specs.declared.Retries.the-variants.{Default, Count}
 use Rattle.authenticator.specs.declared.LmChoice.the-variants.{Silent}
 use Rattle.authenticator.proofs.Openings.{may-open-empty}
+use Rattle.authenticator.proofs.Steps.{refused-whole}
 use Rattle.series.specs.Course.{end, Along, total}
-use Rattle.series.specs.Series.{right, Step, other, SeriesState, start, exchange, next, judgedAt, Allowed, DrawsSuccess, later, LetsIn, Claimed}
+use Rattle.series.specs.Series.{right, Step, other, SeriesState, start, exchange, next}
+use Rattle.series.specs.Series.{
+  inputAt,
+  judgedAt,
+  Allowed,
+  DrawsSuccess,
+  later,
+  LetsIn,
+  Claimed,
+}
 use Rattle.series.specs.Boxes.{ourBox}
 use Rattle.series.specs.Writers.{ourWriter}
-use Rattle.series.proofs.Sample.{opening, three-places, opens-once, new, user, account, rightful, line, badTry, rightTry, newPassword, change, blank-allowed, right-allowed, change-allowed, new-within}
+use Rattle.series.proofs.Faithful.{Faithful, faithful-next, opened-faithful, twice-none}
+use Rattle.series.proofs.Sample.{
+  opening,
+  three-places,
+  opens-once,
+  new,
+  user,
+  account,
+  rightful,
+  line,
+  badTry,
+  rightTry,
+  newPassword,
+  change,
+  blank-allowed,
+  right-allowed,
+  change-allowed,
+  new-within,
+}
 use Rattle.series.proofs.Demand3.{demand3}
+use Rattle.authenticator.specs.Repeats.{Drawn}
+use Rattle.series.proofs.Repeats.{any-number, again-itself}
+use Rattle.series.proofs.Wrong.{success-code, failure-code}
 
 -- ---- the series
 
@@ -38,85 +76,189 @@ short = record { packet = 1 ∷ 2 ∷ 3 ∷ []; account = notFound; buffer = rep
 abbrev narrow : StepInput
 narrow = record { packet = replicate 60 2; account = found (account true); buffer = replicate 16 0 }
 
+-- the same packet and buffer once more, with another record
+abbrev again : StepInput → StepInput
+again s = record { packet = s .packet; account = found (account false); buffer = s .buffer }
+
+abbrev after : SeriesState → Step → SeriesState
+after = next ourBox ourWriter
+
+-- the places of our peer's three packets, and what the box gets of each
+abbrev first : SeriesState
+first = after (start (opening (Count 1)) []) (other short)
+
+abbrev tried : StepInput
+tried = inputAt ourBox ourWriter first (badTry (found blankAccount))
+
+abbrev triedTwice : SeriesState
+triedTwice = after (after first (badTry (found blankAccount))) (other (again tried))
+
+abbrev second : SeriesState
+second = after triedTwice (other narrow)
+
+abbrev proved : StepInput
+proved = inputAt ourBox ourWriter second (rightTry true)
+
+abbrev provedTwice : SeriesState
+provedTwice = after (after second (rightTry true)) (other (again proved))
+
+abbrev third : SeriesState
+third = after provedTwice (other short)
+
+abbrev changed : StepInput
+changed = inputAt ourBox ourWriter third (change notFound)
+
+abbrev changedTwice : SeriesState
+changedTwice = after (after third (change notFound)) (other (again changed))
+
 abbrev pub steps : List Step
-steps = other short ∷ badTry (found blankAccount) ∷ other narrow ∷ rightTry true ∷ other short ∷ change notFound ∷ other narrow ∷ []
+steps =
+    other short ∷ badTry (found blankAccount) ∷ other (again tried)
+    ∷ other narrow ∷ rightTry true ∷ other (again proved)
+    ∷ other short ∷ change notFound ∷ other (again changed) ∷ other narrow ∷ []
 
 -- ---- the premises
 
--- a short packet and a narrow buffer are refused in any conversation, with 1 where it has ended and
--- else with n
-refused : (c : Conversation) (s : StepInput) (n : ℕ) → 0 < n → stepRefusal c (s .packet) (s .buffer) ≡ cond (isEnded (c .phase)) 1 n → Refused stepOn c s
-refused c s n pos e = inr (λ z. which (isEnded (c .phase)) (sym e ∙ z))
-  where
-    which : (t : Bool) → cond t 1 n ≡ 0 → ⊥
-    which true h = omega arith
-    which false h = omega arith
+-- a short packet and a narrow buffer are refused wherever the series stands: 2 and 3 come first
+short-refused : (p : BoxState) → NotJudged stepOn p short
+unfolding refusalFor
+short-refused p = inr (λ z. omega arith)
 
-short-refused : (c : Conversation) → Refused stepOn c short
-unfolding stepRefusal
-short-refused c = refused c short 3 (omega arith) refl
+narrow-refused : (p : BoxState) → NotJudged stepOn p narrow
+unfolding refusalFor
+narrow-refused p = inr (λ z. omega arith)
 
-narrow-refused : (c : Conversation) → Refused stepOn c narrow
-unfolding stepRefusal
-narrow-refused c = refused c narrow 2 (omega arith) refl
+-- our box, at each place
+faithful-first : Faithful (first .box)
+faithful-first = faithful-next _ short (opened-faithful (opening (Count 1)) opens-once)
 
--- what is allowed at any place is allowed along any course
-abbrev Anywhere : List Step → Type 0
-Anywhere [] = Unit {0}
-Anywhere (m ∷ ms) = ((p : SeriesState) → Allowed ourBox ourWriter (account true) p m) × Anywhere ms
+faithful-second : Faithful (second .box)
+faithful-second = faithful-next _ narrow (faithful-next _ (again tried)
+    (faithful-next _ tried faithful-first))
 
-along : (p : SeriesState) (ms : List Step) → Anywhere ms → Along (next ourBox ourWriter) (Allowed ourBox ourWriter (account true)) p ms
-along p [] h = tt
-along p (m ∷ ms) h = (h .0 p, along (next ourBox ourWriter p m) ms (h .1))
+faithful-third : Faithful (third .box)
+faithful-third = faithful-next _ short (faithful-next _ (again proved)
+    (faithful-next _ proved faithful-second))
 
-allowed : Anywhere steps
-allowed =
-    let noise : (p : SeriesState) → Allowed ourBox ourWriter (account true) p (other short) = λ p. short-refused (p .conversation) in
-    let tight : (p : SeriesState) → Allowed ourBox ourWriter (account true) p (other narrow) = λ p. narrow-refused (p .conversation) in (
-      noise,
+again-allowed : (p : BoxState) (s : StepInput) → Faithful p
+    → NotJudged stepOn (nextState stepOn p s) (again s)
+again-allowed p s i = inl (twice-none p s (again s) i refl refl)
+
+pub met : Along (next ourBox ourWriter) (Allowed ourBox ourWriter (account true))
+    (start (opening (Count 1)) []) steps
+met = (
+  short-refused (start (opening (Count 1)) [] .box),
+  (
+    blank-allowed ourBox ourWriter first (account true),
+    (
+      again-allowed (first .box) tried faithful-first,
       (
-        (λ p. blank-allowed ourBox ourWriter p (account true)),
+        narrow-refused (triedTwice .box),
         (
-          tight,
+          right-allowed ourBox ourWriter second true,
           (
-            (λ p. right-allowed ourBox ourWriter p true),
-            (noise, ((λ p. change-allowed ourBox ourWriter p true notFound), (tight, tt))),
+            again-allowed (second .box) proved faithful-second,
+            (
+              short-refused (provedTwice .box),
+              (
+                change-allowed ourBox ourWriter third true notFound,
+                (
+                  again-allowed (third .box) changed faithful-third,
+                  (narrow-refused (changedTwice .box), tt),
+                ),
+              ),
+            ),
           ),
         ),
       ),
-    )
-
-pub met : Along (next ourBox ourWriter) (Allowed ourBox ourWriter (account true)) (start (opening (Count 1)) []) steps
-met = along (start (opening (Count 1)) []) steps allowed
+    ),
+  ),
+)
 
 -- ---- the claim of this series
 
 -- each packet draws what it should, three are judged, and the conversation has ended
-pub claimed : Along (next ourBox ourWriter) (Claimed ourBox ourWriter (account true)) (start (opening (Count 1)) []) steps
-    × (total (next ourBox ourWriter) (judgedAt ourBox ourWriter) (start (opening (Count 1)) []) steps ≡ 3)
-    × (end (next ourBox ourWriter) (start (opening (Count 1)) []) steps .conversation .phase ≡ Ended)
-claimed = demand3 (opening (Count 1)) opens-once refl .1 (account true) 1 [] steps (rightful true) (omega arith) refl met
+pub claimed : Along (next ourBox ourWriter) (Claimed ourBox ourWriter (account true))
+    (start (opening (Count 1)) []) steps
+    × (total (next ourBox ourWriter) (judgedAt ourBox ourWriter)
+    (start (opening (Count 1)) []) steps ≡ 3)
+    × (end (next ourBox ourWriter) (start (opening (Count 1)) []) steps .box .conversation .phase
+    ≡ Ended)
+claimed = demand3 (opening (Count 1)) opens-once refl .1 (account true) 1 [] steps (rightful true)
+    (omega arith) refl met
+
+-- ---- the repeats of this series
+
+-- a packet that drew a reply was answered
+pub answered-by : (c : Conversation) (s : StepInput) {n : ℕ} → octet 0 (replyOf (stepOn c s)) ≡ n
+    → 0 < n
+    → refusalAt stepOn c s ≡ 0
+answered-by c s {n} e pos = which (eqb (refusalAt stepOn c s) 0) refl
+  where
+    which : (t : Bool) → eqb (refusalAt stepOn c s) 0 ≡ t → refusalAt stepOn c s ≡ 0
+    which true z = eqb-true (refusalAt stepOn c s) 0 z
+    which false z =
+        let none = ap (λ (o : Outcome). octet 0 (replyOf o))
+        (refused-whole c s (eqb-false (refusalAt stepOn c s) 0 z)) in
+        absurd (omega arith)
+
+-- once more it draws the same reply, hands out no record and leaves the conversation
+abbrev DrawnAgain : BoxState → StepInput → Type 0
+DrawnAgain p s = Drawn (replyOf (stepOn (p .conversation) s)) (nextAfter stepOn (p .conversation) s)
+    (again s)
+
+drawn-again : (p : BoxState) (s : StepInput) {n : ℕ}
+    → octet 0 (replyOf (stepOn (p .conversation) s)) ≡ n → 0 < n → DrawnAgain p s
+drawn-again p s e pos =
+    let c = p .conversation in
+    let ok = answered-by c s e pos in
+    let a = again-itself c s ok in
+    any-number c s ok (again s ∷ [])
+    (record { code = refl; id = refl; room = a .room; frame = a .frame }, tt) .0 .0
+
+-- the Failure with R=1, the Failure that asks for the change, and the Success to the change, for
+-- which no record is handed out again
+pub try-again : DrawnAgain (first .box) tried
+try-again = drawn-again (first .box) tried (ap (octet 0) (claimed .0 .1 .0 .0 .0)
+    ∙ failure-code _ (textOf 691 1 version)) (omega arith)
+
+pub right-again : DrawnAgain (second .box) proved
+right-again = drawn-again (second .box) proved (ap (octet 0) (claimed .0 .1 .1 .1 .1 .0 .0 .0)
+    ∙ failure-code _ (textOf 648 0 version)) (omega arith)
+
+pub change-again : DrawnAgain (third .box) changed
+change-again = drawn-again (third .box) changed (ap (octet 0)
+    (claimed .0 .1 .1 .1 .1 .1 .1 .1 .0 .0 .0 .0) ∙ success-code _) (omega arith)
 
 -- ---- a later conversation, with the record that the change handed out
 
--- the place of the change
-abbrev place : SeriesState
-place = end (next ourBox ourWriter) (start (opening (Count 1)) []) (take 5 steps)
-
 abbrev handed : Account
-handed = exchange ourBox ourWriter place newPassword (line 1118 notFound) .outcome .answer .updated .account
+handed = exchange ourBox ourWriter third newPassword
+    (line 1118 notFound) .outcome .answer .updated .account
 
 lets-in : LetsIn ourBox ourWriter handed new
-lets-in = claimed .0 .1 .1 .1 .1 .1 .0 .0 .2
+lets-in = claimed .0 .1 .1 .1 .1 .1 .1 .1 .0 .0 .2
 
 abbrev laterOpening : Opening
 laterOpening =
-    record { id = 0; challenge = replicate 8 1; retries = Default; lm = Silent; issued = emptyList 8 3; buffer = replicate 17 0 }
+    record {
+      id = 0;
+      challenge = replicate 8 1;
+      retries = Default;
+      lm = Silent;
+      issued = emptyList 8
+          3;
+      buffer = replicate 17 0;
+    }
 
 later-opens : opened laterOpening .refusal ≡ 0
-later-opens = may-open-empty laterOpening (omega arith) (omega arith) three-places refl refl (omega arith)
+later-opens = may-open-empty laterOpening (omega arith) (omega arith) three-places refl refl
+    (omega arith)
 
-pub later-success : DrawsSuccess (exchange ourBox ourWriter (later ourBox ourWriter laterOpening [] (short ∷ [])) (right new user) (line 55 (found handed))) 0
+pub later-success : DrawsSuccess (exchange ourBox ourWriter
+    (later ourBox ourWriter laterOpening [] (short ∷ [])) (right new user) (line 55 (found handed)))
+    0
 later-success =
-    lets-in laterOpening [] user (short ∷ []) (line 55 (found handed)) later-opens refl (short-refused (opened laterOpening .conversation), tt) refl
+    lets-in laterOpening [] user (short ∷ []) (line 55 (found handed)) later-opens refl
+    (short-refused (unanswered (opened laterOpening .conversation)), tt) refl
     (new-within (found handed))

@@ -21,12 +21,22 @@ use Rattle.authenticator.specs.declared.Reply.{Reply}
 use Rattle.authenticator.specs.declared.Reply.the-variants.{Failure}
 use Rattle.message.specs.Reasons.{authenticationFailure}
 use Rattle.authenticator.specs.Opening.{firstConversation, opened}
-use Rattle.authenticator.specs.Admit.{stepRefusal}
+use Rattle.authenticator.specs.Admit.{refusalFor}
+use Rattle.authenticator.specs.Conversation.{awaitedCode}
+use Rattle.challenges.specs.Challenges.{nextId}
 use Rattle.authenticator.specs.Encode.{version}
 use Rattle.verify.specs.Response.{firstReason, responseReason}
 use Rattle.authenticator.specs.Judge.{afterReason, replyFor, judgeResponse, judge, validIn}
 use Rattle.authenticator.specs.Step.{Outcome, judgedAs, step}
-use Rattle.authenticator.specs.Steps.{StepInput, stepOn, replyOf, refusalAt, judged, nextAfter}
+use Rattle.authenticator.specs.Steps.{
+  StepInput,
+  stepOn,
+  replyOf,
+  refusalAt,
+  unanswered,
+  judged,
+  nextState,
+}
 use Rattle.accounts.specs.declared.Account.{Account}
 use Rattle.accounts.specs.declared.Lookup.{Lookup}
 use Rattle.authenticator.proofs.Steps.{refused-whole, reply-of}
@@ -35,9 +45,46 @@ use Rattle.authenticator.specs.declared.Retries.the-variants.{Default, Count}
 use Rattle.authenticator.proofs.Openings.{opened-first}
 use Rattle.series.specs.Course.{total}
 use Rattle.series.specs.Series.{invalid, right, start, exchange, next, later, LetsIn, Demand3}
-use Rattle.series.specs.Boxes.{refusing, Judge, judging, findsNone, accepts, leavesRecord, pretends, neverCounts}
+use Rattle.series.specs.Boxes.{
+  refusing,
+  repeatsHere,
+  Judge,
+  judging,
+  findsNone,
+  accepts,
+  leavesRecord,
+  pretends,
+  neverCounts,
+}
 use Rattle.series.specs.Writers.{ourWriter}
-use Rattle.series.proofs.Sample.{opening, opens-default, opens-once, old, bad, new, user, account, rightful, line, badTry, rightTry, newPassword, change, bad-allowed, right-allowed, change-allowed, new-within}
+use Rattle.series.proofs.Sent.{
+  first-id,
+  sent-carries,
+  retry-id,
+  none-answered,
+  other-code,
+  other-id,
+}
+use Rattle.series.proofs.Sample.{
+  opening,
+  opens-default,
+  opens-once,
+  old,
+  bad,
+  new,
+  user,
+  account,
+  rightful,
+  line,
+  badTry,
+  rightTry,
+  newPassword,
+  change,
+  bad-allowed,
+  right-allowed,
+  change-allowed,
+  new-within,
+}
 
 pub success-code : (id : ℕ) → octet 0 (successPacket id) ≡ 3
 unfolding successPacket
@@ -52,56 +99,78 @@ failure-code id message = refl
 -- the right password draws nothing
 pub not-refusing : (n : ℕ) → Demand3 (refusing n) ourWriter → ⊥
 not-refusing n h =
-    let all = h (opening Default) opens-default refl .1 (account false) 0 [] (rightTry false ∷ []) (rightful false) (omega arith) refl
+    let all = h (opening Default) opens-default refl .1 (account false) 0 [] (rightTry false ∷ [])
+    (rightful false) (omega arith) refl
     (right-allowed (refusing n) ourWriter (start (opening Default) []) false, tt) in
     let code = ap (octet 0) (all .0 .0 .0 .0) ∙ success-code _ in
     omega arith
 
--- ---- boxes that refuse what ours refuses
+-- ---- boxes that refuse and repeat what ours does
 
-module _ (d : Judge) where
-  -- a packet that draws a reply was judged
-  drew : (c : Conversation) (s : StepInput) {n : ℕ} → octet 0 (replyOf (judging d c s)) ≡ n → 0 < n → judging d c s ≡ judgedAs c (d c s) (s .buffer)
-  drew c s {n} e pos = which (eqb (refusalAt stepOn c s) 0) refl e
+module _ (d : Judge) (c : Conversation) (s : StepInput) (new : repeatsHere c s ≡ false) where
+  -- a packet that is no repeat and draws a reply was judged
+  drew : {n : ℕ} → octet 0 (replyOf (judging d c s)) ≡ n → 0 < n → judging d c s
+      ≡ judgedAs c (d c s) (s .buffer)
+  drew {n} e pos = which (eqb (refusalAt stepOn c s) 0) refl
     where
-      which : (t : Bool) → eqb (refusalAt stepOn c s) 0 ≡ t → octet 0 (replyOf (cond t (judgedAs c (d c s) (s .buffer)) (stepOn c s))) ≡ n
-          → cond t (judgedAs c (d c s) (s .buffer)) (stepOn c s) ≡ judgedAs c (d c s) (s .buffer)
-      which true h e = refl
-      which false h e =
-          let none = ap (λ (o : Outcome). octet 0 (replyOf o)) (refused-whole c s (eqb-false (refusalAt stepOn c s) 0 h)) in
+      here : (t : Bool) → eqb (refusalAt stepOn c s) 0 ≡ t → judging d c s
+          ≡ cond t (judgedAs c (d c s) (s .buffer)) (stepOn c s)
+      here true z = rw (z, new)
+      here false z = rw z
+
+      which : (t : Bool) → eqb (refusalAt stepOn c s) 0 ≡ t → judging d c s
+          ≡ judgedAs c (d c s) (s .buffer)
+      which true z = here true z
+      which false z =
+          let none = ap (λ (o : Outcome). octet 0 (replyOf o))
+          (here false z ∙ refused-whole c s (eqb-false (refusalAt stepOn c s) 0 z)) in
           absurd (omega arith)
 
   -- and the reply is the one that it draws
-  code-drawn : (c : Conversation) (s : StepInput) {n : ℕ} → 17 ≤ length (s .buffer) → octet 0 (replyOf (judging d c s)) ≡ n → 0 < n
+  code-drawn : {n : ℕ} → 17 ≤ length (s .buffer) → octet 0 (replyOf (judging d c s)) ≡ n → 0 < n
       → octet 0 (replyPacket (c .id) (d c s .reply)) ≡ n
-  code-drawn c s room e pos =
+  code-drawn room e pos =
       ap (octet 0) (sym (reply-of c (d c s) (s .buffer) room))
-      ∙ ap (λ (o : Outcome). octet 0 (replyOf o)) (sym (drew c s e pos)) ∙ e
+      ∙ ap (λ (o : Outcome). octet 0 (replyOf o)) (sym (drew e pos)) ∙ e
 
 -- the sample's opening is not refused
 pub first-default : opened (opening Default) .conversation ≡ firstConversation (opening Default)
 first-default = opened-first (opening Default) opens-default
 
+-- no answer was given yet
+first-new : (s : StepInput) → repeatsHere (opened (opening Default) .conversation) s ≡ false
+first-new s = none-answered (opened (opening Default) .conversation) s
+    (ap (λ (c : Conversation). c .last .present) first-default)
+
 -- ---- 691 always
 
 -- for a Response that a first conversation judges with no record
-none-first : (p : List ℕ) → judge (firstConversation (opening Default)) p notFound .reply ≡ Failure authenticationFailure true
+none-first : (p : List ℕ) → judge (firstConversation (opening Default)) p notFound .reply
+    ≡ Failure authenticationFailure true
 unfolding judge judgeResponse responseReason firstReason
 none-first p = refl
 
-none-drawn : (p : List ℕ) → judge (opened (opening Default) .conversation) p notFound .reply ≡ Failure authenticationFailure true
+none-drawn : (p : List ℕ) → judge (opened (opening Default) .conversation) p notFound .reply
+    ≡ Failure authenticationFailure true
 none-drawn p = ap (λ (c : Conversation). judge c p notFound .reply) first-default ∙ none-first p
 
 pub not-finding : Demand3 (judging findsNone) ourWriter → ⊥
 not-finding h =
     let p = start (opening Default) [] in
-    let all = h (opening Default) opens-default refl .1 (account false) 0 [] (rightTry false ∷ []) (rightful false) (omega arith) refl
+    let all = h (opening Default) opens-default refl .1 (account false) 0 [] (rightTry false ∷ [])
+    (rightful false) (omega arith) refl
     (right-allowed (judging findsNone) ourWriter p false, tt) in
-    let s = exchange (judging findsNone) ourWriter p (right old user) (line 55 (found (account false))) .input in
+    let s = exchange (judging findsNone) ourWriter p (right old user)
+    (line 55 (found (account false))) .input in
     let reply = none-drawn (s .packet) in
-    let code = code-drawn findsNone (p .conversation) s (omega arith)
+    let code = code-drawn findsNone (p .box .conversation) s (first-new s) (omega arith)
     (ap (octet 0) (all .0 .0 .0 .0) ∙ success-code _) (omega arith) in
-    omega (arith, code, ap (λ (r : Reply). octet 0 (replyPacket (p .conversation .id) r)) reply ∙ failure-code _ (textOf 691 1 version))
+    omega (
+      arith,
+      code,
+      ap (λ (r : Reply). octet 0 (replyPacket (p .box .conversation .id) r)) reply
+          ∙ failure-code _ (textOf 691 1 version),
+    )
 
 -- ---- accepts always
 
@@ -109,21 +178,32 @@ pub not-accepting : Demand3 (judging accepts) ourWriter → ⊥
 not-accepting h =
     let box = judging accepts in
     let p = start (opening Default) [] in
-    let all = h (opening Default) opens-default refl .1 (account false) 1 [] (badTry notFound ∷ rightTry false ∷ []) (rightful false) (omega arith) refl
-    (bad-allowed box ourWriter p (account false), (right-allowed box ourWriter (next box ourWriter p (badTry notFound)) false, tt)) in
-    let code = code-drawn accepts (p .conversation) (exchange box ourWriter p (invalid bad user) (line 60 notFound) .input) (omega arith)
+    let all = h (opening Default) opens-default refl .1 (account false) 1 []
+    (badTry notFound ∷ rightTry false ∷ []) (rightful false) (omega arith) refl (
+      bad-allowed box ourWriter p (account false),
+      (
+        right-allowed box ourWriter
+            (next box ourWriter p (badTry notFound)) false,
+        tt,
+      ),
+    ) in
+    let s = exchange box ourWriter p (invalid bad user) (line 60 notFound) .input in
+    let code = code-drawn accepts (p .box .conversation) s (first-new s) (omega arith)
     (ap (octet 0) (all .0 .0 .0 .0) ∙ failure-code _ (textOf 691 1 version)) (omega arith) in
-    omega (arith, code, success-code (p .conversation .id))
+    omega (arith, code, success-code (p .box .conversation .id))
 
 -- ---- pretends on retries
 
 -- the first invalid try leaves one retry
-one-first : (s : StepInput) → s .account ≡ notFound → pretends 2 (firstConversation (opening Default)) s .next .retries ≡ 1
+one-first : (s : StepInput) → s .account ≡ notFound
+    → pretends 2 (firstConversation (opening Default)) s .next .retries ≡ 1
 unfolding judge judgeResponse responseReason firstReason
 one-first s e = rw e
 
-one-left : (s : StepInput) → s .account ≡ notFound → pretends 2 (opened (opening Default) .conversation) s .next .retries ≡ 1
-one-left s e = ap (λ (c : Conversation). pretends 2 c s .next .retries) first-default ∙ one-first s e
+one-left : (s : StepInput) → s .account ≡ notFound → pretends 2
+    (opened (opening Default) .conversation) s .next .retries ≡ 1
+one-left s e = ap (λ (c : Conversation). pretends 2 c s .next .retries) first-default
+    ∙ one-first s e
 
 -- the second one draws Success
 pub not-pretending : Demand3 (judging (pretends 2)) ourWriter → ⊥
@@ -131,18 +211,35 @@ not-pretending h =
     let box = judging (pretends 2) in
     let p = start (opening Default) [] in
     let q = next box ourWriter p (badTry notFound) in
-    let all = h (opening Default) opens-default refl .1 (account false) 2 [] (badTry notFound ∷ badTry notFound ∷ rightTry false ∷ []) (rightful false) (omega arith) refl (
+    let all = h (opening Default) opens-default refl .1 (account false) 2 []
+    (badTry notFound ∷ badTry notFound ∷ rightTry false ∷ []) (rightful false) (omega arith) refl (
       bad-allowed box ourWriter p (account false),
-      (bad-allowed box ourWriter q (account false), (right-allowed box ourWriter (next box ourWriter q (badTry notFound)) false, tt)),
+      (
+        bad-allowed box ourWriter q (account false),
+        (right-allowed box ourWriter (next box ourWriter q (badTry notFound)) false, tt),
+      ),
     ) in
     let s = exchange box ourWriter p (invalid bad user) (line 60 notFound) .input in
     let t = exchange box ourWriter q (invalid bad user) (line 60 notFound) .input in
-    let first = drew (pretends 2) (p .conversation) s (ap (octet 0) (all .0 .0 .0 .0) ∙ failure-code _ (textOf 691 1 version)) (omega arith) in
+    let first = drew (pretends 2) (p .box .conversation) s (first-new s)
+    (ap (octet 0) (all .0 .0 .0 .0) ∙ failure-code _ (textOf 691 1 version)) (omega arith) in
     let left = ap (λ (o : Outcome). o .answer .next .retries) first ∙ one-left s refl in
-    let pretended = ap (λ (n : ℕ). cond (ltb n 2) (accepts (q .conversation) t) (judge (q .conversation) (t .packet) notFound) .reply) left in
-    let code = code-drawn (pretends 2) (q .conversation) t (omega arith)
+    let turn = retry-id box p (line 60 notFound) (invalid bad user) (all .0 .0 .1) (all .0 .0 .0 .1)
+    ∙ ap nextId (first-id (opening Default) opens-default refl []) in
+    let last = ap (λ (o : Outcome). o .answer .next .last .id) first
+    ∙ ap (λ (c : Conversation). c .id) first-default in
+    let id = sent-carries box q (line 60 notFound) (invalid bad user) (all .0 .1 .0 .1) .1 ∙ turn in
+    let new = other-id (q .box .conversation) t (λ e. omega (arith, sym id ∙ e ∙ last)) in
+    let pretended = ap (λ (n : ℕ). cond (ltb n 2) (accepts (q .box .conversation) t)
+    (judge (q .box .conversation) (t .packet) notFound) .reply) left in
+    let code = code-drawn (pretends 2) (q .box .conversation) t new (omega arith)
     (ap (octet 0) (all .0 .1 .0 .0 .0) ∙ failure-code _ (textOf 691 1 version)) (omega arith) in
-    omega (arith, code, ap (λ (r : Reply). octet 0 (replyPacket (q .conversation .id) r)) pretended ∙ success-code (q .conversation .id))
+    omega (
+      arith,
+      code,
+      ap (λ (r : Reply). octet 0 (replyPacket (q .box .conversation .id) r))
+          pretended ∙ success-code (q .box .conversation .id),
+    )
 
 -- ---- the change leaves the record
 
@@ -156,14 +253,16 @@ Expired c p =
 
 expired-first : (p : List ℕ) → Expired (firstConversation (opening Default)) p
 unfolding judge judgeResponse responseReason firstReason failurePacket textOf hexOf
-expired-first p = which (validIn (firstConversation (opening Default)) (account true) (readResponse p))
+expired-first p = which (validIn (firstConversation (opening Default)) (account true)
+    (readResponse p))
   where
     c : Conversation
     c = firstConversation (opening Default)
 
     which : (v : Bool) → let e = firstReason v (account true) in
         let reply = replyPacket 255 (replyFor c e) in
-        (octet 0 reply ≡ 4) × (octet 7 reply ≡ 52 → afterReason c (account true) e .kept ≡ account true)
+        (octet 0 reply ≡ 4) × (octet 7 reply ≡ 52 → afterReason c (account true) e .kept
+        ≡ account true)
     which true = (refl, λ h. refl)
     which false = (refl, λ h. absurd (omega arith))
 
@@ -176,7 +275,8 @@ unfolding failurePacket textOf hexOf
 four-of id = refl
 
 -- a record that is handed out is the kept one
-kept-handed : (t : Bool) (a : Account) → cond t (found a) notFound .found ≡ true → cond t (found a) notFound .account ≡ a
+kept-handed : (t : Bool) (a : Account) → cond t (found a) notFound .found ≡ true
+    → cond t (found a) notFound .account ≡ a
 kept-handed true a h = refl
 kept-handed false a h = absurd (false≢true h)
 
@@ -187,44 +287,63 @@ not-leaving-record h =
     let l = found (account true) in
     let p = start (opening Default) [] in
     let q = next box ourWriter p (rightTry true) in
-    let all = h (opening Default) opens-default refl .1 (account true) 0 [] (rightTry true ∷ change l ∷ []) (rightful true) (omega arith) refl
+    let all = h (opening Default) opens-default refl .1 (account true) 0 []
+    (rightTry true ∷ change l ∷ []) (rightful true) (omega arith) refl
     (right-allowed box ourWriter p true, (change-allowed box ourWriter q true l, tt)) in
     let s = exchange box ourWriter p (right old user) (line 55 l) .input in
-    let first = drew leavesRecord (p .conversation) s (ap (octet 0) (all .0 .0 .0 .0) ∙ failure-code _ (textOf 648 0 version)) (omega arith) in
+    let first = drew leavesRecord (p .box .conversation) s (first-new s)
+    (ap (octet 0) (all .0 .0 .0 .0) ∙ failure-code _ (textOf 648 0 version)) (omega arith) in
     let expired = expired-drawn (s .packet) in
-    let four = ap (octet 7) (sym (reply-of (p .conversation) (leavesRecord (p .conversation) s) (s .buffer) (omega arith))
+    let four = ap (octet 7) (sym (reply-of (p .box .conversation)
+    (leavesRecord (p .box .conversation) s) (s .buffer) (omega arith))
     ∙ ap replyOf (sym first) ∙ all .0 .0 .0 .0) ∙ four-of _ in
     let kept = ap (λ (o : Outcome). o .answer .next .kept) first ∙ expired .1 four in
     let answered = all .0 .1 .0 .0 in
     let t = exchange box ourWriter q newPassword (line 1118 l) .input in
-    let changed = ap (λ (o : Outcome). o .answer .updated) (drew leavesRecord (q .conversation) t (ap (octet 0) (answered .0 .0) ∙ success-code _)
+    let last = ap (λ (o : Outcome). o .answer .next .last .code) first
+    ∙ ap (λ (c : Conversation). awaitedCode (c .phase)) first-default in
+    let sent = sent-carries box q (line 1118 l) newPassword (all .0 .1 .0 .1) .0 in
+    let fresh = other-code (q .box .conversation) t (λ e. omega (arith, sym sent ∙ e ∙ last)) in
+    let changed = ap (λ (o : Outcome). o .answer .updated)
+    (drew leavesRecord (q .box .conversation) t fresh
+    (ap (octet 0) (answered .0 .0) ∙ success-code _)
     (omega arith)) in
     let updated = ap (λ (b : Lookup). b .account) changed
-    ∙ kept-handed (judge (q .conversation) (t .packet) (t .account) .updated .found) (q .conversation .kept)
+    ∙ kept-handed (judge (q .box .conversation) (t .packet) (t .account) .updated .found)
+    (q .box .conversation .kept)
     (sym (ap (λ (b : Lookup). b .found) changed) ∙ answered .1) ∙ kept in
     let lets = subst (λ (b : Account). LetsIn box ourWriter b new) updated (answered .2) in
     let r = later box ourWriter (opening Default) [] [] in
     let u = exchange box ourWriter r (right new user) (line 55 l) .input in
-    let draws = lets (opening Default) [] user [] (line 55 l) opens-default refl tt refl (new-within l) in
+    let draws = lets (opening Default) [] user [] (line 55 l) opens-default refl tt refl
+    (new-within l) in
     let again = expired-drawn (u .packet) in
-    let code = code-drawn leavesRecord (r .conversation) u (omega arith) (ap (octet 0) (draws .0) ∙ success-code 255) (omega arith) in
+    let code = code-drawn leavesRecord (r .box .conversation) u (first-new u) (omega arith)
+    (ap (octet 0) (draws .0) ∙ success-code 255) (omega arith) in
     omega (arith, code, again .0)
 
 -- ---- retries do not fall
 
 -- a Response with no record, with an identifier
 abbrev pub try : ℕ → StepInput
-try id = record { packet = 2 ∷ id ∷ 0 ∷ 55 ∷ 49 ∷ (replicate 48 0 ++ (1 ∷ 117 ∷ [])); account = notFound; buffer = replicate 17 0 }
+try id = record {
+  packet = 2 ∷ id ∷ 0 ∷ 55 ∷ 49 ∷ (replicate 48 0 ++ (1 ∷ 117 ∷ []));
+  account =
+      notFound;
+  buffer = replicate 17 0;
+}
 
-abbrev tries : List StepInput
+abbrev pub tries : List StepInput
 tries = try 255 ∷ try 0 ∷ try 1 ∷ try 2 ∷ []
 
 -- with r = 1, all four are judged
 abbrev judgedOf : Conversation → ℕ
-judgedOf c = total (nextAfter (judging neverCounts)) (judged (judging neverCounts)) c tries
+judgedOf c = total (nextState (judging neverCounts)) (judged (judging neverCounts))
+    (unanswered c) tries
 
 four : judgedOf (firstConversation (opening (Count 1))) ≡ 4
-unfolding stepRefusal responseRefusal step judge judgeResponse responseReason firstReason failurePacket textOf
+unfolding refusalFor responseRefusal step judge judgeResponse responseReason firstReason
+    failurePacket textOf
 four = refl
 
 pub not-counting : Demand3 (judging neverCounts) ourWriter → ⊥

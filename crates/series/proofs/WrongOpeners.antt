@@ -9,13 +9,27 @@ use Prim.Native.Nat.{ℕ}
 use native.Mathlib.Omega.{arith}
 use lib.ListN.{replicate}
 use Rattle.octets.specs.Parts.{over, agrees}
-use Rattle.issued.specs.Issued.{contains, containsAny, ending, endings, emptyList, badBuffer, spendRefusal}
+use Rattle.issued.specs.Issued.{
+  contains,
+  containsAny,
+  ending,
+  endings,
+  emptyList,
+  badBuffer,
+  spendRefusal,
+}
 use Rattle.challenges.specs.Challenges.{incremented, challengesFrom}
 use Rattle.packets.specs.Response.{responseRefusal}
 use Rattle.accounts.specs.Account.{notFound}
 use Rattle.authenticator.specs.Conversation.{isEnded}
-use Rattle.authenticator.specs.Opening.{Opening, openRefusal, firstConversation, opened, openedIssued}
-use Rattle.authenticator.specs.Admit.{stepRefusal}
+use Rattle.authenticator.specs.Opening.{
+  Opening,
+  openRefusal,
+  firstConversation,
+  opened,
+  openedIssued,
+}
+use Rattle.authenticator.specs.Admit.{refusalFor}
 use Rattle.verify.specs.Response.{firstReason, responseReason}
 use Rattle.authenticator.specs.Judge.{judgeResponse, judge}
 use Rattle.authenticator.specs.Step.{step}
@@ -24,9 +38,23 @@ use Rattle.authenticator.specs.declared.Conversation.{Conversation}
 use Rattle.authenticator.specs.declared.Retries.the-variants.{Default, Count}
 use Rattle.authenticator.proofs.Openings.{opened-first, may-open-empty}
 use Rattle.series.specs.Boxes.{withRetries, ourBox}
-use Rattle.series.specs.Openers.{refusesToOpen, opensRefused, leavesList, noRetries, spendsOne}
+use Rattle.series.specs.Openers.{
+  refusesToOpen,
+  opensRefused,
+  leavesList,
+  noRetries,
+  spendsOne,
+}
 use Rattle.series.specs.OneList.{Openable, Two, NoneTwice, OneList}
-use Rattle.series.proofs.Shared.{openingOn, challenge, first, six-places, first-opens, input, opens-live}
+use Rattle.series.proofs.Shared.{
+  openingOn,
+  challenge,
+  first,
+  six-places,
+  first-opens,
+  input,
+  opens-live,
+}
 
 -- ---- refuses everything
 
@@ -110,7 +138,7 @@ abbrev afterTry : Conversation → List ℕ
 afterTry c = nextAfter ourBox (withRetries 1 c) try .challenge
 
 retry-grows : afterTry (firstConversation (noRetries retrying)) ≡ incremented challenge
-unfolding stepRefusal responseRefusal step judge judgeResponse responseReason firstReason
+unfolding refusalFor responseRefusal step judge judgeResponse responseReason firstReason
 retry-grows = refl
 
 -- the retry of the first puts the second's challenge in force

@@ -1,32 +1,46 @@
 -- Our box, and wrong ones: one that refuses everything, and boxes that are ours but for one slip
 -- each. Demand 3 holds of ours (proofs/Demand3) and of none of the others (proofs/Wrong,
--- WrongRefusals).
+-- WrongRefusals, WrongRepeats).
 -- Assumes nothing: these are definitions.
-use mathlib.Core.Bool.{true, cond}
+use mathlib.Core.Bool.{Bool, true, cond, not, _&&_}
 use Prim.Native.Nat.{ℕ}
 use lib.Dec.{eqb, ltb}
 use Rattle.message.specs.Reasons.{noReason}
+use Rattle.packets.specs.Codes.{changeCode}
 use Rattle.packets.specs.Frame.{octet, writtenOver}
+use Rattle.packets.specs.Response.{readResponse}
+use Rattle.authenticator.specs.Admit.{refusalFor}
 use Rattle.authenticator.specs.Encode.{replyPacket}
 use Rattle.accounts.specs.Account.{notFound, found}
+use Rattle.accounts.specs.declared.Lookup.{Lookup}
+use Rattle.verify.specs.Response.{foundValid}
 use Rattle.authenticator.specs.Conversation.{ended}
 use Rattle.authenticator.specs.declared.Judgement.{Judgement}
 use Rattle.authenticator.specs.Judge.{judgementFor, judge}
-use Rattle.authenticator.specs.Step.{judgedAs, refusedAs}
+use Rattle.authenticator.specs.Step.{Outcome, isRepeated, judgedAs, repeatedAs, refusedAs}
 use Rattle.authenticator.specs.Steps.{StepInput, Box, stepOn, refusalAt}
 use Rattle.authenticator.specs.declared.Conversation.{Conversation}
-use Rattle.authenticator.specs.declared.Kind.the-variants.{Refused, Judged}
+use Rattle.authenticator.specs.declared.Kind.{Kind}
+use Rattle.authenticator.specs.declared.Kind.the-variants.{Refused, Repeated, Judged}
 
 -- refuses everything, with one number or another
 abbrev pub refusing : ℕ → Box
 refusing n c s = refusedAs n c (s .buffer)
 
--- what a judged packet draws, and a box that refuses what ours refuses and judges the rest so
+-- what our box refuses, repeats and judges
+abbrev pub repeatsHere : Conversation → StepInput → Bool
+repeatsHere c s = isRepeated (stepOn c s .answer .kind)
+
+abbrev pub judgesHere : Conversation → StepInput → Bool
+judgesHere c s = eqb (refusalAt stepOn c s) 0 && not (repeatsHere c s)
+
+-- what a judged packet draws, and a box that refuses and repeats what ours does and judges the rest
+-- so
 abbrev pub Judge : Type 0
 Judge = Conversation → StepInput → Judgement
 
 abbrev pub judging : Judge → Box
-judging d c s = cond (eqb (refusalAt stepOn c s) 0) (judgedAs c (d c s) (s .buffer)) (stepOn c s)
+judging d c s = cond (judgesHere c s) (judgedAs c (d c s) (s .buffer)) (stepOn c s)
 
 -- 691 always: no record is ever found
 abbrev pub findsNone : Judge
@@ -60,6 +74,7 @@ withRetries r c = record {
   retries = r;
   phase = c .phase;
   kept = c .kept;
+  last = c .last;
 }
 
 -- and with another identifier awaited
@@ -71,6 +86,7 @@ withId id c = record {
   retries = c .retries;
   phase = c .phase;
   kept = c .kept;
+  last = c .last;
 }
 
 -- retries do not fall
@@ -117,6 +133,7 @@ withLm c =
       retries = c .retries;
       phase = c .phase;
       kept = c .kept;
+      last = c .last;
     }
 
 abbrev pub allowsLm : Box
@@ -133,6 +150,85 @@ endsUnseen c s =
 -- judges it after all, under the identifier that the packet has
 abbrev pub judgesStrays : Box
 judgesStrays c s = stepOn (withId (octet 1 (s .packet)) c) s
+
+-- ---- boxes that refuse and judge as ours does, and answer otherwise what ours repeats
+
+-- an outcome with another kind, or with another record handed out
+abbrev pub withKind : Kind → Outcome → Outcome
+withKind k o =
+    record {
+      answer = record {
+        kind = k;
+        next = o .answer .next;
+        written = o .answer .written;
+        updated = o .answer .updated;
+      };
+      buffer = o .buffer;
+    }
+
+abbrev pub withUpdated : Lookup → Outcome → Outcome
+withUpdated l o =
+    record {
+      answer = record {
+        kind = o .answer .kind;
+        next = o .answer .next;
+        written = o .answer .written;
+        updated = l;
+      };
+      buffer = o .buffer;
+    }
+
+abbrev pub answeringRepeats : (Conversation → StepInput → Bool) → Box → Box
+answeringRepeats when f c s = cond (repeatsHere c s && when c s) (f c s) (stepOn c s)
+
+-- answers nothing more: the packet is refused, with one number or another
+abbrev pub neverRepeats : ℕ → Box
+neverRepeats n = answeringRepeats (λ c s. true) (refusing n)
+
+-- judges it anew: under the old identifier a wrong guess draws the same reply as before and leaves
+-- the conversation, and a right one, by the challenge in force, draws Success, by whatever name
+abbrev pub guessesRight : Conversation → StepInput → Bool
+guessesRight c s = foundValid (c .terms) (c .challenge) (s .account) (readResponse (s .packet))
+
+abbrev pub letsIn : Kind → Box
+letsIn k c s = withKind k
+    (judgedAs (withId (octet 1 (s .packet)) c) (judgementFor c (s .account .account) noReason)
+    (s .buffer))
+
+abbrev pub judgesRepeats : Kind → Box
+judgesRepeats k = answeringRepeats guessesRight (letsIn k)
+
+-- hands out, with a repeated change, the record that is passed with it, by whatever name (the kept
+-- record is dropped at the end)
+abbrev pub isChange : Conversation → StepInput → Bool
+isChange c s = eqb (octet 0 (s .packet)) changeCode
+
+abbrev pub handsOut : Kind → Box
+handsOut k c s = withKind k (withUpdated (s .account) (stepOn c s))
+
+abbrev pub handsOutAgain : Kind → Box
+handsOutAgain k = answeringRepeats isChange (handsOut k)
+
+-- ---- boxes that take for a repeat, or call a repeat, what is none
+
+-- compares the identifier alone: behind 2 and 3, a packet of any code under the old identifier
+-- draws the last reply
+abbrev pub sameIdentifier : Conversation → StepInput → Bool
+sameIdentifier c s = c .last .present && eqb (octet 1 (s .packet)) (c .last .id)
+
+abbrev pub comparesIdentifier : Box
+comparesIdentifier c s =
+    cond (sameIdentifier c s && eqb (refusalFor true c (s .packet) (s .buffer)) 0)
+    (repeatedAs c (s .buffer)) (stepOn c s)
+
+-- calls every judgement a repeat
+abbrev pub calledRepeated : Kind → Kind
+calledRepeated (Refused n) = Refused n
+calledRepeated (Repeated e) = Repeated e
+calledRepeated (Judged e) = Repeated e
+
+abbrev pub callsRepeats : Box → Box
+callsRepeats box c s = withKind (calledRepeated (box c s .answer .kind)) (box c s)
 
 -- our box: what the promise of the authenticator's `step` says
 abbrev pub ourBox : Box

@@ -1,4 +1,5 @@
--- Demand 3. Words in quotes are document 01's, "The series in demand 3".
+-- Demand 3. Words in quotes are document 01's, "The series in demand 3", and document 02's, request
+-- 2026-01.
 -- Assumes nothing: these are definitions.
 use mathlib.Core.Bool.{Bool, true, false, cond}
 use mathlib.Core.List.{List, [], _∷_, _++_}
@@ -18,10 +19,10 @@ use Rattle.authenticator.specs.Judge.{validIn}
 use Rattle.authenticator.specs.Opening.{Opening, retriesOf, opened, openedBuffer}
 use Rattle.authenticator.specs.Encode.{version}
 use Rattle.authenticator.specs.Step.{Outcome}
-use Rattle.authenticator.specs.Steps.{StepInput, Box, replyOf, nextAfter, Refused, Leaves, judged}
+use Rattle.authenticator.specs.Steps.{StepInput, Box, replyOf, BoxState, unanswered, judged}
+use Rattle.authenticator.specs.Steps.{nextState, NotJudged, StepClaim}
 use Rattle.accounts.specs.declared.Account.{Account}
 use Rattle.accounts.specs.declared.Lookup.{Lookup}
-use Rattle.authenticator.specs.declared.Conversation.{Conversation}
 use Rattle.authenticator.specs.declared.Phase.the-variants.{Ended}
 use Rattle.peer.specs.Write.{Wrote}
 use Rattle.peer.specs.Peer.{afterChallenge, afterWriting, peerReads, afterReply}
@@ -72,9 +73,9 @@ plan k expired = replicate k Invalid ++ (Right ∷ cond expired (PasswordChange 
 
 -- ---- a packet on its way
 
--- "the conversation that the opening or the step before gave back", and our peer
+-- the box, as it is seen from outside, and our peer
 pub record SeriesState : Type 0 where
-  pub conversation : Conversation
+  pub box : BoxState
   pub peer : Peer
 
 -- "Our peer reads the Challenge .. as the box wrote" it, with padding behind it
@@ -83,7 +84,7 @@ challengeRead o behind = readChallenge (take (opened o .written) (openedBuffer o
 
 abbrev pub start : Opening → List ℕ → SeriesState
 start o behind = record {
-  conversation = opened o .conversation;
+  box = unanswered (opened o .conversation);
   peer = afterChallenge (challengeRead o behind);
 }
 
@@ -155,9 +156,9 @@ carried box p w l =
     record {
       wrote = w;
       input = reaching w l;
-      outcome = box (p .conversation) (reaching w l);
+      outcome = box (p .box .conversation) (reaching w l);
       peer = afterWriting (p .peer) (w .answer);
-      reply = replyOf (box (p .conversation) (reaching w l)) ++ l .replyPadding;
+      reply = replyOf (box (p .box .conversation) (reaching w l)) ++ l .replyPadding;
     }
 
 module _ (box : Box) (writer : Writer) where
@@ -168,10 +169,10 @@ module _ (box : Box) (writer : Writer) where
   abbrev pub next : SeriesState → Step → SeriesState
   next p (ours t l) =
       record {
-        conversation = exchange p t l .outcome .answer .next;
+        box = nextState box (p .box) (exchange p t l .input);
         peer = afterReply (exchange p t l .peer) (exchange p t l .reply);
       }
-  next p (other s) = record { conversation = nextAfter box (p .conversation) s; peer = p .peer }
+  next p (other s) = record { box = nextState box (p .box) s; peer = p .peer }
 
   -- a step's input, and whether its packet is judged
   abbrev pub inputAt : SeriesState → Step → StepInput
@@ -179,27 +180,28 @@ module _ (box : Box) (writer : Writer) where
   inputAt p (other s) = s
 
   abbrev pub judgedAt : SeriesState → Step → ℕ
-  judgedAt p m = judged box (p .conversation) (inputAt p m)
+  judgedAt p m = judged box (p .box) (inputAt p m)
 
   -- An invalid try comes with a record for which it is invalid, or none. "The right password is one
   -- whose NT hash is the record's", and that record is passed. The change is "written with the
   -- right password as the old one", and passed with any record or none.
   abbrev pub Meant : Account → SeriesState → Packet → ExchangeInput → Type 0
   Meant a p (invalid w n) l =
-      l .account .found ≡ true → validIn (p .conversation) (l .account .account)
+      l .account .found ≡ true → validIn (p .box .conversation) (l .account .account)
       (readResponse (exchange p (invalid w n) l .input .packet)) ≡ false
   Meant a p (right w n) l = (ntHashOf w ≡ a .nt .octets) × (l .account ≡ found a)
   Meant a p (passwordChange o n f) l = ntHashOf o ≡ a .nt .octets
 
-  -- "Any other step may have any packet, record and buffer with which the box refuses it."
+  -- "Any other step may have any packet, record and buffer with which the box refuses it"; "its
+  -- others may be repeats too".
   abbrev pub Allowed : Account → SeriesState → Step → Type 0
   Allowed a p (ours t l) = Within t l × Meant a p t l
-  Allowed a p (other s) = Refused box (p .conversation) s
+  Allowed a p (other s) = NotJudged box (p .box) s
 
   -- "after any opening not refused and any refused steps"
   abbrev pub later : Opening → List ℕ → List StepInput → SeriesState
   later o behind ss = record {
-    conversation = end (nextAfter box) (opened o .conversation) ss;
+    box = end (nextState box) (unanswered (opened o .conversation)) ss;
     peer = start o behind .peer;
   }
 
@@ -209,7 +211,8 @@ module _ (box : Box) (writer : Writer) where
   LetsIn a password =
       (o : Opening) (behind name : List ℕ) (ss : List StepInput) (l : ExchangeInput)
       → opened o .refusal ≡ 0 → length (o .challenge) ≡ 8
-      → Along (nextAfter box) (Refused box) (opened o .conversation) ss → l .account ≡ found a
+      → Along (nextState box) (NotJudged box) (unanswered (opened o .conversation)) ss
+      → l .account ≡ found a
       → TryWithin password name l
       → DrawsSuccess (exchange (later o behind ss) (right password name) l) (o .id)
 
@@ -232,10 +235,11 @@ module _ (box : Box) (writer : Writer) where
 
   -- "A single claim about the series from opening to end": the Challenge is read; each packet of
   -- our peer is written and draws what it should; "with k invalid tries the box judges exactly k +
-  -- 1 packets, or k + 2 with the record expired", and the conversation has ended; of any steps at
-  -- all it judges at most r + 2, and a step whose packet it does not judge leaves all as it was. It
-  -- holds of our box and writer (proofs/Demand3), and of none of the wrong ones in specs/Boxes and
-  -- specs/Writers (proofs/Wrong, WrongRefusals, WrongWriters).
+  -- 1 packets, or k + 2 with the record expired", whatever refused packets and repeats come between
+  -- them, and the conversation has ended; of any steps at all it judges at most r + 2, and each
+  -- does what StepClaim says: a repeat draws the same reply, and what is not judged leaves all as
+  -- it was. It holds of our box and writer (proofs/Demand3), and of none of the wrong ones in
+  -- specs/Boxes and specs/Writers (proofs/Wrong, WrongRefusals, WrongRepeats, WrongWriters).
   abbrev pub Demand3 : Type 0
   Demand3 =
       (o : Opening) → opened o .refusal ≡ 0 → length (o .challenge) ≡ 8
@@ -246,7 +250,8 @@ module _ (box : Box) (writer : Writer) where
       → Along next (Allowed a) (start o behind) ms
       → Along next (Claimed a) (start o behind) ms
       × (total next judgedAt (start o behind) ms ≡ k + cond (a .expired) 2 1)
-      × (end next (start o behind) ms .conversation .phase ≡ Ended))
-      × ((ss : List StepInput) → (total (nextAfter box) (judged box) (opened o .conversation) ss
+      × (end next (start o behind) ms .box .conversation .phase ≡ Ended))
+      × ((ss : List StepInput)
+      → (total (nextState box) (judged box) (unanswered (opened o .conversation)) ss
       ≤ retriesOf (o .retries) + 2)
-      × Along (nextAfter box) (Leaves box) (opened o .conversation) ss)
+      × Along (nextState box) (StepClaim box) (unanswered (opened o .conversation)) ss)

@@ -60,6 +60,7 @@ openingOf id c =
 -- the refusal's number, or the reply
 abbrev drawnAs : kinds.Kind → Outcome → Output
 drawnAs (kind.Refused n) o = refusal n
+drawnAs (kind.Repeated e) o = octets (replyOf o)
 drawnAs (kind.Judged e) o = octets (replyOf o)
 
 abbrev answered : Outcome → Output
