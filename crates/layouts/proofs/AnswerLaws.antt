@@ -2,7 +2,7 @@
 -- the encoding of a value is the value.
 -- Assumes nothing.
 use mathlib.Core.Path.{_≡_, ap, _∙_}
-use mathlib.Core.Bool.{true}
+use mathlib.Core.Bool.{Bool, true}
 use mathlib.Core.List.{List}
 use Prim.Native.Nat.{ℕ, suc, _<_}
 use native.Mathlib.Omega.{arith}
@@ -17,19 +17,19 @@ use Rattle.layouts.specs.Answers as layout
 use Rattle.layouts.specs.declared.StepResult.{StepResult}
 use Rattle.layouts.proofs.Encodings.{encoding-fits, tagged-back}
 use Rattle.layouts.proofs.RecordLaws.{SizedAccount, decoded-lookup-sized, length-lookup}
-use Rattle.layouts.proofs.RecordLaws.{lookup-back}
+use Rattle.layouts.proofs.RecordLaws.{flag-back, lookup-back}
 
-pub result-same : {n n' : ℕ} {l l' : Lookup} → n ≡ n' → l ≡ l'
-    → _≡_ {A = StepResult} (record { reason = n; updated = l })
-    (record { reason = n'; updated = l' })
-result-same e₁ e₂ = cc
+pub result-same : {b b' : Bool} {n n' : ℕ} {l l' : Lookup} → b ≡ b' → n ≡ n' → l ≡ l'
+    → _≡_ {A = StepResult} (record { repeated = b; reason = n; updated = l })
+    (record { repeated = b'; reason = n'; updated = l' })
+result-same e₁ e₂ e₃ = cc
 
 -- ---- sizes
 
 pub length-result : (v : StepResult) → SizedAccount (v .updated .account)
     → length (layout.encodeResult v) ≡ layout.resultSize
 unfolding layout.encodeResult
-length-result v s = ap (λ (n : ℕ). suc (suc n)) (length-lookup (v .updated) s)
+length-result v s = ap (λ (n : ℕ). suc (suc (suc n))) (length-lookup (v .updated) s)
 
 pub decoded-result-sized : (bytes : List ℕ)
     → SizedAccount (layout.decodeResult bytes .updated .account)
@@ -47,13 +47,13 @@ module _ (v : StepResult) (s : SizedAccount (v .updated .account)) (fits : v .re
   unfolding layout.encodeResult layout.decodeResult
   result-back =
       let n = length-lookup (v .updated) s in
-      result-same (fromBe-toBe 2 (v .reason) ∙ omega (arith, fits))
+      result-same (flag-back (v .repeated)) (fromBe-toBe 2 (v .reason) ∙ omega (arith, fits))
       (ap decodeLookup (take-all 39 (encodeLookup (v .updated)) (omega arith))
       ∙ lookup-back (v .updated) s)
 
   pub answer-back : layout.decodeAnswer (layout.encodeAnswer v) ≡ v
   answer-back =
-      tagged-back layout.encodeResult layout.decodeResult answerKind 41 v (length-result v s)
+      tagged-back layout.encodeResult layout.decodeResult answerKind 42 v (length-result v s)
       result-back
 
   -- the encoding of an answer is taken for one

@@ -1,32 +1,46 @@
 -- The layout of a conversation, field by field: a value is its fields, an encoding is its pieces,
 -- and what is decoded from the encoding of a value is the value.
 -- Assumes nothing.
-use mathlib.Core.Path.{_≡_, refl, ap, _∙_}
+use mathlib.Core.Path.{_≡_, refl, sym, ap, ap₂, subst, _∙_}
 use mathlib.Core.Bool.{Bool, true}
-use mathlib.Core.List.{List, _∷_, _++_}
-use Prim.Native.Nat.{ℕ, suc}
+use mathlib.Core.List.{List, _∷_, _++_, append-assoc}
+use Prim.Native.Nat.{ℕ, suc, _<_}
 use native.Mathlib.Omega.{arith}
-use lib.ListN.{length, take, length-append}
-use lib.Seq.{take-all, take-at, drop-at}
+use lib.ListN.{length, take, drop, length-append}
+use lib.Seq.{take-all}
 use Rattle.octets.specs.Parts.{part, fixed}
 use Rattle.octets.proofs.Parts.{fixed-same, length-fixed}
-use Rattle.authenticator.specs.Conversation.{awaitedCode}
+use Rattle.packets.proofs.Framing.{field}
+use Rattle.authenticator.specs.Conversation.{awaitedCode, withLast}
+use Rattle.authenticator.specs.Judge.{reasonOf}
 use Rattle.accounts.specs.declared.Account.{Account}
 use Rattle.authenticator.specs.declared.Conversation.{Conversation}
+use Rattle.authenticator.specs.declared.LastAnswer.{LastAnswer}
 use Rattle.authenticator.specs.declared.Phase.{Phase}
 use Rattle.authenticator.specs.declared.Phase.the-variants.{Response, Change, Ended}
 use Rattle.packets.specs.Sizes.{challengeSize}
-use Rattle.layouts.specs.Values.{conversationKind, bodyIn}
+use Rattle.layouts.specs.Values.{bodyIn}
 use Rattle.layouts.specs.Records as records
+use Rattle.layouts.specs.LastAnswers.{encodeLast, decodeLast}
 use Rattle.layouts.specs.Conversations as layout
-use Rattle.layouts.proofs.Encodings.{encoding-fits, encoding-length, tagged-back}
+use Rattle.layouts.proofs.Encodings.{encoding-fits, encoding-of, encoding-length}
 use Rattle.layouts.proofs.RecordLaws.{SizedAccount, decoded-account-sized, length-account}
 use Rattle.layouts.proofs.RecordLaws.{flag-back, account-back}
+use Rattle.layouts.proofs.LastAnswerLaws.{length-last, decoded-reason, last-back}
 
 pub conversation-same : {t t' : Bool} {i i' r r' : ℕ} {c c' : List ℕ} {p p' : Phase}
-    {k k' : Account} → t ≡ t' → i ≡ i' → c ≡ c' → r ≡ r' → p ≡ p' → k ≡ k'
+    {k k' : Account} {l l' : LastAnswer} → t ≡ t' → i ≡ i' → c ≡ c' → r ≡ r' → p ≡ p' → k ≡ k'
+    → l ≡ l'
     → _≡_ {A = Conversation}
-    (record { terms = record { lm = t }; id = i; challenge = c; retries = r; phase = p; kept = k })
+    (record {
+      terms = record { lm = t };
+      id = i;
+      challenge = c;
+      retries = r;
+      phase = p;
+      kept = k;
+      last = l;
+    })
     (record {
       terms = record { lm = t' };
       id = i';
@@ -34,19 +48,20 @@ pub conversation-same : {t t' : Bool} {i i' r r' : ℕ} {c c' : List ℕ} {p p' 
       retries = r';
       phase = p';
       kept = k';
+      last = l';
     })
-conversation-same e₁ e₂ e₃ e₄ e₅ e₆ = cc
+conversation-same e₁ e₂ e₃ e₄ e₅ e₆ e₇ = cc
 
 pub state-pieces : (c : Conversation) {code : ℕ} → code ≡ awaitedCode (c .phase)
-    → code ∷ records.flag (c .terms .lm) ∷ c .id ∷ c .retries
-    ∷ (c .challenge ++ records.encodeAccount (c .kept))
+    → (code ∷ records.flag (c .terms .lm) ∷ c .id ∷ c .retries
+    ∷ (c .challenge ++ records.encodeAccount (c .kept)))
+    ++ encodeLast (c .last)
     ≡ layout.encodeState c
 unfolding layout.encodeState
 state-pieces c e =
-    ap
-    (λ (code : ℕ). code ∷ records.flag (c .terms .lm) ∷ c .id ∷ c .retries
-    ∷ (c .challenge ++ records.encodeAccount (c .kept)))
-    e
+    ap₂
+    (λ (code : ℕ) (l : List ℕ). code ∷ records.flag (c .terms .lm) ∷ c .id ∷ c .retries ∷ l) e
+    (append-assoc (c .challenge) (records.encodeAccount (c .kept)) (encodeLast (c .last)))
 
 -- ---- the sizes of a value's arrays, which the code's types fix
 
@@ -66,7 +81,8 @@ decoded-state-sized bytes =
 pub length-state : (c : Conversation) → SizedConversation c
     → length (layout.encodeState c) ≡ layout.stateSize
 unfolding layout.encodeState
-length-state c s = simp (length-append, s .challenge, length-account (c .kept) (s .kept))
+length-state c s =
+    simp (length-append, s .challenge, length-account (c .kept) (s .kept), length-last (c .last))
 
 pub decoded-conversation-sized : (bytes : List ℕ)
     → SizedConversation (layout.decodeConversation bytes)
@@ -77,7 +93,7 @@ pub length-encoded-conversation : (bytes : List ℕ) → layout.isEncodedConvers
     → length bytes ≡ layout.conversationSize
 unfolding layout.isEncodedConversation
 length-encoded-conversation =
-    encoding-length layout.encodeConversation layout.decodeConversation 52
+    encoding-length layout.encodeConversation layout.decodeConversation 58
     (λ (bytes : List ℕ). ap (λ (n : ℕ). suc (suc n))
     (length-state (layout.decodeConversation bytes) (decoded-conversation-sized bytes)))
 
@@ -88,31 +104,64 @@ phase-back Response = refl
 phase-back Change = refl
 phase-back Ended = refl
 
-pub state-back : (c : Conversation) → SizedConversation c
-    → layout.decodeState (layout.encodeState c) ≡ c
-unfolding layout.encodeState layout.decodeState
-state-back c s =
-    let kept = records.encodeAccount (c .kept) in
-    let n = length-account (c .kept) (s .kept) in
-    let challenge =
-    ap (fixed 8) (take-at (c .challenge) kept 8 (s .challenge))
-    ∙ fixed-same 8 (c .challenge) (s .challenge) in
-    let account =
-    ap (λ (l : List ℕ). records.decodeAccount (take 38 l))
-    (drop-at (c .challenge) kept 8 (s .challenge))
-    ∙ ap records.decodeAccount (take-all 38 kept (omega arith))
-    ∙ account-back (c .kept) (s .kept) in
-    conversation-same (flag-back (c .terms .lm)) refl challenge refl (phase-back (c .phase)) account
+module _ (c : Conversation) (s : SizedConversation c) where
+  -- all but the last answer, whose reason may be of more than two bytes here
+  state-again : layout.decodeState (layout.encodeState c)
+      ≡ withLast (decodeLast (encodeLast (c .last))) c
+  unfolding layout.encodeState layout.decodeState
+  state-again =
+      conversation-same (flag-back (c .terms .lm)) refl
+      (ap (fixed 8) (challenge .0) ∙ fixed-same 8 (c .challenge) (s .challenge)) refl
+      (phase-back (c .phase))
+      (ap records.decodeAccount (account .0) ∙ account-back (c .kept) (s .kept))
+      (ap (λ (l : List ℕ). decodeLast (take 6 l)) (account .1)
+      ∙ ap decodeLast (take-all 6 last (omega (arith, length-last (c .last)))))
+    where
+      kept : List ℕ
+      kept = records.encodeAccount (c .kept)
 
-pub conversation-back : (c : Conversation) → SizedConversation c
-    → layout.decodeConversation (layout.encodeConversation c) ≡ c
-conversation-back c s =
-    tagged-back layout.encodeState layout.decodeState conversationKind 50 c (length-state c s)
-    (state-back c s)
+      last : List ℕ
+      last = encodeLast (c .last)
 
--- the encoding of a conversation is taken for one
-pub conversation-fits : (c : Conversation) → SizedConversation c
-    → layout.isEncodedConversation (layout.encodeConversation c) ≡ true
+      bytes : List ℕ
+      bytes =
+          awaitedCode (c .phase) ∷ records.flag (c .terms .lm) ∷ c .id ∷ c .retries
+          ∷ (c .challenge ++ (kept ++ last))
+
+      challenge : (part 4 8 bytes ≡ c .challenge) × (drop 12 bytes ≡ kept ++ last)
+      challenge = field bytes 4 8 (c .challenge) (kept ++ last) refl (s .challenge)
+
+      account : (part 12 38 bytes ≡ kept) × (drop 50 bytes ≡ last)
+      account =
+          field bytes 12 38 kept last (challenge .1) (length-account (c .kept) (s .kept))
+
+  again : layout.decodeConversation (layout.encodeConversation c)
+      ≡ withLast (decodeLast (encodeLast (c .last))) c
+  again =
+      ap layout.decodeState
+      (take-all 56 (layout.encodeState c) (omega (arith, length-state c s)))
+      ∙ state-again
+
+  pub conversation-back : reasonOf (c .last .reply) < 65536
+      → layout.decodeConversation (layout.encodeConversation c) ≡ c
+  conversation-back h = again ∙ ap (λ (l : LastAnswer). withLast l c) (last-back (c .last) h)
+
+  -- the encoding of a conversation is taken for one
+  pub conversation-fits : reasonOf (c .last .reply) < 65536
+      → layout.isEncodedConversation (layout.encodeConversation c) ≡ true
+  unfolding layout.isEncodedConversation
+  conversation-fits h =
+      encoding-fits layout.encodeConversation layout.decodeConversation c (conversation-back h)
+
+-- what is taken for a conversation has a last answer whose reason is of two bytes
+pub last-reason-small : (bytes : List ℕ) → layout.isEncodedConversation bytes ≡ true
+    → reasonOf (layout.decodeConversation bytes .last .reply) < 65536
 unfolding layout.isEncodedConversation
-conversation-fits c s =
-    encoding-fits layout.encodeConversation layout.decodeConversation c (conversation-back c s)
+last-reason-small bytes e =
+    let c = layout.decodeConversation bytes in
+    let same =
+    ap layout.decodeConversation
+    (sym (encoding-of layout.encodeConversation layout.decodeConversation bytes e))
+    ∙ again c (decoded-conversation-sized bytes) in
+    subst (λ (v : Conversation). reasonOf (v .last .reply) < 65536) (sym same)
+    (decoded-reason (c .last))

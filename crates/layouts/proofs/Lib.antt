@@ -3,6 +3,7 @@ pub mod Putting
 pub mod Encodings
 pub mod RecordLaws
 pub mod AnswerLaws
+pub mod LastAnswerLaws
 pub mod ConversationLaws
 pub mod PeerLaws
 pub mod PasswordLaws

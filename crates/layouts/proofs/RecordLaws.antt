@@ -6,6 +6,7 @@ use mathlib.Core.Bool.{Bool, true, false}
 use mathlib.Core.List.{List, [], _∷_, _++_, append-assoc}
 use Prim.Native.Nat.{ℕ, suc, _+_}
 use native.Mathlib.Omega.{arith}
+use mir.Val.{boolByte}
 use lib.ListN.{length, drop, getD, length-append}
 use lib.Seq.{take-all, getD-drop}
 use Rattle.octets.specs.Parts.{part}
@@ -19,6 +20,13 @@ use Rattle.packets.specs.Sizes.{hashSize}
 use Rattle.layouts.specs.Values.{recordKind}
 use Rattle.layouts.specs.Records as layout
 use Rattle.layouts.proofs.Encodings.{encoding-fits, tagged-back}
+
+-- ---- flags
+
+-- a cast makes the flag
+pub flag-cast : (b : Bool) → boolByte b ≡ layout.flag b
+flag-cast true = refl
+flag-cast false = refl
 
 -- ---- a value is its fields
 

@@ -1,5 +1,5 @@
--- A value that is valid begins with its kind and the version of its layout: so no bytes are valid
--- of two kinds, and none are that another version wrote.
+-- A value that is valid begins with its kind and the version of that kind's layout: so no bytes are
+-- valid of two kinds, and none are that were written in another layout.
 -- Assumes nothing.
 use mathlib.Core.Path.{_≡_, sym, ap, _∙_}
 use mathlib.Core.Bool.{true, not}
@@ -26,7 +26,7 @@ use Rattle.layouts.proofs.Filling.{both}
 
 pub record Tagged (kind : ℕ) (bytes : List ℕ) : Type 0 where
   pub first : octet 0 bytes ≡ kind
-  pub second : octet 1 bytes ≡ layoutVersion
+  pub second : octet 1 bytes ≡ layoutVersion kind
 
 -- one sequence of bytes has one kind
 pub one-kind : {k l : ℕ} {bytes : List ℕ} → Tagged k bytes → Tagged l bytes → k ≡ l

@@ -1,5 +1,5 @@
--- The layout of what C keeps of a step's answer: the reason (0 is Success), and the record that an
--- accepted change updates, or none.
+-- The layout of what C keeps of a step's answer: whether the reply is the last one again, its
+-- reason (0 is Success), and the record that an accepted change updates, or none.
 -- Assumes nothing: these are definitions.
 use mathlib.Core.Bool.{Bool}
 use mathlib.Core.List.{List, [], _∷_, _++_}
@@ -8,29 +8,33 @@ use Rattle.octets.specs.Parts.{part}
 use Rattle.octets.specs.Numbers.{toBe, fromBe}
 use Rattle.packets.specs.Frame.{octet}
 use Rattle.layouts.specs.Values.{answerKind, tagged, bodyIn, isEncoding}
-use Rattle.layouts.specs.Records.{lookupSize, encodeLookup, decodeLookup}
+use Rattle.layouts.specs.Records.{flag, isFlag, lookupSize, encodeLookup, decodeLookup}
 use Rattle.layouts.specs.declared.StepResult.{StepResult}
 
 -- the sizes, in bytes
 abbrev pub resultSize : ℕ
-resultSize = 41
+resultSize = 42
 
 abbrev pub answerSize : ℕ
-answerSize = 43
+answerSize = 44
+
+abbrev pub repeatedAt : ℕ
+repeatedAt = 0
 
 abbrev pub reasonAt : ℕ
-reasonAt = 0
+reasonAt = 1
 
 abbrev pub updatedAt : ℕ
-updatedAt = 2
+updatedAt = 3
 
 unfoldable pub encodeResult : StepResult → List ℕ
-encodeResult v = toBe 2 (v .reason) ++ encodeLookup (v .updated)
+encodeResult v = flag (v .repeated) ∷ (toBe 2 (v .reason) ++ encodeLookup (v .updated))
 
 unfoldable pub decodeResult : List ℕ → StepResult
 decodeResult bytes =
     record {
-      reason = fromBe (octet reasonAt bytes ∷ octet 1 bytes ∷ []);
+      repeated = isFlag (octet repeatedAt bytes);
+      reason = fromBe (octet reasonAt bytes ∷ octet 2 bytes ∷ []);
       updated = decodeLookup (part updatedAt lookupSize bytes);
     }
 

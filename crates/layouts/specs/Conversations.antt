@@ -1,4 +1,4 @@
--- The layout of a conversation.
+-- The layout of a conversation. Its last answer has a page of its own, LastAnswers.
 -- Assumes nothing: these are definitions.
 use mathlib.Core.Bool.{Bool, cond}
 use mathlib.Core.List.{List, _∷_, _++_}
@@ -14,13 +14,14 @@ use Rattle.authenticator.specs.declared.Phase.{Phase}
 use Rattle.authenticator.specs.declared.Phase.the-variants.{Response, Change, Ended}
 use Rattle.layouts.specs.Values.{conversationKind, tagged, bodyIn, isEncoding}
 use Rattle.layouts.specs.Records.{flag, isFlag, accountSize, encodeAccount, decodeAccount}
+use Rattle.layouts.specs.LastAnswers.{lastSize, encodeLast, decodeLast}
 
 -- the sizes, in bytes
 abbrev pub stateSize : ℕ
-stateSize = 50
+stateSize = 56
 
 abbrev pub conversationSize : ℕ
-conversationSize = 52
+conversationSize = 58
 
 -- the phase that awaits a code: 2 is a Response, 6 a change; else the conversation has ended
 abbrev pub phaseOf : ℕ → Phase
@@ -44,10 +45,13 @@ challengeAt = 4
 abbrev pub keptAt : ℕ
 keptAt = 12
 
+abbrev pub lastAt : ℕ
+lastAt = 50
+
 unfoldable pub encodeState : Conversation → List ℕ
 encodeState c =
     awaitedCode (c .phase) ∷ flag (c .terms .lm) ∷ c .id ∷ c .retries
-    ∷ (c .challenge ++ encodeAccount (c .kept))
+    ∷ (c .challenge ++ (encodeAccount (c .kept) ++ encodeLast (c .last)))
 
 unfoldable pub decodeState : List ℕ → Conversation
 decodeState bytes =
@@ -58,6 +62,7 @@ decodeState bytes =
       retries = octet retriesAt bytes;
       phase = phaseOf (octet awaitedAt bytes);
       kept = decodeAccount (part keptAt accountSize bytes);
+      last = decodeLast (part lastAt lastSize bytes);
     }
 
 abbrev pub encodeConversation : Conversation → List ℕ

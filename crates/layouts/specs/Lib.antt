@@ -2,6 +2,7 @@ pub mod Call
 pub mod Values
 pub mod Records
 pub mod Answers
+pub mod LastAnswers
 pub mod Conversations
 pub mod Peers
 pub mod Passwords

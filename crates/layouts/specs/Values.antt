@@ -1,13 +1,11 @@
--- A value crosses to C as bytes: its kind, the version of its layout, and its body. So a value of
--- another kind, or stored by another version, is not taken for this one.
+-- A value crosses to C as bytes: its kind, the version of that kind's layout, and its body. So a
+-- value of another kind, or stored in another layout, is not taken for this one.
 -- Assumes nothing: these are definitions.
-use mathlib.Core.Bool.{Bool}
+use mathlib.Core.Bool.{Bool, cond}
 use mathlib.Core.List.{List, _∷_}
 use Prim.Native.Nat.{ℕ}
+use lib.Dec.{eqb}
 use Rattle.octets.specs.Parts.{part, agrees}
-
-abbrev pub layoutVersion : ℕ
-layoutVersion = 1
 
 -- ---- the kinds: letters in ASCII
 
@@ -35,6 +33,13 @@ passwordKind = 87
 abbrev pub listKind : ℕ
 listKind = 76
 
+-- ---- the version of each kind's layout
+
+-- Each kind has its own, so that what was stored of one stays valid when another one grows. Since
+-- 0.3.0 a conversation has its last answer, and an answer tells a repeat.
+abbrev pub layoutVersion : ℕ → ℕ
+layoutVersion kind = cond (eqb kind conversationKind) 2 (cond (eqb kind answerKind) 2 1)
+
 -- ---- a value's bytes
 
 -- kind and version
@@ -42,7 +47,7 @@ abbrev pub tagSize : ℕ
 tagSize = 2
 
 abbrev pub tagged : ℕ → List ℕ → List ℕ
-tagged kind body = kind ∷ layoutVersion ∷ body
+tagged kind body = kind ∷ layoutVersion kind ∷ body
 
 -- the body of n bytes behind them
 abbrev pub bodyIn : ℕ → List ℕ → List ℕ

@@ -3,10 +3,12 @@ use crate::StepResult;
 use crate::records::LOOKUP_SIZE;
 use crate::records::decode_lookup;
 use crate::records::encode_lookup;
+use crate::records::is_flag;
 use crate::room::Room;
 use crate::room::TAG_SIZE;
 use crate::room::empty_room;
 use crate::room::is_value;
+use crate::room::put_flag;
 use crate::room::put_two;
 use crate::room::put_value;
 ghost use mathlib.Core.Path.{_≡_};
@@ -16,31 +18,39 @@ ghost use Rattle.layouts.specs.Answers.{encodeAnswer, decodeAnswer};
 ghost use Rattle.layouts.specs.Answers.{isEncodedAnswer, answerSize};
 ghost use Rattle.layouts.specs.Inner.{inRoom};
 
-const RESULT_SIZE: usize = 41;
+const RESULT_SIZE: usize = 42;
 
-pub const ANSWER_SIZE: usize = 43;
+pub const ANSWER_SIZE: usize = 44;
 
 // A
-const ANSWER_KIND: u8 = 65;
+pub(crate) const ANSWER_KIND: u8 = 65;
 
-const REASON_AT: usize = 0;
+const REPEATED_AT: usize = 0;
 
-const UPDATED_AT: usize = 2;
+const REASON_AT: usize = 1;
+
+const UPDATED_AT: usize = 3;
 
 fn encode_result(result: StepResult) -> Room
     ensures { λ r. ⌜ r .bytes ≡ inRoom (encodeResult result) ⌝ }
 {
     let updated = result.updated;
-    let room = put_two(empty_room(), REASON_AT, octets::u16_to_be(result.reason));
+    let mut room = put_flag(empty_room(), REPEATED_AT, result.repeated);
+    room = put_two(room, REASON_AT, octets::u16_to_be(result.reason));
     encode_lookup(room, UPDATED_AT, updated)
 }
 
 fn decode_result(bytes: &[u8]) -> StepResult
     ensures { λ r. ⌜ r ≡ decodeResult (now (bytes .entry)) ⌝ }
 {
-    let reason = octets::u16_from_be(packets::octet(bytes, REASON_AT), packets::octet(bytes, 1));
+    let repeated = is_flag(packets::octet(bytes, REPEATED_AT));
+    let reason = octets::u16_from_be(packets::octet(bytes, REASON_AT), packets::octet(bytes, 2));
     let updated = decode_lookup(octets::part_of(bytes, UPDATED_AT, LOOKUP_SIZE));
-    StepResult { reason, updated }
+    StepResult {
+        repeated,
+        reason,
+        updated,
+    }
 }
 
 pub fn decode_answer(bytes: &[u8]) -> StepResult

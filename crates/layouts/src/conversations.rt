@@ -1,4 +1,7 @@
 // The layout of a conversation.
+use crate::last_answers::LAST_SIZE;
+use crate::last_answers::decode_last;
+use crate::last_answers::encode_last;
 use crate::records::ACCOUNT_SIZE;
 use crate::records::decode_account;
 use crate::records::encode_account;
@@ -21,12 +24,12 @@ ghost use Rattle.layouts.specs.Conversations.{encodeConversation, decode
 ghost use Rattle.layouts.specs.Conversations.{isEncodedConversation, conversationSize};
 ghost use Rattle.layouts.specs.Inner.{inRoom};
 
-const STATE_SIZE: usize = 50;
+const STATE_SIZE: usize = 56;
 
-pub const CONVERSATION_SIZE: usize = 52;
+pub const CONVERSATION_SIZE: usize = 58;
 
 // C
-const CONVERSATION_KIND: u8 = 67;
+pub(crate) const CONVERSATION_KIND: u8 = 67;
 
 const AWAITED_AT: usize = 0;
 
@@ -39,6 +42,8 @@ const RETRIES_AT: usize = 3;
 const CHALLENGE_AT: usize = 4;
 
 const KEPT_AT: usize = 12;
+
+const LAST_AT: usize = 50;
 
 fn phase_of(code: u8) -> Phase
     ensures { λ r. ⌜ r ≡ phaseOf code ⌝ }
@@ -59,12 +64,14 @@ fn encode_state(conversation: Conversation) -> Room
     let terms = conversation.terms;
     let challenge = conversation.challenge;
     let kept = conversation.kept;
+    let last = conversation.last;
     let mut room = put_byte(empty_room(), AWAITED_AT, authenticator::awaited_code(phase));
     room = put_flag(room, LM_ALLOWED_AT, terms.lm);
     room = put_byte(room, IDENTIFIER_AT, conversation.id);
     room = put_byte(room, RETRIES_AT, conversation.retries);
     room = put_eight(room, CHALLENGE_AT, challenge);
-    encode_account(room, KEPT_AT, kept)
+    room = encode_account(room, KEPT_AT, kept);
+    encode_last(room, LAST_AT, last)
 }
 
 fn decode_state(bytes: &[u8]) -> Conversation
@@ -76,6 +83,7 @@ fn decode_state(bytes: &[u8]) -> Conversation
     let retries = packets::octet(bytes, RETRIES_AT);
     let challenge = octets::eight_at(bytes, CHALLENGE_AT);
     let kept = decode_account(octets::part_of(bytes, KEPT_AT, ACCOUNT_SIZE));
+    let last = decode_last(octets::part_of(bytes, LAST_AT, LAST_SIZE));
     Conversation {
         terms: Terms { lm },
         id,
@@ -83,6 +91,7 @@ fn decode_state(bytes: &[u8]) -> Conversation
         retries,
         phase,
         kept,
+        last,
     }
 }
 

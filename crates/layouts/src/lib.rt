@@ -3,6 +3,7 @@
 mod answers;
 mod buffers;
 mod conversations;
+mod last_answers;
 mod lists;
 mod passwords;
 mod peers;
@@ -40,9 +41,10 @@ pub use records::decode_record;
 pub use records::is_encoded_record;
 pub use records::put_record;
 
-// What C keeps of a step's answer: the reason (0 is Success), and the record that an accepted
-// change updates, or none.
+// What C keeps of a step's answer: whether the reply is the last one again, its reason (0 is
+// Success), and the record that an accepted change updates, or none.
 pub struct StepResult {
+    pub repeated: bool,
     pub reason: u16,
     pub updated: Lookup,
 }

@@ -1,5 +1,4 @@
 // The layout of a list of issued challenges.
-use crate::room::LAYOUT_VERSION;
 use crate::room::TAG_SIZE;
 ghost use mathlib.Core.Path.{_≡_};
 ghost use Rattle.octets.specs.Parts.{over};
@@ -11,6 +10,8 @@ pub const LIST_HEAD_SIZE: usize = 4;
 // L
 const LIST_KIND: u8 = 76;
 
+const LIST_VERSION: u8 = 1;
+
 const USED_AT: usize = 2;
 
 // Whether bytes begin as a list does.
@@ -20,7 +21,7 @@ pub fn is_list(bytes: &[u8]) -> bool
     if bytes.len() < LIST_HEAD_SIZE {
         return false;
     }
-    let head = [LIST_KIND, LAYOUT_VERSION];
+    let head = [LIST_KIND, LIST_VERSION];
     octets::agree(octets::part_of(bytes, 0, TAG_SIZE), &head)
 }
 
@@ -44,7 +45,7 @@ pub fn put_list_head(used: usize, bytes: &mut [u8])
 {
     let head = [
         LIST_KIND,
-        LAYOUT_VERSION,
+        LIST_VERSION,
         (used / 256 % 256) as u8,
         (used % 256) as u8,
     ];

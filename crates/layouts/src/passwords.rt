@@ -1,6 +1,5 @@
 // The layout of a password in 16-bit characters.
 use crate::buffers::fill;
-use crate::room::LAYOUT_VERSION;
 use refusals::both;
 ghost use mathlib.Core.Path.{_≡_};
 ghost use Rattle.layouts.specs.Call.{Fills, sized};
@@ -11,6 +10,8 @@ pub const PASSWORD_SIZE: usize = 516;
 
 // W
 const PASSWORD_KIND: u8 = 87;
+
+const PASSWORD_VERSION: u8 = 1;
 
 const LENGTH_AT: usize = 2;
 
@@ -27,7 +28,7 @@ fn encode_password(password: &[u8]) -> PasswordValue
     let n = password.len();
     let head = [
         PASSWORD_KIND,
-        LAYOUT_VERSION,
+        PASSWORD_VERSION,
         (n / 256 % 256) as u8,
         (n % 256) as u8,
     ];

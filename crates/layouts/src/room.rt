@@ -1,23 +1,23 @@
 // Bytes that are being encoded: room for the largest body, which the encoders take and return. Each
 // piece is laid over what was there, at a place. At last kind and version come before it.
+use crate::answers::ANSWER_KIND;
 use crate::buffers::fill;
+use crate::conversations::CONVERSATION_KIND;
 use crate::records::flag;
 ghost use mathlib.Core.Path.{_≡_};
 ghost use mathlib.Core.List.{[], _∷_};
 ghost use lib.ListN.{length, replicate};
 ghost use Rattle.octets.specs.Parts.{part, overAt, agrees};
 ghost use Rattle.layouts.specs.Call.{Fills, sized};
-ghost use Rattle.layouts.specs.Values.{tagged};
+ghost use Rattle.layouts.specs.Values.{layoutVersion, tagged};
 ghost use Rattle.layouts.specs.Records.{flag};
 ghost use Rattle.layouts.specs.Inner.{roomSize};
 
-const ROOM_SIZE: usize = 50;
+const ROOM_SIZE: usize = 56;
 
 pub(crate) const TAG_SIZE: usize = 2;
 
-const VALUE_SIZE: usize = 52;
-
-pub(crate) const LAYOUT_VERSION: u8 = 1;
+const VALUE_SIZE: usize = 58;
 
 pub(crate) struct Room {
     pub bytes: [u8; ROOM_SIZE],
@@ -75,12 +75,26 @@ pub(crate) fn put_two(room: Room, at: usize, octets: [u8; 2]) -> Room
     Room { bytes }
 }
 
+// The version of a kind's layout.
+pub(crate) fn layout_version(kind: u8) -> u8
+    ensures { λ r. ⌜ r ≡ layoutVersion kind ⌝ }
+{
+    if kind == CONVERSATION_KIND {
+        return 2;
+    }
+    if kind == ANSWER_KIND {
+        return 2;
+    }
+    1
+}
+
 // Kind and version, and the bytes of room behind them.
 fn tag(kind: u8, room: Room) -> Value
     ensures { λ r. ⌜ r .bytes ≡ tagged kind (room .bytes) ⌝ }
 {
     let body = room.bytes;
-    let mut bytes = [LAYOUT_VERSION; VALUE_SIZE];
+    let version = layout_version(kind);
+    let mut bytes = [version; VALUE_SIZE];
     bytes[0] = kind;
     octets::copy_at(&mut bytes, TAG_SIZE, &body);
     Value { bytes }

@@ -4,7 +4,7 @@
 use mathlib.Core.Bool.{Bool, true, false, cond, _&&_}
 use mathlib.Core.List.{List}
 use mathlib.Core.Option.{Option, none, some}
-use mathlib.Core.Path.{_≡_, refl}
+use mathlib.Core.Path.{_≡_, refl, sym, subst}
 use Prim.Native.Nat.{ℕ, _%_, _<_}
 use native.Mathlib.Omega.{arith}
 use lib.Dec.{eqb}
@@ -23,14 +23,15 @@ use Rattle.accounts.specs.Account.{blankAccount}
 use Rattle.authenticator.specs.Conversation.{ended, retried, closed}
 use Rattle.authenticator.specs.Opening.{Opening, openRefusal, openedIssued, firstConversation}
 use Rattle.authenticator.specs.Opening.{openingPacket, opened}
-use Rattle.authenticator.specs.Admit.{stepRefusal}
+use Rattle.authenticator.proofs.Steps.{Case, refused, repeated, judged, case-of}
 use Rattle.authenticator.specs.declared.Judgement.{Judgement}
 use Rattle.authenticator.specs.Judge.{reasonOf, mayRetry, replyFor, afterReason}
 use Rattle.authenticator.specs.Judge.{judgeResponse, changeJudgement, newHashIn, judgeChange}
 use Rattle.authenticator.specs.Judge.{judgeIn, judge}
 use Rattle.verify.specs.Response.{responseReason}
 use Rattle.verify.specs.Change.{contentHash, unsealedHash, proves, proven, newHash}
-use Rattle.authenticator.specs.Step.{Outcome, judgedAs, refusedAs, step, reasonIn}
+use Rattle.authenticator.specs.Step.{Outcome, step, reasonIn}
+use Rattle.authenticator.specs.declared.Answer.{Answer}
 use Rattle.authenticator.specs.declared.Reply.{Reply}
 use Rattle.authenticator.specs.declared.Reply.the-variants.{Success, Failure}
 use Rattle.verify.proofs.Reasons.{three-digits, response-reason}
@@ -50,7 +51,8 @@ use Rattle.mschap.specs.Step.{stepOf}
 use Rattle.layouts.proofs.RecordLaws.{SizedAccount, decoded-lookup-sized, record-fits}
 use Rattle.layouts.proofs.AnswerLaws.{decoded-answer-sized, answer-fits, answer-back}
 use Rattle.layouts.proofs.ConversationLaws.{SizedConversation, conversation-fits}
-use Rattle.layouts.proofs.ConversationLaws.{decoded-conversation-sized}
+use Rattle.layouts.proofs.ConversationLaws.{decoded-conversation-sized, last-reason-small}
+use Rattle.layouts.proofs.ConversationLaws.{conversation-back}
 use Rattle.layouts.proofs.ListLaws.{list-back}
 use Rattle.layouts.specs.Lists.{encodeList, decodeList, isList}
 use Rattle.authenticator.proofs.Openings.{opened-sound}
@@ -69,6 +71,12 @@ pub record SizedJudgement (d : Judgement) : Type 0 where
   pub next : SizedConversation (d .next)
   pub updated : SizedAccount (d .updated .account)
   pub reason : reasonOf (d .reply) < 65536
+
+pub record SizedAnswer (a : Answer) : Type 0 where
+  pub next : SizedConversation (a .next)
+  pub last : reasonOf (a .next .last .reply) < 65536
+  pub updated : SizedAccount (a .updated .account)
+  pub reason : reasonIn (a .kind) < 65536
 
 -- a reply gives the reason that it was made for
 reason-small : (c : Conversation) (e : ℕ) → e < 1000 → reasonOf (replyFor c e) < 65536
@@ -146,41 +154,58 @@ module _ (c : Conversation) (s : SizedConversation c) where
   judge-in-sized Change p l t = change-sized (newHashIn c (readChange p)) (new-whole (readChange p))
   judge-in-sized Ended p l t = record { next = s; updated = blank-sized; reason = omega arith }
 
-  pub step-sized : (p : List ℕ) (l : Lookup) (b : List ℕ) → SizedAccount (l .account)
-      → SizedConversation (step c p l b .answer .next)
-      × SizedAccount (step c p l b .answer .updated .account)
-      × (reasonIn (step c p l b .answer .kind) < 65536)
-  unfolding step judge
-  step-sized p l b t = by (eqb (stepRefusal c p b) 0)
+  -- a refusal and a repeat leave the conversation as it was, and a judgement keeps its own reply
+  pub step-sized : reasonOf (c .last .reply) < 65536 → (p : List ℕ) (l : Lookup) (b : List ℕ)
+      → SizedAccount (l .account) → SizedAnswer (step c p l b .answer)
+  unfolding judge
+  step-sized small p l b t = by (case-of c p l b)
     where
-      by : (k : Bool)
-          → let o =
-          cond {A = Outcome} k (judgedAs c (judge c p l) b) (refusedAs (stepRefusal c p b) c b) in
-          SizedConversation (o .answer .next) × SizedAccount (o .answer .updated .account)
-          × (reasonIn (o .answer .kind) < 65536)
-      by true = let d = judge-in-sized (c .phase) p l t in (d .next, d .updated, d .reason)
-      by false = (s, blank-sized, omega arith)
+      Sized : Outcome → Type 0
+      Sized o = SizedAnswer (o .answer)
 
-module _ (conversation packet account buffer : List ℕ) where
+      by : Case c p l b → Sized (step c p l b)
+      by (refused n e) =
+          subst Sized (sym e)
+          (record { next = s; last = small; updated = blank-sized; reason = omega arith })
+      by (repeated z r e) =
+          subst Sized (sym e)
+          (record { next = s; last = small; updated = blank-sized; reason = small })
+      by (judged h e) =
+          let d = judge-in-sized (c .phase) p l t in
+          subst Sized (sym e)
+          (record {
+            next = record { challenge = d .next .challenge; kept = d .next .kept };
+            last = d .reason;
+            updated = d .updated;
+            reason = d .reason;
+          })
+
+module _ (conversation packet account buffer : List ℕ)
+    (valid : isEncodedConversation conversation ≡ true) where
   abbrev done : Outcome
   done = stepOf conversation packet account buffer
 
-  sizes : SizedConversation (done .answer .next) × SizedAccount (done .answer .updated .account)
-      × (reasonIn (done .answer .kind) < 65536)
+  sizes : SizedAnswer (done .answer)
   sizes =
-      step-sized (decodeConversation conversation) (decoded-conversation-sized conversation) packet
-      (decodeRecord account) buffer (decoded-lookup-sized (bodyIn lookupSize account))
+      step-sized (decodeConversation conversation) (decoded-conversation-sized conversation)
+      (last-reason-small conversation valid) packet (decodeRecord account) buffer
+      (decoded-lookup-sized (bodyIn lookupSize account))
 
   pub step-fits : (isEncodedConversation (encodeConversation (done .answer .next)) ≡ true)
       × (isEncodedAnswer (encodeAnswer (resultOf (done .answer))) ≡ true)
   step-fits = (
-    conversation-fits (done .answer .next) (sizes .0),
-    answer-fits (resultOf (done .answer)) (sizes .1) (sizes .2),
+    conversation-fits (done .answer .next) (sizes .next) (sizes .last),
+    answer-fits (resultOf (done .answer)) (sizes .updated) (sizes .reason),
   )
 
-  -- the reason and the record that a step's answer tells are the step's own
+  -- so the next step is made on just the conversation that this one left, its last answer too
+  pub step-carries : decodeConversation (encodeConversation (done .answer .next))
+      ≡ done .answer .next
+  step-carries = conversation-back (done .answer .next) (sizes .next) (sizes .last)
+
+  -- whether it is a repeat, the reason and the record that a step's answer tells are the step's own
   pub answer-tells : decodeAnswer (encodeAnswer (resultOf (done .answer))) ≡ resultOf (done .answer)
-  answer-tells = answer-back (resultOf (done .answer)) (sizes .1) (sizes .2)
+  answer-tells = answer-back (resultOf (done .answer)) (sizes .updated) (sizes .reason)
 
 -- the record that an answer gives is valid for the next step
 pub answer-record-fits : (answer : List ℕ)
@@ -190,8 +215,10 @@ answer-record-fits answer =
 
 -- ---- the opening
 
+-- it has no last answer
 opened-sized : (o : Opening) → length (o .challenge) ≡ 8
     → SizedConversation (opened o .conversation)
+    × (reasonOf (opened o .conversation .last .reply) < 65536)
 unfolding opened
 opened-sized o e = by (eqb (openRefusal o) 0)
   where
@@ -214,13 +241,21 @@ opened-sized o e = by (eqb (openRefusal o) 0)
         }
 
     by : (k : Bool)
-        → SizedConversation (cond {A = openings.Opened} k accepted refused .conversation)
-    by true = record { challenge = e; kept = blank-sized }
-    by false = record { challenge = refl; kept = blank-sized }
+        → let c = cond {A = openings.Opened} k accepted refused .conversation in
+        SizedConversation c × (reasonOf (c .last .reply) < 65536)
+    by true = (record { challenge = e; kept = blank-sized }, omega arith)
+    by false = (record { challenge = refl; kept = blank-sized }, omega arith)
 
 pub open-fits : (o : Opening) → length (o .challenge) ≡ 8
     → isEncodedConversation (encodeConversation (opened o .conversation)) ≡ true
-open-fits o e = conversation-fits (opened o .conversation) (opened-sized o e)
+open-fits o e =
+    let s = opened-sized o e in conversation-fits (opened o .conversation) (s .0) (s .1)
+
+-- and the first step is made on just the conversation that the opening gave
+pub open-carries : (o : Opening) → length (o .challenge) ≡ 8
+    → decodeConversation (encodeConversation (opened o .conversation)) ≡ opened o .conversation
+open-carries o e =
+    let s = opened-sized o e in conversation-back (opened o .conversation) (s .0) (s .1)
 
 -- the list that an opening leaves is valid, and the next opening is made on just that list
 pub open-list-fits : (o : Opening) → length (o .challenge) ≡ 8 → opened o .refusal ≡ 0

@@ -50,12 +50,12 @@ passed id terms challenge list conversation e =
     let h₁ = both (ltb id 256) _ e in
     let h₂ = both (isTerms terms) _ (h₁ .1) in
     let h₃ = both (sized 8 challenge) _ (h₂ .1) in
-    let h₄ = both (isList list) (sized 52 conversation) (h₃ .1) in
+    let h₄ = both (isList list) (sized 58 conversation) (h₃ .1) in
     record {
       small = h₁ .0;
       eight = eqb-true (length challenge) 8 (h₃ .0);
       head = list-head list (h₄ .0);
-      room = eqb-true (length conversation) 52 (h₄ .1);
+      room = eqb-true (length conversation) 58 (h₄ .1);
     }
 
 -- ---- a refused opening leaves the reply buffer alone

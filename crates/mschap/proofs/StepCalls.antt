@@ -1,16 +1,16 @@
 -- What mschap_step returns and leaves, from what the functions that it calls do.
 -- Assumes nothing.
-use mathlib.Core.Path.{_≡_, refl, sym, ap, _∙_}
-use mathlib.Core.Bool.{Bool, true, false}
+use mathlib.Core.Path.{_≡_, refl, sym, ap, subst, _∙_}
+use mathlib.Core.Bool.{Bool, true}
 use mathlib.Core.List.{List}
 use Prim.Native.Nat.{ℕ}
-use borrow.Author.Tests.{eqb-true}
-use lib.Dec.{eqb}
+use borrow.Author.Tests.{eqb-true, ne-eqb}
 use lib.ListN.{length}
 use Rattle.authenticator.specs.Admit.{stepRefusal}
 use Rattle.authenticator.specs.Step.{Outcome, step, refusalIn}
 use Rattle.authenticator.specs.declared.Answer.{Answer}
 use Rattle.authenticator.specs.declared.Conversation.{Conversation}
+use Rattle.authenticator.proofs.Steps.{Case, refused, repeated, judged, case-of}
 use Rattle.accounts.specs.declared.Lookup.{Lookup}
 use Rattle.layouts.specs.Call.{sized, numbered, afterCall}
 use Rattle.layouts.specs.Answers.{answerSize, encodeAnswer}
@@ -30,21 +30,22 @@ unfolding stepArguments
 step-sizes conversation account out e =
     let h = both (isEncodedConversation conversation) _ e in (
       length-encoded-conversation conversation (h .0),
-      eqb-true (length out) 43 (both (isEncodedRecord account) (sized 43 out) (h .1) .1),
+      eqb-true (length out) 44 (both (isEncodedRecord account) (sized 44 out) (h .1) .1),
     )
 
 -- a refused packet leaves the buffer alone
 step-kept : (c : Conversation) (p : List ℕ) (l : Lookup) (b : List ℕ)
     → step c p l b .buffer ≡ afterCall (refusalIn (step c p l b .answer .kind))
     (step c p l b .buffer) b
-unfolding step
-step-kept c p l b = by (eqb (stepRefusal c p b) 0) refl
+step-kept c p l b = by (case-of c p l b)
   where
-    by : (t : Bool) → eqb (stepRefusal c p b) 0 ≡ t
-        → step c p l b .buffer
-        ≡ afterCall (refusalIn (step c p l b .answer .kind)) (step c p l b .buffer) b
-    by true e = simp e
-    by false e = simp e
+    Kept : Outcome → Type 0
+    Kept o = o .buffer ≡ afterCall (refusalIn (o .answer .kind)) (o .buffer) b
+
+    by : Case c p l b → Kept (step c p l b)
+    by (refused n e) = subst Kept (sym e) (rw (ne-eqb (stepRefusal c p b) 0 n))
+    by (repeated z r e) = subst Kept (sym e) refl
+    by (judged h e) = subst Kept (sym e) refl
 
 module _ (conversation packet account buffer out : List ℕ)
     (valid : stepArguments conversation account out ≡ true) where

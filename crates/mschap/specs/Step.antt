@@ -7,7 +7,7 @@ use Prim.Native.Nat.{ℕ}
 use Rattle.authenticator.specs.Conversation.{awaitedCode}
 use Rattle.authenticator.specs.Step.{Outcome, step, refusalIn}
 use Rattle.layouts.specs.Call.{Fills, sized, numbered, afterCall}
-use Rattle.layouts.specs.Records.{recordSize, encodeRecord, decodeRecord, isEncodedRecord}
+use Rattle.layouts.specs.Records.{flag, recordSize, encodeRecord, decodeRecord, isEncodedRecord}
 use Rattle.layouts.specs.Answers.{answerSize, encodeAnswer, decodeAnswer, isEncodedAnswer}
 use Rattle.layouts.specs.Conversations.{encodeConversation, decodeConversation}
 use Rattle.layouts.specs.Conversations.{isEncodedConversation}
@@ -43,6 +43,10 @@ pub record StepCall (conversation packet account buffer out : List ℕ) (r : ℕ
 
 unfoldable pub answerReason : List ℕ → ℕ
 answerReason answer = valueOr (isEncodedAnswer answer) (decodeAnswer answer .reason)
+
+-- 1: the reply is the last one again, and nothing was judged
+unfoldable pub answerRepeated : List ℕ → ℕ
+answerRepeated answer = valueOr (isEncodedAnswer answer) (flag (decodeAnswer answer .repeated))
 
 unfoldable pub answerRecordArguments : List ℕ → List ℕ → Bool
 answerRecordArguments answer out = isEncodedAnswer answer && sized recordSize out

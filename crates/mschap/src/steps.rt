@@ -21,7 +21,7 @@ ghost use mathlib.Core.Path.{_≡_};
 ghost use lib.ListN.{length};
 ghost use Rattle.layouts.specs.Answers.{answerSize};
 ghost use Rattle.layouts.specs.Conversations.{conversationSize};
-ghost use Rattle.mschap.specs.Step.{stepArguments, StepCall, answerReason};
+ghost use Rattle.mschap.specs.Step.{stepArguments, StepCall, answerReason, answerRepeated};
 ghost use Rattle.mschap.specs.Step.{answerRecordArguments, AnswerRecordCall};
 ghost use Rattle.mschap.specs.Inner.{AnswerPut};
 
@@ -51,8 +51,9 @@ fn put_stepped(answer: Answer, conversation: &mut [u8], out: &mut [u8]) -> u32
 }
 
 // One step of a conversation: a packet, the record of the named account or none, and a reply
-// buffer. The next conversation takes the place of this one, and answer has the reason and the
-// record that an accepted change updates, or none. 1 to 7: the packet is refused.
+// buffer. The next conversation takes the place of this one, and answer has whether the reply is
+// the last one again, its reason, and the record that an accepted change updates, or none. 1 to 7:
+// the packet is refused.
 #[no_mangle]
 pub extern "C" fn mschap_step(
     conversation: &mut [u8],
@@ -85,6 +86,17 @@ pub extern "C" fn mschap_answer_reason(answer: &[u8]) -> u32
         return INVALID;
     }
     decode_answer(answer).reason as u32
+}
+
+// 1: the reply is the last one again, and nothing was judged; 0: the packet was judged.
+#[no_mangle]
+pub extern "C" fn mschap_answer_repeated(answer: &[u8]) -> u32
+    ensures { λ r. ⌜ r ≡ answerRepeated (now (answer .entry)) ⌝ }
+{
+    if !is_encoded_answer(answer) {
+        return INVALID;
+    }
+    decode_answer(answer).repeated as u32
 }
 
 fn are_answer_record_arguments(answer: &[u8], out: &[u8]) -> bool

@@ -7,7 +7,7 @@ use Rattle.message.specs.declared.Call.the-variants.{Retry, ChangeTwo, ChangeOn
 use Rattle.message.specs.declared.Verdict.{Verdict}
 use Rattle.message.specs.declared.Verdict.the-variants.{Success, Failure, Refused}
 use Rattle.accounts.specs.declared.Lookup.{Lookup}
-use Rattle.authenticator.specs.Step.{reasonIn}
+use Rattle.authenticator.specs.Step.{reasonIn, isRepeated}
 use Rattle.authenticator.specs.declared.Answer.{Answer}
 use Rattle.layouts.specs.declared.StepResult.{StepResult}
 
@@ -15,7 +15,12 @@ use Rattle.layouts.specs.declared.StepResult.{StepResult}
 
 -- what C keeps of an answer
 abbrev pub resultOf : Answer → StepResult
-resultOf a = record { reason = reasonIn (a .kind); updated = a .updated }
+resultOf a =
+    record {
+      repeated = isRepeated (a .kind);
+      reason = reasonIn (a .kind);
+      updated = a .updated;
+    }
 
 -- 102: there is no record to be stored
 abbrev pub noRecordRefusal : Lookup → ℕ

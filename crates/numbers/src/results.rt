@@ -7,7 +7,7 @@ use message::Call;
 use message::Verdict;
 use refusals::refuse_if;
 ghost use mathlib.Core.Path.{_≡_};
-ghost use Rattle.authenticator.specs.Step.{refusalIn, reasonIn};
+ghost use Rattle.authenticator.specs.Step.{refusalIn, reasonIn, isRepeated};
 ghost use Rattle.message.specs.Message.{verdictRefusal};
 ghost use Rattle.numbers.specs.Results.{resultOf, noRecordRefusal, callNumber, callIn};
 ghost use Rattle.numbers.specs.Results.{failureReason};
@@ -20,6 +20,7 @@ pub fn number_of(kind: Kind) -> u8
 {
     match kind {
         Kind::Refused(n) => n,
+        Kind::Repeated(_) => 0,
         Kind::Judged(_) => 0,
     }
 }
@@ -29,7 +30,18 @@ fn reason_of(kind: Kind) -> u16
 {
     match kind {
         Kind::Refused(_) => 0,
+        Kind::Repeated(e) => e,
         Kind::Judged(e) => e,
+    }
+}
+
+fn is_repeated(kind: Kind) -> bool
+    ensures { λ r. ⌜ r ≡ isRepeated kind ⌝ }
+{
+    match kind {
+        Kind::Refused(_) => false,
+        Kind::Repeated(_) => true,
+        Kind::Judged(_) => false,
     }
 }
 
@@ -39,8 +51,13 @@ pub fn result_of(answer: Answer) -> StepResult
 {
     let kind = answer.kind;
     let updated = answer.updated;
+    let repeated = is_repeated(kind);
     let reason = reason_of(kind);
-    StepResult { reason, updated }
+    StepResult {
+        repeated,
+        reason,
+        updated,
+    }
 }
 
 // 102: there is no record to be stored.

@@ -4,7 +4,7 @@ use mathlib.Core.Path.{ap, ap₂, _∙_}
 use mathlib.Core.List.{[], _∷_}
 use Prim.Native.Nat.{ℕ}
 use Rattle.octets.specs.Numbers.{fromBe}
-use Rattle.layouts.specs.Records.{decodeLookup}
+use Rattle.layouts.specs.Records.{isFlag, decodeLookup}
 use Rattle.layouts.specs.Answers.{decodeResult}
 use Rattle.layouts.proofs.AnswerLaws.{result-same}
 use Rattle.layouts.proofs.answers.decode_result.Statement.{statement}
@@ -18,9 +18,10 @@ returns c =
     let reason = part .before in
     let second = reason .before in
     let first = second .before in
-    result-same
+    let repeated = first .before in
+    result-same (repeated .is-flag .ensures ∙ ap isFlag (repeated .before .octet .ensures))
     (reason .u16-from-be .ensures
-    ∙ ap₂ (λ (a b : ℕ). fromBe (a ∷ b ∷ [])) (first .octet .ensures) (second .octet2 .ensures))
+    ∙ ap₂ (λ (a b : ℕ). fromBe (a ∷ b ∷ [])) (first .octet2 .ensures) (second .octet3 .ensures))
     (c .decode-lookup .ensures ∙ ap decodeLookup (part .part-of .ensures))
 
 pub decode-result-spec : {M : Type 1} → statement M
@@ -28,4 +29,4 @@ decode-result-spec =
     tie.close
     (tie.spec
     (λ c κs. search needs) (λ c κs. search needs) (λ c κs. search needs) (λ c κs. search needs)
-    (λ c κs. search needs) returns)
+    (λ c κs. search needs) (λ c κs. search needs) (λ c κs. search needs) returns)

@@ -3,6 +3,7 @@
 use mathlib.Core.Path.{ap, _∙_}
 use borrow.Author.Needs.{needs}
 use Rattle.layouts.specs.Records.{isFlag, decodeAccount}
+use Rattle.layouts.specs.LastAnswers.{decodeLast}
 use Rattle.layouts.specs.Conversations.{phaseOf, decodeState}
 use Rattle.layouts.proofs.ConversationLaws.{conversation-same}
 use Rattle.layouts.proofs.conversations.decode_state.Statement.{statement}
@@ -12,7 +13,8 @@ use Rattle.layouts.proofs.conversations.decode_state.Tie as tie
 returns : tie.Need-returns
 unfolding decodeState
 returns c =
-    let challenge = c .before .before in
+    let kept = c .before .before in
+    let challenge = kept .before .before in
     let retries = challenge .before in
     let id = retries .before in
     let lm = id .before in
@@ -20,7 +22,8 @@ returns c =
     conversation-same (lm .is-flag .ensures ∙ ap isFlag (lm .before .octet2 .ensures))
     (id .octet3 .ensures) (challenge .eight-at .ensures) (retries .octet4 .ensures)
     (phase .phase-of .ensures ∙ ap phaseOf (phase .before .octet .ensures))
-    (c .decode-account .ensures ∙ ap decodeAccount (c .before .part-of .ensures))
+    (kept .decode-account .ensures ∙ ap decodeAccount (kept .before .part-of .ensures))
+    (c .decode-last .ensures ∙ ap decodeLast (c .before .part-of2 .ensures))
 
 pub decode-state-spec : {M : Type 1} → statement M
 decode-state-spec =
@@ -28,4 +31,4 @@ decode-state-spec =
     (tie.spec
     (λ c κs. search needs) (λ c κs. search needs) (λ c κs. search needs) (λ c κs. search needs)
     (λ c κs. search needs) (λ c κs. search needs) (λ c κs. search needs) (λ c κs. search needs)
-    (λ c κs. search needs) returns)
+    (λ c κs. search needs) (λ c κs. search needs) (λ c κs. search needs) returns)

@@ -6,6 +6,8 @@ use borrow.Author.Needs.{needs}
 use lib.ListN.{length}
 use Rattle.octets.specs.Parts.{over}
 use Rattle.layouts.specs.Records.{flag, encodeAccount}
+use Rattle.layouts.specs.LastAnswers.{encodeLast}
+use Rattle.layouts.proofs.RecordLaws.{SizedAccount, length-account}
 use Rattle.layouts.proofs.Putting.{first, next, last}
 use Rattle.layouts.proofs.ConversationLaws.{state-pieces}
 use Rattle.layouts.proofs.conversations.encode_state.Statement.{statement}
@@ -14,17 +16,21 @@ use Rattle.layouts.proofs.conversations.encode_state.Tie as tie
 long : (c : tie.Start) → length (c .args .conversation .challenge) ≡ 8
 long c = search needs
 
+kept-sized : (c : tie.Start) → SizedAccount (c .args .conversation .kept)
+kept-sized c = record { nt = search needs; lm = search needs }
+
 -- each field in turn, the last first
 returns : tie.Need-returns
 returns c =
-    let challenge = c .before in
+    let kept = c .before in
+    let challenge = kept .before in
     let retries = challenge .before in
     let id = retries .before in
     let lm = id .before in
     let phase = lm .before in
     let code = phase .before in
     let empty = code .before in
-    let start = empty .before .before .before .before in
+    let start = empty .before .before .before .before .before in
     let v = start .args .conversation in
     let room = empty .empty-room .result .bytes in
     let s₁ = first 0 room (code .awaited-code .result ∷ []) 1 refl (phase .put-byte .ensures) in
@@ -32,7 +38,10 @@ returns c =
     let s₃ = next s₂ (v .id ∷ []) 1 refl (id .put-byte2 .ensures) in
     let s₄ = next s₃ (v .retries ∷ []) 1 refl (retries .put-byte3 .ensures) in
     let s₅ = next s₄ (v .challenge) 8 (long start) (challenge .put-eight .ensures) in
-    last s₅ (encodeAccount (v .kept)) (c .encode-account .ensures)
+    let s₆ =
+    next s₅ (encodeAccount (v .kept)) 38 (length-account (v .kept) (kept-sized start))
+    (kept .encode-account .ensures) in
+    last s₆ (encodeLast (v .last)) (c .encode-last .ensures)
     ∙ ap₂ over (state-pieces v (code .awaited-code .ensures)) (empty .empty-room .ensures)
 
 pub encode-state-spec : {M : Type 1} → statement M
@@ -41,4 +50,4 @@ encode-state-spec =
     (tie.spec
     (λ c κs. search needs) (λ c κs. search needs) (λ c κs. search needs) (λ c κs. search needs)
     (λ c κs. search needs) (λ c κs. search needs) (λ c κs. search needs) (λ c κs. search needs)
-    returns)
+    (λ c κs. search needs) returns)

@@ -5,7 +5,8 @@ use native.Mathlib.Omega.{arith}
 use Rattle.authenticator.specs.declared.Conversation.{Conversation}
 use Rattle.layouts.specs.Values.{conversationKind}
 use Rattle.layouts.specs.Inner.{inRoom}
-use Rattle.layouts.specs.Conversations.{encodeState, decodeConversation, isEncodedConversation}
+use Rattle.layouts.specs.Conversations.{encodeState, decodeConversation}
+use Rattle.layouts.specs.Conversations.{isEncodedConversation}
 use Rattle.layouts.proofs.ConversationLaws.{length-state, decoded-conversation-sized}
 use Rattle.layouts.proofs.Putting.{compared}
 use Rattle.layouts.proofs.conversations.is_encoded_conversation.Statement.{statement}
@@ -19,7 +20,7 @@ returns c =
     let decoded = encoded .before in
     let bytes = decoded .before .before .args .bytes .now in
     let v = decodeConversation bytes in
-    compared conversationKind 50 (omega arith) (encodeState v)
+    compared conversationKind 56 (omega arith) (encodeState v)
     (length-state v (decoded-conversation-sized bytes))
     (encoded .encode-state .ensures ∙ ap (λ (u : Conversation). inRoom (encodeState u))
     (decoded .decode-conversation .ensures)) bytes
