@@ -2,7 +2,8 @@
 
 use crate::hashes::{self, Opened as OpenedBlock};
 use crate::issued::{entries_of, Issued};
-use crate::packet::{self, ChangeFields, ResponseFields};
+use crate::message;
+use crate::packet::{self, ChangeFields, Frame, ResponseFields};
 use crate::{grown, next_identifier};
 
 /// An account record.
@@ -33,6 +34,53 @@ pub enum Phase {
     Ended,
 }
 
+/// The octets of a reply.
+#[derive(Clone, Copy, Debug, PartialEq, Eq)]
+pub struct Reply {
+    octets: [u8; packet::FAILURE_LENGTH],
+    length: usize,
+}
+
+impl Reply {
+    fn of(written: &[u8]) -> Reply {
+        let mut octets = [0; packet::FAILURE_LENGTH];
+        let length = packet::put(written, &mut octets);
+        Reply { octets, length }
+    }
+
+    /// A Success.
+    pub fn success(id: u8) -> Reply {
+        Reply::of(&packet::success(id))
+    }
+
+    /// A Failure with a reason, of three digits as all are, and whether a retry is allowed.
+    pub fn failure(id: u8, reason: u16, retry: bool) -> Reply {
+        Reply::of(&packet::failure(id, reason, u8::from(retry), VERSION))
+    }
+
+    /// What is sent.
+    pub fn octets(&self) -> &[u8] {
+        &self.octets[..self.length]
+    }
+
+    /// The reason and R as a Failure's message says them; none in a Success.
+    pub fn failed(&self) -> Option<(u16, u8)> {
+        let fields = message::read(&self.octets()[4..]).ok()?;
+        Some((u16::try_from(fields.e).ok()?, fields.r))
+    }
+}
+
+/// What was answered last: the code and the identifier of the packet, and what it drew.
+#[derive(Clone, Copy, Debug, PartialEq, Eq)]
+pub struct Last {
+    /// The packet's code.
+    pub code: u8,
+    /// The packet's identifier.
+    pub id: u8,
+    /// The reply.
+    pub reply: Reply,
+}
+
 /// A conversation.
 #[derive(Clone, Copy, Debug, PartialEq, Eq)]
 pub struct Conversation {
@@ -46,6 +94,8 @@ pub struct Conversation {
     pub lm: bool,
     /// What is awaited.
     pub phase: Phase,
+    /// The last answer, or none before the first.
+    pub last: Option<Last>,
 }
 
 /// The conversation that a refused opening gives.
@@ -55,6 +105,7 @@ pub const REFUSED: Conversation = Conversation {
     retries: 0,
     lm: false,
     phase: Phase::Ended,
+    last: None,
 };
 
 /// Retries of an opening that names none.
@@ -82,9 +133,11 @@ pub struct Answer {
     pub refusal: u8,
     /// The reason in the Failure written; 0 for Success and for a refusal.
     pub reason: u16,
+    /// Whether the reply is the last one again, the packet not being judged.
+    pub repeated: bool,
     /// The octets written: 4, 17, or 0 on refusal.
     pub written: usize,
-    /// The next conversation; on refusal the one given.
+    /// The next conversation; on refusal and for a repeat the one given.
     pub conversation: Conversation,
     /// The record handed out by an accepted change.
     pub record: Option<Account>,
@@ -116,6 +169,7 @@ pub fn open(
                 retries,
                 lm: lm.unwrap_or(true),
                 phase: Phase::Response,
+                last: None,
             },
         },
     }
@@ -147,6 +201,14 @@ struct Judgement {
     record: Option<Account>,
 }
 
+/// What becomes of a packet that is not refused.
+enum Taken {
+    /// It draws the last reply again.
+    Repeat(Last),
+    /// It is judged.
+    Judged(Judgement),
+}
+
 /// One step: a packet, the record of the account it names or none, and the reply buffer.
 pub fn step(
     conversation: &Conversation,
@@ -154,48 +216,80 @@ pub fn step(
     record: Option<&Account>,
     buffer: &mut [u8],
 ) -> Answer {
-    match judge(conversation, packet, record, buffer.len()) {
+    match take(conversation, packet, record, buffer.len()) {
         Err(refusal) => Answer {
             refusal,
             reason: 0,
+            repeated: false,
             written: 0,
             conversation: *conversation,
             record: None,
         },
-        Ok(judgement) => {
+        Ok(Taken::Repeat(last)) => Answer {
+            refusal: 0,
+            reason: last.reply.failed().map_or(0, |(reason, _)| reason),
+            repeated: true,
+            written: packet::put(last.reply.octets(), buffer),
+            conversation: *conversation,
+            record: None,
+        },
+        Ok(Taken::Judged(judgement)) => {
             // The packet carried the awaited identifier; the reply carries it too.
             let id = conversation.id;
             let reply = match judgement.reason {
-                0 => packet::success(id),
-                reason => packet::failure(id, reason, u8::from(judgement.retry), VERSION),
+                0 => Reply::success(id),
+                reason => Reply::failure(id, reason, judgement.retry),
             };
+            let last = Some(Last {
+                code: packet[0],
+                id: packet[1],
+                reply,
+            });
             Answer {
                 refusal: 0,
                 reason: judgement.reason,
-                written: packet::put(&reply, buffer),
-                conversation: judgement.conversation,
+                repeated: false,
+                written: packet::put(reply.octets(), buffer),
+                conversation: Conversation {
+                    last,
+                    ..judgement.conversation
+                },
                 record: judgement.record,
             }
         }
     }
 }
 
-/// The refusals 1 to 7 in their order, then the rules of the phase.
-fn judge(
+/// The refusals 2 and 3, then the repeat, then the rest.
+fn take(
     conversation: &Conversation,
     packet: &[u8],
     record: Option<&Account>,
     room: usize,
+) -> Result<Taken, u8> {
+    if room < packet::FAILURE_LENGTH {
+        return Err(2);
+    }
+    let frame = packet::frame(packet)?;
+    if let Some(last) = conversation.last {
+        if (last.code, last.id) == (frame.code, frame.id) {
+            return Ok(Taken::Repeat(last));
+        }
+    }
+    judge(conversation, &frame, record).map(Taken::Judged)
+}
+
+/// The refusals 1 and 4 to 7 in their order, then the rules of the phase.
+fn judge(
+    conversation: &Conversation,
+    frame: &Frame<'_>,
+    record: Option<&Account>,
 ) -> Result<Judgement, u8> {
     let awaited = match conversation.phase {
         Phase::Response => packet::RESPONSE,
         Phase::Change(_) => packet::CHANGE,
         Phase::Ended => return Err(1),
     };
-    if room < packet::FAILURE_LENGTH {
-        return Err(2);
-    }
-    let frame = packet::frame(packet)?;
     if frame.code != awaited {
         return Err(4);
     }
@@ -205,12 +299,12 @@ fn judge(
     match conversation.phase {
         Phase::Response => Ok(judge_response(
             conversation,
-            &packet::read_response(&frame)?,
+            &packet::read_response(frame)?,
             record,
         )),
         Phase::Change(kept) => Ok(judge_change(
             conversation,
-            &packet::read_change(&frame)?,
+            &packet::read_change(frame)?,
             &kept,
         )),
         Phase::Ended => Err(1),

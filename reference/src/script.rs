@@ -1,6 +1,6 @@
 //! The command interpreter. Each line of the input gives one line of the output.
 
-use crate::authenticator::{self, Account, Conversation, Phase};
+use crate::authenticator::{self, Account, Conversation, Last, Phase};
 use crate::hashes;
 use crate::issued::{self, Issued};
 use crate::message::{self, Call, Fields};
@@ -305,9 +305,10 @@ impl Session {
         self.conversation = answer.conversation;
         self.handed_out = answer.record;
         Some(format!(
-            "{} {} {} {} {} {}",
+            "{} {} {} {} {} {} {}",
             answer.refusal,
             answer.reason,
+            u8::from(answer.repeated),
             answer.written,
             hex(&buffer),
             show_conversation(&self.conversation),
@@ -410,14 +411,26 @@ fn show_conversation(conversation: &Conversation) -> String {
         Phase::Ended => ("ended", "-".to_string()),
     };
     format!(
-        "{} {} {} {} {} {}",
+        "{} {} {} {} {} {} {}",
         conversation.id,
         hex(&conversation.challenge),
         conversation.retries,
         if conversation.lm { "yes" } else { "no" },
         phase,
-        kept
+        kept,
+        conversation
+            .last
+            .as_ref()
+            .map_or("-".to_string(), show_last)
     )
+}
+
+fn show_last(last: &Last) -> String {
+    let reply = match last.reply.failed() {
+        None => "success".to_string(),
+        Some((reason, r)) => format!("{reason}/{r}"),
+    };
+    format!("{}:{}:{reply}", last.code, last.id)
 }
 
 fn show_list(list: &List) -> String {
@@ -565,7 +578,7 @@ mod tests {
         let mut session = Session::new();
         assert_eq!(
             session.run("step - -\n"),
-            "step - - = 1 0 0 - 0 0000000000000000 0 no ended - -\n"
+            "step - - = 2 0 0 0 - 0 0000000000000000 0 no ended - - -\n"
         );
         session.run("account 00*16 - 0001\nopen 3 00*8 5 no AA*17\n");
         assert_eq!(session.conversation().retries, 5);

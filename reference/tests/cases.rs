@@ -37,7 +37,7 @@ const E691R0: &str = "453D36393120523D3020563D32";
 const E648: &str = "453D36343820523D3020563D32";
 const E709: &str = "453D37303920523D3020563D32";
 const AA3: &str = "AAAAAA";
-const NOTHING: &str = "0 0000000000000000 0 no ended -";
+const NOTHING: &str = "0 0000000000000000 0 no ended - -";
 
 fn bytes(digits: &str) -> Vec<u8> {
     let digits: Vec<char> = digits.chars().filter(|c| *c != ' ').collect();
@@ -116,9 +116,12 @@ fn text(message: &str) -> String {
 struct Stepped {
     refusal: String,
     reason: String,
+    repeated: String,
     written: usize,
     buffer: Vec<u8>,
+    /// Without its last word, which is `last`.
     conversation: String,
+    last: String,
     record: String,
 }
 
@@ -131,6 +134,8 @@ impl Stepped {
 struct Sheet {
     text: String,
     session: Session,
+    /// The steps so far that drew a reply which is no repeat.
+    judged: usize,
 }
 
 impl Sheet {
@@ -193,7 +198,7 @@ impl Sheet {
         assert_eq!(
             result,
             format!(
-                "0 13 {buffer} {id} {challenge} {retries} {allowed} response - {}",
+                "0 13 {buffer} {id} {challenge} {retries} {allowed} response - - {}",
                 spent(challenge, retries.parse().unwrap())
             )
         );
@@ -223,18 +228,28 @@ impl Sheet {
     fn step(&mut self, packet: &[u8], buffer: &str) -> Stepped {
         let result = self.ask(&format!("step {} {buffer}", hex(packet)));
         let words: Vec<&str> = result.split(' ').collect();
-        assert_eq!(words.len(), 11, "{result}");
+        assert_eq!(words.len(), 13, "{result}");
+        // What is awaited is never what was answered last, so that no repeat is taken for a try.
+        let awaited = match words[9] {
+            "response" => format!("2:{}:", words[5]),
+            "change" => format!("6:{}:", words[5]),
+            _ => String::from("none"),
+        };
+        assert!(!words[11].starts_with(&awaited), "{result}");
+        self.judged += usize::from(words[0] == "0" && words[2] == "0");
         Stepped {
             refusal: words[0].to_string(),
             reason: words[1].to_string(),
-            written: words[2].parse().unwrap(),
-            buffer: if words[3] == "-" {
+            repeated: words[2].to_string(),
+            written: words[3].parse().unwrap(),
+            buffer: if words[4] == "-" {
                 Vec::new()
             } else {
-                bytes(words[3])
+                bytes(words[4])
             },
-            conversation: words[4..10].join(" "),
-            record: words[10].to_string(),
+            conversation: words[5..11].join(" "),
+            last: words[11].to_string(),
+            record: words[12].to_string(),
         }
     }
 
@@ -250,6 +265,11 @@ impl Sheet {
         );
         assert_eq!(hex(&answer.buffer), expected);
         assert!(answer.conversation.ends_with(" ended -"));
+        let last = format!("{}:{}:success", packet[0], packet[1]);
+        assert_eq!(
+            (answer.repeated.as_str(), answer.last.as_str()),
+            ("0", &*last)
+        );
         answer
     }
 
@@ -268,7 +288,36 @@ impl Sheet {
             format!("04{:02X}0011{message}{AA3}", packet[1])
         );
         assert_eq!((answer.written, answer.record.as_str()), (17, "-"));
+        let last = format!("{}:{}:{reason}/{r}", packet[0], packet[1]);
+        assert_eq!(
+            (answer.repeated.as_str(), answer.last.as_str()),
+            ("0", &*last)
+        );
         answer
+    }
+
+    /// A repeat: the octets of the last reply, and nothing else moves.
+    fn repeats(&mut self, packet: &[u8], buffer: &str, reply: &str, reason: &str) {
+        let before = *self.session.conversation();
+        let count: usize = buffer.strip_prefix("AA*").unwrap().parse().unwrap();
+        let answer = self.step(packet, buffer);
+        assert_eq!(
+            (
+                answer.refusal.as_str(),
+                answer.reason.as_str(),
+                answer.repeated.as_str(),
+                answer.record.as_str()
+            ),
+            ("0", reason, "1", "-"),
+            "{}",
+            hex(packet)
+        );
+        assert_eq!(hex(answer.reply()), reply);
+        assert_eq!(
+            answer.buffer[answer.written..],
+            vec![0xAA; count - answer.written]
+        );
+        assert_eq!(before, *self.session.conversation());
     }
 
     /// A step that is refused, and changes nothing.
@@ -280,10 +329,11 @@ impl Sheet {
         assert_eq!(
             (
                 answer.reason.as_str(),
+                answer.repeated.as_str(),
                 answer.written,
                 answer.record.as_str()
             ),
-            ("0", 0, "-")
+            ("0", "0", 0, "-")
         );
         assert_eq!(answer.buffer, vec![0xAA; count]);
         assert_eq!(before, *self.session.conversation());
@@ -295,6 +345,7 @@ fn cases() {
     let mut sheet = Sheet {
         text: String::new(),
         session: Session::new(),
+        judged: 0,
     };
     vectors(&mut sheet);
     frames(&mut sheet);
@@ -312,6 +363,7 @@ fn cases() {
     exchanges(&mut sheet);
     damaged(&mut sheet);
     octet_strings(&mut sheet);
+    repeats(&mut sheet);
     issued_challenges(&mut sheet);
 
     // The whole file, run afresh, gives the lines that were checked.
@@ -910,7 +962,13 @@ fn conversations(s: &mut Sheet) {
             u8::from(n < 7),
         );
     }
-    s.refused(&resp(1, Z24, BAD, 1, b"u"), B, "1");
+    s.repeats(
+        &resp(1, Z24, BAD, 1, b"u"),
+        B,
+        &format!("04010011{E691R0}"),
+        "691",
+    );
+    s.refused(&resp(2, Z24, BAD, 1, b"u"), B, "1");
     s.title("R-OPEN-4: LM allowed by a silent opening and by yes, not by no");
     s.account("-", L, "0000");
     for (lm, allowed) in [("-", true), ("yes", true), ("no", false)] {
@@ -1106,7 +1164,7 @@ fn responses(s: &mut Sheet) {
     s.is(
         &format!("open 7 {CHX} - - 0102030405060708090A0B0C0D0E0F1011"),
         &format!(
-            "0 13 0107000D08{CHX}0E0F1011 7 {CHX} 2 yes response - {}",
+            "0 13 0107000D08{CHX}0E0F1011 7 {CHX} 2 yes response - - {}",
             spent(CHX, 2)
         ),
     );
@@ -1168,13 +1226,15 @@ fn changes(s: &mut Sheet) {
         s.success(&change(8, &CH, P, P)).record,
         format!("{H}/-/0000")
     );
-    s.title("R-CHANGE-8 to -10: 709 ends; nothing more is answered");
+    s.title("R-CHANGE-8 to -10: 709 ends; nothing more is answered but a repeat");
     s.expire(H, L);
     let wrong_old = change(8, &CH, BADPW, Q);
     let answer = s.failure(&wrong_old, "709", 0);
     assert_eq!(answer.conversation, format!("8 {CHX} 2 yes ended -"));
-    s.refused(&chg, B, "1");
-    s.refused(&resp(8, Z24, NR, 1, b"u"), "-", "1");
+    s.repeats(&chg, B, &format!("04080011{E709}"), "709");
+    s.refused(&with(&chg, &[(1, &[9])]), B, "1");
+    s.refused(&resp(8, Z24, NR, 1, b"u"), B, "1");
+    s.refused(&resp(8, Z24, NR, 1, b"u"), "-", "2");
     s.title("R-CHANGE-11: the record lent to the change has no effect");
     s.expire(H, L);
     s.is("account -", "");
@@ -1417,13 +1477,19 @@ fn turns(s: &mut Sheet) {
 fn refusals(s: &mut Sheet) {
     let good = resp(7, Z24, NR, 1, b"u");
     let chg = change(8, &CH, P, Q);
-    s.title("R-REF-1: the conversation has ended, before anything else");
+    s.title("R-REF-1: the conversation has ended, after 2, 3 and a repeat, before all else");
     s.account(H, L, "0000");
     s.open7();
     s.success(&good);
-    s.refused(&good, B, "1");
-    s.refused(&[], "AA*3", "1");
-    s.refused(&good, "-", "1");
+    s.repeats(&good, B, "03070004", "0");
+    s.refused(&resp(8, Z24, NR, 1, b"u"), B, "1");
+    s.refused(&chg, B, "1");
+    s.refused(&bytes("01070004"), B, "1");
+    s.refused(&bytes("02080004"), B, "1");
+    s.refused(&resp(8, Z24, NR, 9, b"u"), B, "1");
+    s.refused(&[], "AA*3", "2");
+    s.refused(&[], B, "3");
+    s.refused(&good, "-", "2");
     s.note("and after a refused opening");
     s.places();
     s.is(
@@ -1600,7 +1666,7 @@ fn refusals(s: &mut Sheet) {
             &format!("12 0 {}", aa(20)),
         );
     }
-    s.title("R-ORD-1, -5, R-DEM-2: the box's order; a refusal changes nothing");
+    s.title("R-ORD-1, -5, R-DEM-2: the box's order; a refusal changes nothing (the rest: CR01-9)");
     let mut packet = resp(8, Z24, NR, 9, b"u");
     packet[0] = 3;
     packet[3] = 0x36;
@@ -1711,8 +1777,11 @@ fn table_of_twelve(s: &mut Sheet) {
 
 /// Our peer against our box, each packet taken from what was written before.
 struct Peer {
+    /// What the next packet is written from, and what the last one was.
     turn: String,
     last: String,
+    /// The last packet.
+    sent: Vec<u8>,
 }
 
 impl Peer {
@@ -1726,6 +1795,7 @@ impl Peer {
         Peer {
             turn,
             last: String::new(),
+            sent: Vec::new(),
         }
     }
 
@@ -1735,13 +1805,27 @@ impl Peer {
         let words: Vec<&str> = result.split(' ').collect();
         assert_eq!(words[0], "0");
         let size: usize = words[1].parse().unwrap();
-        let answer = s.step(&bytes(&words[2][..2 * size]), B);
+        self.sent = bytes(&words[2][..2 * size]);
+        let answer = s.step(&self.sent, B);
         let id = self.turn.split(' ').next().unwrap().to_string();
         let reply = hex(answer.reply());
         s.is(&format!("reply {id} {reply}"), verdict);
         self.last = s.ask(&format!("turn {} {reply}", self.turn));
         std::mem::swap(&mut self.turn, &mut self.last);
         answer
+    }
+
+    /// Sends the last packet again, as a peer does that missed the reply, and reads the reply.
+    fn again(&mut self, s: &mut Sheet, verdict: &str) {
+        let answer = s.step(&self.sent, B);
+        assert_eq!(
+            (answer.repeated.as_str(), answer.record.as_str()),
+            ("1", "-")
+        );
+        let id = self.last.split(' ').next().unwrap().to_string();
+        let reply = hex(answer.reply());
+        s.is(&format!("reply {id} {reply}"), verdict);
+        s.is(&format!("turn {} {reply}", self.last), &self.turn);
     }
 
     fn respond(&mut self, s: &mut Sheet, password: &[u8], verdict: &str) -> Stepped {
@@ -1917,6 +2001,249 @@ fn octet_strings(s: &mut Sheet) {
     s.is("rc4 01 00*1", "06");
 }
 
+/// Request 2026-01: what a packet draws that has the code and the identifier last answered.
+fn repeats(s: &mut Sheet) {
+    let good = resp(7, Z24, NR, 1, b"u");
+    let bad = resp(7, Z24, BAD, 1, b"u");
+    let bad8 = resp(8, Z24, BAD, 1, b"u");
+    let right8 = resp(8, Z24, NR23, 1, b"u");
+    let chg = change(8, &CH, P, Q);
+    let four = bytes("02070004");
+    let retry7 = format!("04070011{E691R1}");
+    let expired7 = format!("04070011{E648}");
+
+    s.title("CR01-1, -6: after Success the same reply octets; those behind them stay");
+    s.account(H, L, "0000");
+    s.open7();
+    s.success(&good);
+    s.repeats(&four, "AA*17", "03070004", "0");
+    s.repeats(&good, "AA*17", "03070004", "0");
+    for buffer in ["AA*18", B, "AA*40"] {
+        s.repeats(&good, buffer, "03070004", "0");
+    }
+    s.note("the record passed has no effect: another, none, a disabled one");
+    s.account("11*16", "22*16", "0000");
+    s.repeats(&good, B, "03070004", "0");
+    s.is("account -", "");
+    s.repeats(&good, B, "03070004", "0");
+    s.account(H, L, "1111");
+    s.repeats(&good, B, "03070004", "0");
+    s.note("after each other end: 647, 646, 649, 691 with no retry left");
+    for (marks, packet, reason) in [
+        ("1000", &good, "647"),
+        ("0100", &good, "646"),
+        ("0010", &good, "649"),
+        ("0000", &bad, "691"),
+    ] {
+        s.account(H, L, marks);
+        s.open(7, CHX, "0", "-");
+        s.failure(packet, reason, 0);
+        s.account(H, L, "0000");
+        let reply = format!("04070011{}", text(&format!("E={reason} R=0 V=2")));
+        s.repeats(&good, B, &reply, reason);
+        s.repeats(&four, B, &reply, reason);
+    }
+
+    s.title("CR01-2: both the code and the identifier last answered");
+    s.account(H, L, "0001");
+    s.open7();
+    s.failure(&good, "648", 0);
+    s.refused(&with(&chg, &[(1, &[7])]), B, "5");
+    s.refused(&bytes("06070004"), B, "5");
+    s.refused(&bytes("02080004"), B, "4");
+    s.repeats(&good, B, &expired7, "648");
+    s.note("a Response again while a change is awaited, which is then accepted");
+    s.repeats(&four, B, &expired7, "648");
+    s.repeats(&bad, B, &expired7, "648");
+    assert_eq!(s.success(&chg).record, format!("{HQ}/-/0000"));
+
+    s.title("CR01-3, -4, -6: between tries; whatever its other contents, it is not judged");
+    s.account(H, L, "0000");
+    s.open(7, CHX, "1", "-");
+    let answer = s.failure(&bad, "691", 1);
+    assert_eq!(answer.conversation, format!("8 {CH23} 0 yes response -"));
+    s.repeats(&bad, B, &retry7, "691");
+    s.note("the right password under the old identifier, to either challenge");
+    s.repeats(&good, B, &retry7, "691");
+    s.repeats(&resp(7, Z24, NR23, 1, b"u"), B, &retry7, "691");
+    s.note("Lengths 4, 5, 54 and 311, size 48, flag 2, octets after Length 4");
+    for packet in [
+        four.clone(),
+        bytes("0207000531"),
+        resp(7, Z24, NR, 1, b""),
+        resp(7, Z24, NR, 1, &[b'u'; 257]),
+        with(&good, &[(4, &[48])]),
+        with(&good, &[(53, &[2])]),
+        with(&good, &[(3, &[4])]),
+    ] {
+        s.repeats(&packet, B, &retry7, "691");
+    }
+    s.note("the awaited identifier is still 8, and a try is left");
+    s.success(&right8);
+
+    s.title("CR01-5: an accepted change again hands out no record");
+    s.expire(H, L);
+    assert_eq!(s.success(&chg).record, format!("{HQ}/-/0000"));
+    s.repeats(&chg, B, "03080004", "0");
+    s.repeats(&bytes("06080004"), "AA*17", "03080004", "0");
+    s.note("the Response before it is no longer kept; and relend finds none: still expired");
+    s.refused(&good, B, "1");
+    s.repeats(&chg, B, "03080004", "0");
+    s.is("relend", "");
+    s.open7();
+    s.failure(&good, "648", 0);
+    s.note("after 709: the right change, and one of another password, draw 709 again");
+    s.expire(H, L);
+    s.failure(&change(8, &CH, BADPW, Q), "709", 0);
+    for packet in [&chg, &change(8, &CH, P, P), &bytes("06080004")] {
+        s.repeats(packet, B, &format!("04080011{E709}"), "709");
+    }
+
+    s.title("CR01-7: only the last answer");
+    s.account(H, L, "0000");
+    s.open7();
+    s.failure(&bad, "691", 1);
+    s.failure(&bad8, "691", 1);
+    s.refused(&bad, B, "5");
+    s.refused(&four, B, "5");
+    s.repeats(&bad8, B, &format!("04080011{E691R1}"), "691");
+    s.note("and after the end");
+    s.failure(&resp(9, Z24, BAD, 1, b"u"), "691", 0);
+    s.refused(&bad, B, "1");
+    s.refused(&bad8, B, "1");
+    s.repeats(&bytes("02090004"), B, &format!("04090011{E691R0}"), "691");
+    s.refused(&bytes("020A0004"), B, "1");
+    s.note("a refused packet is no answer: the one before it is still the last");
+    s.open7();
+    s.failure(&bad, "691", 1);
+    s.refused(&with(&bad8, &[(53, &[9])]), B, "7");
+    s.repeats(&bad, B, &retry7, "691");
+    s.note("while a change is awaited: 4, as the code comes before the identifier");
+    s.account(H, L, "0001");
+    s.open7();
+    s.failure(&bad, "691", 1);
+    s.failure(&right8, "648", 0);
+    s.refused(&bad, B, "4");
+    s.refused(&four, B, "4");
+    s.repeats(&right8, B, &format!("04080011{E648}"), "648");
+    s.account(H, L, "0000");
+
+    s.title("CR01-8: none at the opening; the Challenge is no answer");
+    s.open7();
+    s.refused(&resp(6, Z24, NR, 1, b"u"), B, "5");
+    s.refused(&bytes("01070004"), B, "4");
+    s.refused(&four, B, "6");
+    s.refused(&bytes("00000004"), B, "4");
+    s.success(&good);
+    s.note("a new opening has none, under the identifier of the one before too");
+    s.open7();
+    s.refused(&four, B, "6");
+    s.open(0, CHX, "-", "-");
+    s.refused(&bytes("02000004"), B, "6");
+    s.note("nor has a refused one, with identifier 0");
+    s.places();
+    s.is(
+        &format!("open 7 {CHX} 8 - {B}"),
+        &format!("13 0 {} {NOTHING} {}", "AA".repeat(20), unspent()),
+    );
+    for packet in ["00000004", "02000004", "06000004"] {
+        s.refused(&bytes(packet), B, "1");
+    }
+
+    s.title("CR01-9: 2 and 3 first, then the repeat, then 1, then 4 to 7");
+    s.note("between tries");
+    s.open7();
+    s.failure(&bad, "691", 1);
+    s.refused(&bad, "AA*16", "2");
+    s.refused(&bytes("020700"), "AA*16", "2");
+    s.refused(&bytes("020700"), B, "3");
+    s.refused(&bytes("02070003"), B, "3");
+    s.refused(&bytes("02070005"), B, "3");
+    s.repeats(&four, "AA*17", &retry7, "691");
+    s.note("after the end, which Success of 4 octets was: room for 17 is asked for all the same");
+    s.open7();
+    s.success(&good);
+    s.refused(&bytes("02070003"), "AA*16", "2");
+    for buffer in ["-", "AA*4", "AA*16"] {
+        s.refused(&good, buffer, "2");
+        s.refused(&resp(8, Z24, NR, 1, b"u"), buffer, "2");
+    }
+    for packet in [
+        "", "02", "0207", "020700", "02070003", "02070005", "0108FFFF",
+    ] {
+        s.refused(&bytes(packet), B, "3");
+    }
+    s.refused(&with(&good, &[(2, &[0, 3])]), B, "3");
+    s.refused(&good[..54], B, "3");
+    s.repeats(&four, "AA*17", "03070004", "0");
+    for packet in ["02080004", "01070004", "06080004", "06070004", "FFFF0004"] {
+        s.refused(&bytes(packet), B, "1");
+    }
+    s.note("a change awaited: 2, 3, the repeat, then 4, 5, 6 and 7");
+    s.expire(H, L);
+    s.refused(&four, "AA*16", "2");
+    s.refused(&bytes("02070005"), B, "3");
+    s.repeats(&four, B, &expired7, "648");
+    s.refused(&bytes("02080004"), B, "4");
+    s.refused(&bytes("06090004"), B, "5");
+    s.refused(&bytes("06080004"), B, "6");
+    s.refused(&with(&chg, &[(1116, &[0, 4])]), B, "7");
+    s.repeats(&good, B, &expired7, "648");
+
+    s.title("CR01-10: a hundred repeats of one wrong try: one packet is judged");
+    s.account(H, L, "0000");
+    s.open(7, CHX, "0", "-");
+    let end7 = format!("04070011{E691R0}");
+    let before = s.judged;
+    s.failure(&bad, "691", 0);
+    for n in 0..100 {
+        let packet = if n % 10 == 0 { &bad } else { &four };
+        s.repeats(packet, "AA*17", &end7, "691");
+    }
+    s.repeats(&good, B, &end7, "691");
+    s.refused(&right8, B, "1");
+    assert_eq!(s.judged - before, 1);
+
+    s.title("CR01-11: a wrong try, a repeat of it, the right one: two are judged");
+    s.open(7, CHX, "1", "-");
+    let before = s.judged;
+    s.failure(&bad, "691", 1);
+    s.repeats(&bad, B, &retry7, "691");
+    s.success(&right8);
+    s.repeats(&right8, B, "03080004", "0");
+    s.refused(&bad, B, "1");
+    assert_eq!(s.judged - before, 2);
+    s.note("with the record expired three; our peer reads each reply again as it read it first");
+    s.account(H, L, "0001");
+    let mut peer = Peer::meet(s, 7, "1");
+    let before = s.judged;
+    peer.respond(s, BADPW, "failure 691 1 - 2 retry");
+    peer.again(s, "failure 691 1 - 2 retry");
+    peer.respond(s, P, "failure 648 0 - 2 change2");
+    peer.again(s, "failure 648 0 - 2 change2");
+    peer.again(s, "failure 648 0 - 2 change2");
+    let answer = peer.change(s, P, Q, "success");
+    assert_eq!(answer.record, format!("{HQ}/-/0000"));
+    peer.again(s, "success");
+    assert_eq!(s.judged - before, 3);
+    s.title("CR01-2, -7: identifiers 255 and 0");
+    s.account(H, L, "0000");
+    s.open(255, CHX, "2", "-");
+    s.failure(&resp(255, Z24, BAD, 1, b"u"), "691", 1);
+    s.repeats(&bytes("02FF0004"), B, &format!("04FF0011{E691R1}"), "691");
+    s.failure(&resp(0, Z24, BAD, 1, b"u"), "691", 1);
+    s.refused(&bytes("02FF0004"), B, "5");
+    s.repeats(&bytes("02000004"), B, &format!("04000011{E691R1}"), "691");
+    s.account(H, L, "0001");
+    s.open(255, CHX, "0", "no");
+    let answer = s.failure(&resp(255, Z24, NR, 1, b"u"), "648", 0);
+    assert_eq!(answer.last, "2:255:648/0");
+    s.repeats(&bytes("02FF0004"), B, &format!("04FF0011{E648}"), "648");
+    assert_eq!(s.success(&change(0, &CH, P, Q)).last, "6:0:success");
+    s.repeats(&bytes("06000004"), B, "03000004", "0");
+    s.refused(&bytes("02000004"), B, "1");
+}
+
 /// Entries of a list: C1, its successors by the 23 rule as far as r = 7 goes, and another with its
 /// first two.
 const C1: &str = "0102030405060708";
@@ -1953,7 +2280,9 @@ impl Sheet {
     fn spends(&mut self, challenge: &str, r: u8, list: &str) {
         self.is(
             &format!("open 7 {challenge} {r} - AA*17"),
-            &format!("0 13 0107000D08{challenge}AAAAAAAA 7 {challenge} {r} yes response - {list}"),
+            &format!(
+                "0 13 0107000D08{challenge}AAAAAAAA 7 {challenge} {r} yes response - - {list}"
+            ),
         );
     }
 
@@ -1993,7 +2322,7 @@ fn issued_challenges(s: &mut Sheet) {
     s.is("places 4", "");
     s.is(
         &format!("open 7 {C1} - - AA*17"),
-        &format!("0 13 0107000D08{C1}AAAAAAAA 7 {C1} 2 yes response - 3 {C1}{C18}{C2F}{Z8} 08:3"),
+        &format!("0 13 0107000D08{C1}AAAAAAAA 7 {C1} 2 yes response - - 3 {C1}{C18}{C2F}{Z8} 08:3"),
     );
     s.note("the first octet wraps, with no carry");
     s.is("places 3", "");
@@ -2330,6 +2659,7 @@ fn malformed_lines() {
     let mut sheet = Sheet {
         text: String::new(),
         session: Session::new(),
+        judged: 0,
     };
     for line in [
         "unknown",
@@ -2396,7 +2726,7 @@ fn malformed_lines() {
 /// R-CHANGE-7 and O-8, O-9: values that no opening makes.
 #[test]
 fn conversations_made_by_hand() {
-    use reference::authenticator::{step, Conversation};
+    use reference::authenticator::{step, Conversation, Last, Reply};
     let kept = Account {
         nt: Some(array(H)),
         lm: Some(array(L)),
@@ -2411,6 +2741,7 @@ fn conversations_made_by_hand() {
         retries: 200,
         lm: true,
         phase: Phase::Change(kept),
+        last: None,
     };
     let mut buffer = [0xAA; 20];
     let answer = step(&conversation, &change(8, &CH, P, Q), None, &mut buffer);
@@ -2428,6 +2759,11 @@ fn conversations_made_by_hand() {
         answer.conversation,
         Conversation {
             phase: Phase::Ended,
+            last: Some(Last {
+                code: 6,
+                id: 8,
+                reply: Reply::success(8)
+            }),
             ..conversation
         }
     );

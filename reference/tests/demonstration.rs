@@ -1,6 +1,7 @@
 //! The printed demonstration, `crates/demo/stdout`, by the independent program: each Response is
 //! made from the password that the line behind it names, each retry answers the right challenge,
-//! and `docs/SLIPS.md` shows no octets that no program has written.
+//! each repeat draws the last reply again, and `docs/SLIPS.md` shows no octets that no program has
+//! written.
 
 use reference::hashes::{challenge_response, lm_hash, nt_hash};
 use std::fs;
@@ -44,6 +45,25 @@ fn named(sentence: &str) -> Option<&str> {
     found.map(|(_, password)| *password)
 }
 
+/// The lines of the peer's packets that have the code and the identifier of the one before, in the
+/// same conversation. One that is shown in place of another is none.
+fn repeats(lines: &[&str]) -> Vec<usize> {
+    let mut out = Vec::new();
+    let mut last = Vec::new();
+    for (place, line) in lines.iter().enumerate() {
+        if line.starts_with("   <- Challenge ") || line.starts_with("   In place of that, ") {
+            last.clear();
+        } else if line.starts_with("   -> ") {
+            let packet = last_octets(line);
+            if last == packet[..2] {
+                out.push(place);
+            }
+            last = packet[..2].to_vec();
+        }
+    }
+    out
+}
+
 #[test]
 fn every_response_is_from_the_password_that_is_named() {
     let text = read("crates/demo/stdout");
@@ -52,14 +72,20 @@ fn every_response_is_from_the_password_that_is_named() {
     let mut slip = [0; 8];
     let mut first = None;
     let mut compared = 0;
-    for (line, behind) in lines.iter().zip(&lines[1..]) {
+    let repeats = repeats(&lines);
+    let mut repeat = false;
+    let mut answered_before = [0; 8];
+    for (place, (line, behind)) in lines.iter().zip(&lines[1..]).enumerate() {
         if line.starts_with("Slip: ") {
             first = None;
         } else if line.starts_with("   <- Challenge ") {
             challenge = eight(&last_octets(line)[5..13]);
             first.get_or_insert(challenge);
         } else if line.starts_with("   <- Failure ") && behind.contains("R=1") {
-            challenge[0] = challenge[0].wrapping_add(23);
+            // A repeated Failure calls for the same retry as it did first.
+            if !repeat {
+                challenge[0] = challenge[0].wrapping_add(23);
+            }
         } else if line.starts_with("      right, the next challenge: ") {
             assert_eq!(eight(&last_octets(line)), challenge);
         } else if line.starts_with("      slip,  the next challenge: ") {
@@ -67,7 +93,9 @@ fn every_response_is_from_the_password_that_is_named() {
             assert_ne!(slip, challenge);
         } else if line.starts_with("   -> Response ") {
             let packet = last_octets(line);
+            repeat = repeats.contains(&place);
             let answered = match behind {
+                _ if repeat => answered_before,
                 words if words.contains("the slip's challenge") => slip,
                 words if words.contains("the first box's challenge") => first.unwrap(),
                 _ => challenge,
@@ -80,10 +108,28 @@ fn every_response_is_from_the_password_that_is_named() {
                 false => [0; 24],
             };
             assert_eq!(packet[5..29], lm, "{behind}");
+            answered_before = answered;
             compared += 1;
         }
     }
-    assert_eq!(compared, 25);
+    assert_eq!(compared, 30);
+}
+
+#[test]
+fn every_repeat_draws_the_last_reply() {
+    let text = read("crates/demo/stdout");
+    let lines: Vec<&str> = text.lines().collect();
+    let repeats = repeats(&lines);
+    for (place, line) in lines.iter().enumerate() {
+        let said = line.contains("A repeat: the box does not judge it");
+        assert_eq!(said, place >= 2 && repeats.contains(&(place - 2)), "{line}");
+    }
+    for place in &repeats {
+        let replies = |line: &&&str| line.starts_with("   <- ");
+        let before = lines[..*place].iter().rev().find(replies).unwrap();
+        assert_eq!(lines[place + 3], *before);
+    }
+    assert_eq!(repeats.len(), 2);
 }
 
 /// Runs of at least eight hexadecimal digits in upper case, one of them at least no letter.

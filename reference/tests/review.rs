@@ -14,11 +14,21 @@ fn review() -> String {
 
 /// The rows of the table under a heading, cut into cells.
 fn rows(text: &str, heading: &str) -> Vec<Vec<String>> {
-    let section = text.split("\n## ").find(|s| s.starts_with(heading)).unwrap();
+    let section = text
+        .split("\n## ")
+        .find(|s| s.starts_with(heading))
+        .unwrap();
     section
         .lines()
-        .filter(|l| l.starts_with("| ") && !l.starts_with("| File |") && !l.starts_with("| Theorem |"))
-        .map(|l| l.trim_matches('|').split('|').map(|c| c.trim().to_string()).collect())
+        .filter(|l| {
+            l.starts_with("| ") && !l.starts_with("| File |") && !l.starts_with("| Theorem |")
+        })
+        .map(|l| {
+            l.trim_matches('|')
+                .split('|')
+                .map(|c| c.trim().to_string())
+                .collect()
+        })
         .collect()
 }
 
@@ -27,10 +37,14 @@ fn definitions() -> BTreeSet<String> {
     let mut found = BTreeSet::new();
     for krate in fs::read_dir(root().join("crates")).unwrap() {
         let krate = krate.unwrap();
-        let Ok(files) = fs::read_dir(krate.path().join("specs")) else { continue };
+        let Ok(files) = fs::read_dir(krate.path().join("specs")) else {
+            continue;
+        };
         for file in files {
             let name = file.unwrap().file_name().into_string().unwrap();
-            let stem = name.strip_suffix(".antt").expect("a folder or another file in specs/");
+            let stem = name
+                .strip_suffix(".antt")
+                .expect("a folder or another file in specs/");
             if stem != "Lib" && stem != "Inner" {
                 let krate = krate.file_name().into_string().unwrap();
                 found.insert(format!("{krate}/specs/{stem}"));
@@ -46,8 +60,17 @@ fn every_definition_is_listed_with_its_lines() {
     for row in rows(&review(), "1. ") {
         let path = root().join("crates").join(format!("{}.antt", row[0]));
         let text = fs::read_to_string(&path).unwrap_or_else(|_| panic!("no file {}", row[0]));
-        assert_eq!(row[1], text.lines().count().to_string(), "lines of {}", row[0]);
-        assert!(listed.insert(row[0].clone()), "{} stands there twice", row[0]);
+        assert_eq!(
+            row[1],
+            text.lines().count().to_string(),
+            "lines of {}",
+            row[0]
+        );
+        assert!(
+            listed.insert(row[0].clone()),
+            "{} stands there twice",
+            row[0]
+        );
     }
     assert_eq!(listed, definitions());
 }
@@ -88,9 +111,15 @@ fn inner_definitions_stay_inside() {
             if path.components().any(|c| c.as_os_str() == "proofs") {
                 continue;
             }
-            let Ok(text) = fs::read_to_string(&path) else { continue };
+            let Ok(text) = fs::read_to_string(&path) else {
+                continue;
+            };
             for line in text.lines().filter(|l| l.contains("specs.Inner")) {
-                assert!(line.contains("·specs.specs.Inner"), "{}: {line}", path.display());
+                assert!(
+                    line.contains("·specs.specs.Inner"),
+                    "{}: {line}",
+                    path.display()
+                );
                 seen += 1;
             }
         }

@@ -390,7 +390,7 @@ impl<'a> Row<'a> {
                         };
                         let mut wrong = Vec::new();
                         wrong.extend(named.iter().filter(|krate| !has(krate)).cloned());
-                        let somewhere = self.tree.crates.iter().any(|krate| has(krate));
+                        let somewhere = self.tree.crates.iter().any(has);
                         for krate in wrong {
                             self.say(format!("{krate} has no edit `{name}`"));
                         }

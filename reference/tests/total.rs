@@ -1,7 +1,7 @@
 //! Every input draws an answer or a numbered refusal; a refusal changes nothing. The inputs come
 //! from a fixed generator, so each run is the same.
 
-use reference::authenticator::{self, Account, Conversation, Phase};
+use reference::authenticator::{self, Account, Conversation, Last, Phase, Reply};
 use reference::issued::Issued;
 use reference::peer::{self, Turn, Verdict};
 use reference::script::Session;
@@ -63,10 +63,49 @@ fn packet_near(random: &mut Random, id: u8) -> Vec<u8> {
     packet
 }
 
+/// A last answer, or none. Its identifier is mostly the one before the awaited one, and sometimes
+/// the awaited one, as no conversation has it that an opening and steps made.
+fn last_near(random: &mut Random, id: u8) -> Option<Last> {
+    if random.below(4) == 0 {
+        return None;
+    }
+    let id = id.wrapping_sub([0, 1, 1, 1][random.below(4)]);
+    let reply = match random.below(8) {
+        0 => Reply::success(id),
+        n => Reply::failure(id, [691, 646, 647, 648, 649, 709, 691][n - 1], n == 1),
+    };
+    Some(Last {
+        code: [2, 2, 6, 0][random.below(4)],
+        id,
+        reply,
+    })
+}
+
+/// The first of what comes before 4, by the octets lent: "2 and 3 first, then the repeat, then 1".
+/// A repeat is 0, and none of them where the answer is another.
+fn before_the_code(conversation: &Conversation, packet: &[u8], room: usize) -> Option<u8> {
+    if room < 17 {
+        return Some(2);
+    }
+    let [code, id, high, low, ..] = *packet else {
+        return Some(3);
+    };
+    let length = usize::from(high) * 256 + usize::from(low);
+    if length < 4 || packet.len() < length {
+        return Some(3);
+    }
+    let last = conversation.last.map(|last| (last.code, last.id));
+    if last == Some((code, id)) {
+        return Some(0);
+    }
+    (conversation.phase == Phase::Ended).then_some(1)
+}
+
 #[test]
 fn steps() {
     let mut random = Random(1);
-    let mut judged = 0;
+    let mut drawn = [0; 8];
+    let (mut judged, mut between, mut ended) = (0, 0, 0);
     for _ in 0..60_000 {
         let account = Account {
             nt: (random.below(4) > 0).then(|| random.array()),
@@ -77,8 +116,8 @@ fn steps() {
             expired: random.below(2) > 0,
         };
         let phase = match random.below(8) {
-            0 => Phase::Ended,
-            1..=3 => Phase::Change(account),
+            0 | 1 => Phase::Ended,
+            2..=4 => Phase::Change(account),
             _ => Phase::Response,
         };
         let before = Conversation {
@@ -87,23 +126,60 @@ fn steps() {
             retries: random.below(9) as u8,
             lm: random.below(2) > 0,
             phase,
+            last: None,
         };
-        let packet = packet_near(&mut random, before.id);
+        let before = Conversation {
+            last: last_near(&mut random, before.id),
+            ..before
+        };
+        let mut packet = packet_near(&mut random, before.id);
+        if let (Some(last), true, true) = (before.last, packet.len() > 1, random.below(4) == 0) {
+            packet[..2].copy_from_slice(&[last.code, last.id]);
+        }
         let room = [0, 16, 17, 17, 20, 20, 20, 20][random.below(8)];
         let lent = random.octets(room);
         let mut buffer = lent.clone();
         let record = (random.below(2) > 0).then_some(account);
         let answer = authenticator::step(&before, &packet, record.as_ref(), &mut buffer);
+        drawn[usize::from(answer.refusal)] += 1;
+        match before_the_code(&before, &packet, room) {
+            Some(refusal) => assert_eq!((answer.refusal, answer.repeated), (refusal, refusal == 0)),
+            None => assert!(!answer.repeated && !(1..4).contains(&answer.refusal)),
+        }
         if answer.refusal > 0 {
-            assert!(answer.refusal <= 7);
             assert_eq!((answer.reason, answer.written, answer.record), (0, 0, None));
             assert_eq!(answer.conversation, before);
             assert_eq!(buffer, lent);
+        } else if answer.repeated {
+            match phase {
+                Phase::Ended => ended += 1,
+                _ => between += 1,
+            }
+            let last = before.last.unwrap();
+            let reply = last.reply.octets();
+            assert_eq!(buffer, [reply, &lent[reply.len()..]].concat());
+            assert_eq!((answer.written, answer.record), (reply.len(), None));
+            assert_eq!(answer.conversation, before);
+            // Neither the record nor what else is in the packet has an effect.
+            let mut again = lent.clone();
+            let four = [last.code, last.id, 0, 4];
+            assert_eq!(
+                authenticator::step(&before, &four, None, &mut again),
+                answer
+            );
+            assert_eq!(again, buffer);
         } else {
             judged += 1;
             assert!(answer.written == 4 || answer.written == 17);
             assert_eq!(buffer[answer.written..], lent[answer.written..]);
             assert_eq!(buffer[1], before.id);
+            // What was answered is kept, and the packet then draws the same again.
+            let last = answer.conversation.last.unwrap();
+            assert_eq!([last.code, last.id], packet[..2]);
+            let mut again = lent.clone();
+            let repeat = authenticator::step(&answer.conversation, &packet, None, &mut again);
+            assert!(repeat.repeated);
+            assert_eq!((repeat.reason, &again), (answer.reason, &buffer));
             // The peer reads what the box wrote.
             match peer::read_reply(before.id, &buffer) {
                 Ok(Verdict::Success) => assert_eq!(answer.reason, 0),
@@ -120,7 +196,12 @@ fn steps() {
         packet::account(&packet);
         let _ = peer::read_challenge(&packet);
     }
-    assert!(judged > 1_000, "{judged}");
+    for (kind, count) in [("judged", judged), ("between", between), ("ended", ended)] {
+        assert!(count > 1_000, "{kind}: {count}");
+    }
+    for (refusal, count) in drawn.iter().enumerate() {
+        assert!(*count > 100, "{refusal}: {drawn:?}");
+    }
 }
 
 /// A challenge of few values, so that lists often hold one.
@@ -259,6 +340,11 @@ fn peer_to_box_and_back() {
         let written = peer::write_response(&turn, &old, &name, &mut out);
         let first = authenticator::step(&opened.conversation, &out, Some(&record), &mut reply);
         assert_eq!((written.written, first.reason), (54 + name.len(), 648));
+        // The peer missed the reply, and sends the same packet again.
+        let mut missed = [0u8; 17];
+        let again = authenticator::step(&first.conversation, &out, None, &mut missed);
+        assert_eq!((again.repeated, missed), (true, reply));
+        assert_eq!(again.conversation, first.conversation);
         let next = peer::next_turn(&turn, &peer::read_reply(turn.id, &reply));
         peer::write_change(&next, &old, &new, &random.octets(512), &mut out);
         let second = authenticator::step(&first.conversation, &out, None, &mut reply);
@@ -267,6 +353,10 @@ fn peer_to_box_and_back() {
             (0, Phase::Ended)
         );
         assert_eq!(second.record.unwrap().nt, hashes::nt_hash(&new).ok());
+        assert_eq!(peer::read_reply(next.id, &reply), Ok(Verdict::Success));
+        let again = authenticator::step(&second.conversation, &out, None, &mut reply);
+        assert_eq!((again.repeated, again.record), (true, None));
+        assert_eq!(again.conversation, second.conversation);
         assert_eq!(peer::read_reply(next.id, &reply), Ok(Verdict::Success));
     }
 }

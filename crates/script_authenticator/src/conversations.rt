@@ -185,21 +185,27 @@ pub(crate) fn open(line: &[u8], state: ScriptState) -> ScriptState {
 
 // ---- step
 
-// REFUSAL REASON and a space
+// REFUSAL REASON REPEATED and a space
 fn put_kind(kind: Kind) {
     match kind {
         Kind::Refused(refusal) => {
-            script::put_number(refusal as u64);
-            script::put(b" 0 ")
+            script::put_field(refusal as u64);
+            script::put(b"0 0 ")
+        }
+        Kind::Repeated(reason) => {
+            script::put(b"0 ");
+            script::put_field(reason as u64);
+            script::put(b"1 ")
         }
         Kind::Judged(reason) => {
             script::put(b"0 ");
-            script::put_field(reason as u64)
+            script::put_field(reason as u64);
+            script::put(b"0 ")
         }
     }
 }
 
-// REFUSAL REASON WRITTEN BUFFER CONVERSATION RECORD
+// REFUSAL REASON REPEATED WRITTEN BUFFER CONVERSATION RECORD
 fn put_answer(answer: Answer, reply: &[u8]) {
     let kind = answer.kind;
     let next = answer.next;

@@ -3,7 +3,9 @@ use accounts::Account;
 use accounts::Hash;
 use accounts::Lookup;
 use authenticator::Conversation;
+use authenticator::LastAnswer;
 use authenticator::Phase;
+use authenticator::Reply;
 
 // ---- reading
 
@@ -99,15 +101,43 @@ fn put_phase(phase: Phase, kept: Account) {
     }
 }
 
-// ID CHALLENGE RETRIES LM PHASE KEPT
+// REPLY
+fn put_reply(reply: Reply) {
+    match reply {
+        Reply::Success => script::put(b"success"),
+        Reply::Failure(reason, retry) => {
+            script::put_number(reason as u64);
+            script::put(b"/");
+            put_mark(retry)
+        }
+    }
+}
+
+// LAST
+fn put_last(last: LastAnswer) {
+    if !last.present {
+        return script::put_none();
+    }
+    let reply = last.reply;
+    script::put_number(last.code as u64);
+    script::put(b":");
+    script::put_number(last.id as u64);
+    script::put(b":");
+    put_reply(reply)
+}
+
+// ID CHALLENGE RETRIES LM PHASE KEPT LAST
 pub(crate) fn put_conversation(conversation: Conversation) {
     let terms = conversation.terms;
     let challenge = conversation.challenge;
     let phase = conversation.phase;
     let kept = conversation.kept;
+    let last = conversation.last;
     script::put_named(conversation.id, challenge);
     script::put_space();
     script::put_number(conversation.retries as u64);
     put_lm(terms.lm);
-    put_phase(phase, kept)
+    put_phase(phase, kept);
+    script::put_space();
+    put_last(last)
 }
