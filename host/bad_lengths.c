@@ -101,6 +101,7 @@ static size_t step(struct argument *r)
     return mschap_step(BUFFER(0), BUFFER(1), BUFFER(2), BUFFER(3), BUFFER(4));
 }
 static size_t answer_reason(struct argument *r) { return mschap_answer_reason(BUFFER(0)); }
+static size_t answer_repeated(struct argument *r) { return mschap_answer_repeated(BUFFER(0)); }
 static size_t answer_record(struct argument *r)
 {
     return mschap_answer_record(BUFFER(0), BUFFER(1));
@@ -143,7 +144,7 @@ static size_t challenge_response(struct argument *r)
 }
 
 /* What buffers hold, with a byte more for the call that passes one more. The values begin with
-   their kind and version 1. */
+   their kind and its version. */
 static const uint8_t zeros[517];
 static const uint8_t text[5] = {'a', 0xc3, 0xa4, 'b'}; /* a, a with two dots, b */
 static const uint8_t password[517] = {'W', 1, 0, 4, 'a', 0, 0xe4, 0};
@@ -152,9 +153,12 @@ static const uint8_t record[42] = {'R', 1, 1, 1, [20] = 1};
 static const uint8_t nobody[42] = {'R', 1};
 static const uint8_t none_used[29] = {'L', 1, 0, 0};
 static const uint8_t one_used[37] = {'L', 1, 0, 1}; /* by the challenge of bytes 0 */
-static const uint8_t opened[53] = {'C', 1, 2, 1, 7, 2}; /* it awaits a Response, identifier 7 */
-static const uint8_t failed[44] = {'A', 1, 691 >> 8, 691 & 255};
-static const uint8_t changed[44] = {'A', 1, 0, 0, 1};
+static const uint8_t opened[59] = {'C', 2, 2, 1, 7, 2}; /* it awaits a Response, identifier 7 */
+/* it has ended, and answered a Response, identifier 7, with a Failure, R=0 */
+static const uint8_t ended[59] = {'C', 2, 0, 1, 7, [52] = 1, 2, 7, 1, 691 >> 8, 691 & 255};
+static const uint8_t failed[45] = {'A', 2, 0, 691 >> 8, 691 & 255};
+static const uint8_t repeated[45] = {'A', 2, 1, 691 >> 8, 691 & 255};
+static const uint8_t changed[45] = {'A', 2, 0, 0, 0, 1};
 static const uint8_t peer[22] = {'P', 1, 1, 7, [12] = 8}; /* it sent a packet, identifier 7 */
 static const uint8_t response[63] = {2, 7, 0, 62, 49, [53] = 1, 'D', 'O', 'M', '\\', 'U', 's', 'e',
                                      'r'};
@@ -201,25 +205,36 @@ static const struct function {
     {"list_used", list_used, 1, NOT, {{one_used, 36, TOLD}}},
     /* no place used, and three to be used */
     {"open", opening, 0, BAD,
-     {{zeros, 8, FIXED}, {none_used, 28, BAD, 24, 24}, {NULL, 52, FIXED}, {NULL, 17, 2, 2, 0}}},
+     {{zeros, 8, FIXED}, {none_used, 28, BAD, 24, 24}, {NULL, 58, FIXED}, {NULL, 17, 2, 2, 0}}},
     /* one place used, by the same challenge */
     {"open, spent", opening, 16, BAD,
-     {{zeros, 8, FIXED}, {one_used, 36, BAD, 24, 24}, {NULL, 52, FIXED}, {NULL, 17, 2, 2, 16}}},
+     {{zeros, 8, FIXED}, {one_used, 36, BAD, 24, 24}, {NULL, 58, FIXED}, {NULL, 17, 2, 2, 16}}},
     {"open, 8 retries", opening_retries, 13, BAD,
-     {{zeros, 8, FIXED}, {none_used, 28, BAD, 13, 13}, {NULL, 52, FIXED}, {NULL, 17, 13, 13, 13}}},
+     {{zeros, 8, FIXED}, {none_used, 28, BAD, 13, 13}, {NULL, 58, FIXED}, {NULL, 17, 13, 13, 13}}},
     {"open, no terms", opening_terms, BAD, BAD,
-     {{zeros, 8, FIXED}, {none_used, 28, FIXED}, {NULL, 52, FIXED}, {NULL, 17, FIXED}}},
+     {{zeros, 8, FIXED}, {none_used, 28, FIXED}, {NULL, 58, FIXED}, {NULL, 17, FIXED}}},
     {"open, identifier 256", opening_identifier, BAD, BAD,
-     {{zeros, 8, FIXED}, {none_used, 28, FIXED}, {NULL, 52, FIXED}, {NULL, 17, FIXED}}},
+     {{zeros, 8, FIXED}, {none_used, 28, FIXED}, {NULL, 58, FIXED}, {NULL, 17, FIXED}}},
     {"step", step, 0, BAD,
-     {{opened, 52, FIXED}, {response, 62, 3, 3, 0}, {nobody, 41, FIXED}, {NULL, 17, 2, 2, 0},
-     {NULL, 43, FIXED}}},
-    {"answer_reason", answer_reason, 691, NOT, {{failed, 43, TOLD}}},
-    {"answer_record", answer_record, 0, BAD, {{changed, 43, FIXED}, {NULL, 41, FIXED}}},
-    {"answer_record, none", answer_record, 102, BAD, {{failed, 43, FIXED}, {NULL, 41, FIXED}}},
-    {"conversation_awaits", awaits, 2, NOT, {{opened, 52, TOLD}}},
-    {"conversation_identifier", identifier, 7, NOT, {{opened, 52, TOLD}}},
-    {"conversation_retries", retries, 2, NOT, {{opened, 52, TOLD}}},
+     {{opened, 58, FIXED}, {response, 62, 3, 3, 0}, {nobody, 41, FIXED}, {NULL, 17, 2, 2, 0},
+     {NULL, 44, FIXED}}},
+    {"step, a repeat", step, 0, BAD,
+     {{ended, 58, FIXED}, {response, 62, 3, 3, 0}, {nobody, 41, FIXED}, {NULL, 17, 2, 2, 0},
+     {NULL, 44, FIXED}}},
+    {"step, ended", step, 1, BAD,
+     {{ended, 58, FIXED}, {challenge, 13, 3, 3, 1}, {nobody, 41, FIXED}, {NULL, 17, 2, 2, 1},
+     {NULL, 44, FIXED}}},
+    {"answer_reason", answer_reason, 691, NOT, {{failed, 44, TOLD}}},
+    {"answer_repeated", answer_repeated, 1, NOT, {{repeated, 44, TOLD}}},
+    {"answer_repeated, judged", answer_repeated, 0, NOT, {{failed, 44, TOLD}}},
+    {"answer_record", answer_record, 0, BAD, {{changed, 44, FIXED}, {NULL, 41, FIXED}}},
+    {"answer_record, none", answer_record, 102, BAD, {{failed, 44, FIXED}, {NULL, 41, FIXED}}},
+    {"answer_record, a repeat", answer_record, 102, BAD,
+     {{repeated, 44, FIXED}, {NULL, 41, FIXED}}},
+    {"conversation_awaits", awaits, 2, NOT, {{opened, 58, TOLD}}},
+    {"conversation_awaits, ended", awaits, 0, NOT, {{ended, 58, TOLD}}},
+    {"conversation_identifier", identifier, 7, NOT, {{opened, 58, TOLD}}},
+    {"conversation_retries", retries, 2, NOT, {{opened, 58, TOLD}}},
     {"packet_length", packet_length, 62, 0, {{response, 62, 0, 0, 62}}},
     {"account_offset", account_offset, 58, 0, {{response, 62, 0, 0, 58}}},
     {"account_length", account_length, 4, 0, {{response, 62, 0, 0, 4}}},

@@ -61,6 +61,8 @@ struct judged {
 };
 
 static struct judged response, wrong_response, unknown, change;
+/* A packet that is a repeat, and one that is refused. */
+static struct judged repeat, refused;
 
 /* An opening, with the list that is passed to it. */
 struct opening {
@@ -170,6 +172,29 @@ static void our_change(struct work *w, long calls)
     judge(&change, w, calls);
 }
 
+/* Neither changes its conversation. The size in the packet, by which neither is judged, follows
+   from the call before. */
+static void answer_again(struct judged *j, struct work *w, long calls, uint32_t answer)
+{
+    while (calls-- > 0) {
+        j->packet[4] = j->reply[1];
+        w->wrong |= mschap_step(&j->conversation, sizeof j->conversation, j->packet, j->size,
+                                &j->record, sizeof j->record, j->reply, sizeof j->reply,
+                                &j->answer, sizeof j->answer) != answer;
+        w->wrong |= j->reply[0] != j->code;
+    }
+}
+
+static void our_repeat(struct work *w, long calls)
+{
+    answer_again(&repeat, w, calls, MSCHAP_OK);
+}
+
+static void our_refused(struct work *w, long calls)
+{
+    answer_again(&refused, w, calls, MSCHAP_IDENTIFIER);
+}
+
 static void set_used(uint8_t *list, size_t used)
 {
     list[USED] = (uint8_t)(used >> 8);
@@ -230,7 +255,7 @@ static void open_few(struct work *w, long calls)
 static void read_failure(struct work *w, long calls)
 {
     static uint8_t packet[4 + MESSAGE] = {4, 7, (4 + MESSAGE) >> 8, (4 + MESSAGE) & 255};
-    mschap_peer peer = {{'P', MSCHAP_LAYOUT_VERSION, 1}};
+    mschap_peer peer = {{'P', MSCHAP_PEER_LAYOUT, 1}};
     uint32_t call;
     uint64_t reason = 0;
     for (size_t i = 0; i < MESSAGE; i++)
@@ -359,6 +384,8 @@ static struct line {
     {.what = "judged Response, wrong", .run = {our_wrong_response, NULL}},
     {.what = "judged Response, no record", .run = {our_unknown, NULL}},
     {.what = "judged change", .run = {our_change, NULL}},
+    {.what = "repeated Response", .run = {our_repeat, NULL}},
+    {.what = "refused Response", .run = {our_refused, NULL}},
     {.what = "opening, none used", .run = {open_empty, NULL}},
     {.what = "opening, 2,048 used", .run = {open_half, NULL}},
     {.what = "opening, 4,093 used", .run = {open_nearly, NULL}},
@@ -373,10 +400,10 @@ static struct line {
 #define ANSWER 3
 #define HASH_AND_ANSWER 4
 #define RESPONSE 5
-#define OPEN_EMPTY 9
-#define OPEN_NEARLY 11
-#define OPEN_ALIKE 13
-#define OPEN_FEW 14
+#define OPEN_EMPTY 11
+#define OPEN_NEARLY 13
+#define OPEN_ALIKE 15
+#define OPEN_FEW 16
 
 static void begin(struct work *w)
 {
@@ -466,6 +493,15 @@ static uint32_t prepare(const struct work *w)
     unknown = response;
     wrong |= mschap_make_record(0, NULL, 0, NULL, 0, &unknown.record, sizeof unknown.record);
     unknown.code = 4;
+
+    /* the same once it was answered, and under another identifier than the awaited one */
+    repeat = response;
+    wrong |= mschap_step(&repeat.conversation, sizeof repeat.conversation,
+                         repeat.packet, repeat.size, &repeat.record, sizeof repeat.record,
+                         repeat.reply, sizeof repeat.reply, &repeat.answer, sizeof repeat.answer);
+    refused = response;
+    refused.packet[1]++;
+    refused.code = refused.reply[0];
 
     /* the same Response where the password has expired: then a change is awaited */
     change = response;

@@ -1,9 +1,9 @@
 /*
  * A conversation over libmschap.a in one program: an authenticator opens it, a peer answers with a
- * mistyped password and then with the right one, which has expired, and changes it. At the end a
- * second authenticator tries to open with the same challenge, and is refused. The challenge is
- * fixed, so that it prints the same each time; examples/ has the two ends as programs of their own,
- * which draw it.
+ * mistyped password and then with the right one, which has expired, and changes it. Twice it misses
+ * the reply and sends the same packet again. At the end a second authenticator tries to open with
+ * the same challenge, and is refused. The challenge is fixed, so that it prints the same each time;
+ * examples/ has the two ends as programs of their own, which draw it.
  *
  *     cc host/example.c $(pkg-config --cflags --libs mschap)
  */
@@ -39,7 +39,7 @@ static mschap_answer answer;
 static mschap_peer peer;
 static uint8_t packet[MSCHAP_CHANGE_PACKET], reply[MSCHAP_REPLY_SIZE];
 
-/* The authenticator judges the packet, and the peer reads the reply. Returns what it calls for. */
+/* The authenticator answers the packet, and the peer reads the reply. Returns what it calls for. */
 static uint32_t step(const char *what)
 {
     uint32_t call;
@@ -53,10 +53,11 @@ static uint32_t step(const char *what)
                               reply, sizeof reply, &answer, sizeof answer));
     size = mschap_packet_length(reply, sizeof reply);
     show("reply", reply, size);
-    printf("%-28s%u, awaited %u, retries left %u\n", "the authenticator: reason",
+    printf("%-28s%u, awaited %u, retries left %u%s\n", "the authenticator: reason",
            (unsigned)mschap_answer_reason(&answer, sizeof answer),
            (unsigned)mschap_conversation_awaits(&talk, sizeof talk),
-           (unsigned)mschap_conversation_retries(&talk, sizeof talk));
+           (unsigned)mschap_conversation_retries(&talk, sizeof talk),
+           mschap_answer_repeated(&answer, sizeof answer) ? ", again" : "");
     check("read_reply", mschap_read_reply(&peer, sizeof peer, reply, size, &call, &reason));
     printf("%-28s%u, calls for %u\n", "the peer: reason", (unsigned)reason, (unsigned)call);
     return call;
@@ -68,6 +69,7 @@ int main(void)
     static const uint8_t challenge[MSCHAP_CHALLENGE_SIZE] = {0x10, 0x2d, 0xb5, 0xdf,
                                                              0x08, 0x5d, 0x30, 0x41};
     static const uint8_t filler[MSCHAP_FILLER_SIZE];
+    static const uint8_t stray[] = {6, 200, 0, 4}; /* a change with another identifier */
     static const uint8_t name[] = {'D', 'O', 'M', '\\', 'U', 's', 'e', 'r'};
     static uint8_t list[MSCHAP_LIST_SIZE(8)];
     mschap_password password, mistyped;
@@ -106,9 +108,12 @@ int main(void)
                                 name, sizeof name, packet, sizeof packet));
     if (step("Response, expired") != MSCHAP_CALL_CHANGE)
         return 1;
-    /* a packet that is refused changes nothing */
-    printf("%-28s%u\n", "the same Response again",
-           (unsigned)mschap_step(&talk, sizeof talk, packet, sizeof packet, &record, sizeof record,
+    /* the peer missed the reply: it gets the same one again, and nothing is judged */
+    if (step("the same Response again") != MSCHAP_CALL_CHANGE)
+        return 1;
+    /* a packet that is refused gets no reply, and changes nothing */
+    printf("%-28s%u\n", "a stray packet",
+           (unsigned)mschap_step(&talk, sizeof talk, stray, sizeof stray, &record, sizeof record,
                                  reply, sizeof reply, &answer, sizeof answer));
 
     check("write_change",
@@ -121,6 +126,11 @@ int main(void)
     check("read_record", mschap_read_record(&record, sizeof record, &flags, &hash, sizeof hash,
                                             &lm_hash, sizeof lm_hash));
     show("the new NT hash", hash.bytes, sizeof hash);
+    /* the peer missed Success: it gets it again, and there is no record to be stored again */
+    if (step("the same change again") != MSCHAP_CALL_NONE)
+        return 1;
+    printf("%-28s%u\n", "its record",
+           (unsigned)mschap_answer_record(&answer, sizeof answer, &record, sizeof record));
 
     /* a second authenticator, which shares the same list */
     printf("%-28s%u\n", "the same challenge again",

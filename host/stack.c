@@ -220,7 +220,7 @@ static uint8_t *give_password(int i, const uint8_t *characters, size_t size)
     uint8_t *password = give(i, MSCHAP_PASSWORD_SIZE);
     memset(password, 0, MSCHAP_PASSWORD_SIZE);
     password[0] = 'W';
-    password[1] = MSCHAP_LAYOUT_VERSION;
+    password[1] = MSCHAP_PASSWORD_LAYOUT;
     password[2] = (uint8_t)(size >> 8);
     password[3] = (uint8_t)size;
     memcpy(password + 4, characters, size);
@@ -337,7 +337,7 @@ static uint8_t *give_list(size_t places, size_t used, int alike)
     const uint8_t *challenge = give(0, MSCHAP_CHALLENGE_SIZE);
     uint8_t *list = give(1, MSCHAP_LIST_SIZE(places));
     list[0] = 'L';
-    list[1] = MSCHAP_LAYOUT_VERSION;
+    list[1] = MSCHAP_LIST_LAYOUT;
     list[2] = (uint8_t)(used >> 8);
     list[3] = (uint8_t)used;
     for (size_t i = 0; alike && i < used; i++)
@@ -398,6 +398,7 @@ static void try_openings(void)
 
 CALL(mschap_step, BUFFER(0), BUFFER(1), BUFFER(2), BUFFER(3), BUFFER(4))
 CALL(mschap_answer_reason, BUFFER(0))
+CALL(mschap_answer_repeated, BUFFER(0))
 CALL(mschap_answer_record, BUFFER(0), BUFFER(1))
 CALL(mschap_conversation_awaits, BUFFER(0))
 CALL(mschap_conversation_identifier, BUFFER(0))
@@ -414,23 +415,27 @@ static mschap_lmhash lan;
 static uint8_t challenge[MSCHAP_CHALLENGE_SIZE];
 
 /* A conversation, behind its kind and version: the awaited code, LM, identifier, retries, the
-   challenge and the account that is kept, which is as in a record from NT on. */
+   challenge, the account that is kept, which is as in a record from NT on, and the last answer:
+   whether there is one, code, identifier, which reply (0: Success, 1: Failure, 2: with a retry) and
+   the reason in two bytes. */
 #define AWAITED 2
 #define LM_ALLOWED 3
 #define RETRIES 5
 #define CHALLENGE 6
 #define KEPT 14
+#define ANSWERED 52
+#define REPLY 55
 
 /* A conversation that awaits a packet of that code with identifier 7, LM allowed and 2 retries
    left, and a record with both hashes and no flag. */
 static void give_step(uint8_t code)
 {
-    const uint8_t front[] = {'C', MSCHAP_LAYOUT_VERSION, code, 1, 7, 2};
+    const uint8_t front[] = {'C', MSCHAP_CONVERSATION_LAYOUT, code, 1, 7, 2};
     uint8_t *conversation = give(0, MSCHAP_CONVERSATION_SIZE);
     uint8_t *record = give(2, MSCHAP_RECORD_SIZE);
     memset(record, 0, MSCHAP_RECORD_SIZE);
     record[0] = 'R';
-    record[1] = MSCHAP_LAYOUT_VERSION;
+    record[1] = MSCHAP_RECORD_LAYOUT;
     record[FOUND] = record[NT] = record[LM] = 1;
     memcpy(record + NT + 1, &nt, sizeof nt);
     memcpy(record + LM + 1, &lan, sizeof lan);
@@ -547,6 +552,27 @@ static void try_judged(void)
     }
 }
 
+/* Each reply again, to packets of each size, whatever is awaited. */
+static void try_repeated(void)
+{
+    static const uint8_t replies[][3] = {
+        {0, 0, 0}, {1, 691 >> 8, 691 & 255}, {2, 691 >> 8, 691 & 255}, {1, 255, 255},
+    };
+    static const uint8_t awaited[] = {
+        MSCHAP_AWAITS_NOTHING, MSCHAP_AWAITS_RESPONSE, MSCHAP_AWAITS_CHANGE,
+    };
+    for (size_t r = 0; r < LENGTH(replies); r++)
+        for (size_t a = 0; a < LENGTH(awaited); a++)
+            for (size_t n = 4; n <= MSCHAP_CHANGE_PACKET; n++) {
+                const uint8_t last[] = {1, (uint8_t)(n % 2 ? 2 : 6), 7};
+                give_step(awaited[a]);
+                memcpy(given[0].octets + ANSWERED, last, sizeof last);
+                memcpy(given[0].octets + REPLY, replies[r], sizeof replies[r]);
+                give_packet(1, last[1], n);
+                try_step(replies[r][0] == 0 ? 3 : 4);
+            }
+}
+
 /* What tells something of a conversation or an answer, in the place of the first buffer. */
 static void try_told(const struct buffer *value, int valid)
 {
@@ -554,6 +580,7 @@ static void try_told(const struct buffer *value, int valid)
     give(1, MSCHAP_RECORD_SIZE);
     if (value->size == MSCHAP_ANSWER_SIZE) {
         TRY(mschap_answer_reason, valid ? ANY : MSCHAP_INVALID);
+        TRY(mschap_answer_repeated, valid ? ANY : MSCHAP_INVALID);
         TRY(mschap_answer_record, valid ? ANY : MSCHAP_BAD_ARGUMENT);
         return;
     }
@@ -563,7 +590,7 @@ static void try_told(const struct buffer *value, int valid)
 }
 
 /* The answers of a judged Response and of an accepted change, and both conversations; and these
-   with a byte that no value has. */
+   with a byte that no value has: the version of another layout. */
 static void try_values(void)
 {
     static struct buffer values[4];
@@ -579,7 +606,7 @@ static void try_values(void)
     }
     for (size_t v = 0; v < LENGTH(values); v++) {
         try_told(&values[v], 1);
-        values[v].octets[values[v].size - 1] = 2;
+        values[v].octets[1] ^= 1;
         try_told(&values[v], 0);
         values[v].octets[0] = 0;
         try_told(&values[v], 0);
@@ -599,12 +626,12 @@ static void try_refused(void)
     TRY(mschap_step, MSCHAP_IDENTIFIER);
     given[1].octets[0] = 3;
     TRY(mschap_step, MSCHAP_CODE);
+    given[0].octets[AWAITED] = MSCHAP_AWAITS_NOTHING;
+    TRY(mschap_step, MSCHAP_ENDED);
     given[1].size = 3;
     TRY(mschap_step, MSCHAP_FRAME);
     given[3].size = MSCHAP_REPLY_SIZE - 1;
     TRY(mschap_step, MSCHAP_REPLY_ROOM);
-    given[0].octets[AWAITED] = MSCHAP_AWAITS_NOTHING;
-    TRY(mschap_step, MSCHAP_ENDED);
     given[2].octets[FOUND] = 2;
     TRY(mschap_step, MSCHAP_BAD_ARGUMENT);
 }
@@ -632,6 +659,7 @@ static void try_steps(void)
     for (size_t i = 0; i < sizeof challenge; i++)
         challenge[i] = draw();
     try_judged();
+    try_repeated();
     try_values();
     try_refused();
     try_names();
@@ -647,7 +675,7 @@ CALL(mschap_write_change, BUFFER(0), BUFFER(1), BUFFER(2), BUFFER(3), BUFFER(4))
 /* It sent a packet with the identifier 7. */
 static void give_peer(size_t i)
 {
-    static const uint8_t front[] = {'P', MSCHAP_LAYOUT_VERSION, 1, 7};
+    static const uint8_t front[] = {'P', MSCHAP_PEER_LAYOUT, 1, 7};
     memcpy(give(i, MSCHAP_PEER_SIZE), front, sizeof front);
 }
 

@@ -55,7 +55,7 @@ static void nobody(void)
 {
     memset(&found, 0, sizeof found);
     record[0] = 'R';
-    record[1] = MSCHAP_LAYOUT_VERSION;
+    record[1] = MSCHAP_RECORD_LAYOUT;
 }
 
 /* A record that was found, with both hashes; a packet with both responses right, which is judged
@@ -66,7 +66,7 @@ static void rightful(void)
     static const uint8_t name[] = {'D', 'O', 'M', '\\', 'U', 's', 'e', 'r'};
     memset(&talk, 0, sizeof talk);
     conversation[0] = 'C';
-    conversation[1] = MSCHAP_LAYOUT_VERSION;
+    conversation[1] = MSCHAP_CONVERSATION_LAYOUT;
     conversation[AWAITED] = MSCHAP_AWAITS_RESPONSE;
     conversation[LM_ALLOWED] = 1;
     conversation[IDENTIFIER] = 7;

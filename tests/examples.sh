@@ -38,7 +38,8 @@ done
 mkfifo "$scratch/to" "$scratch/from"
 
 # One conversation: how many places are used then, the exit status of both, the reasons that the
-# authenticator gives and the words of the peer, and the peer's arguments.
+# authenticator gives and the words of the peer, and the peer's arguments. Where its first one is
+# --lossy, each reply is lost once, and the authenticator gives it again.
 converse() {
     used=$1 status=$2 reasons=$3 words=$4
     shift 4
@@ -55,11 +56,16 @@ converse() {
     wait $authenticator || own_status=$?
     [ "$own_status $peer_status" = "$status $status" ] \
         || fail "exit status $own_status and $peer_status, and not $status"
-    { echo "places used: $used" && printf '%s\n' $reasons | sed 's/^/reason: /'; } \
-        > "$scratch/expected"
+    if [ "$1" = --lossy ]; then
+        given=$(printf '%s\n' $reasons | sed 's/.*/reason: &\nreason: &, again/')
+    else
+        given=$(printf '%s\n' $reasons | sed 's/^/reason: /')
+    fi
+    { echo "places used: $used" && echo "$given"; } > "$scratch/expected"
     diff "$scratch/expected" "$scratch/authenticator.log" || fail 'the authenticator says otherwise'
     { printf '%s\n' $reasons | sed 's/^/reason: /' && echo "$words"; } > "$scratch/expected"
-    grep -v 'the password has expired, and is changed' "$scratch/peer.log" > "$scratch/said" || :
+    grep -v -e 'the password has expired, and is changed' -e '^no reply: sent again$' \
+        "$scratch/peer.log" > "$scratch/said" || :
     diff "$scratch/expected" "$scratch/said" || fail 'the peer says otherwise'
 }
 mkdir "$scratch/accounts"
@@ -69,13 +75,19 @@ grep -q 'is changed' "$scratch/peer.log" || fail 'the password was not changed'
 converse 6 0 0 in 'Jürgen' unused 'Blaugrün 🔑'
 converse 9 1 '691 691 691' 'not let in' 'DOM\Jürgen' unused 'Grün 1' 'Grün 1' 'Grün 1'
 converse 12 1 '691 691 691' 'not let in' 'nobody' unused 'Grün 1' 'Grün 1' 'Grün 1'
+# The phone that missed each reply, Success too; then one whose password has expired.
+converse 15 0 '691 0' in --lossy 'Jürgen' unused 'Grün 1' 'Blaugrün 🔑'
+"$scratch/authenticator" "$scratch/accounts" 'Jürgen' 'Grün 1'
+converse 18 0 '691 648 0' in --lossy 'Jürgen' 'Blaugrün 🔑' 'grün 1' 'Grün 1'
+[ "$(grep -c '^no reply: sent again$' "$scratch/peer.log")" = 3 ] || fail 'no packet was sent again'
+converse 21 0 0 in 'Jürgen' unused 'Blaugrün 🔑'
 
 # The list is stored before the Challenge is sent: where nothing can be sent, it has grown.
 status=0
 "$scratch/authenticator" "$scratch/accounts" < /dev/null > /dev/full 2> "$scratch/full.log" \
     || status=$?
 [ $status -eq 2 ] || fail "exit status $status where nothing can be sent"
-converse 18 0 0 in 'Jürgen' unused 'Blaugrün 🔑'
+converse 27 0 0 in 'Jürgen' unused 'Blaugrün 🔑'
 
 [ ! -e "$scratch/accounts/new" ] || fail 'a temporary file is left'
 stored=$(find "$scratch/accounts" -type f | wc -l)
@@ -121,6 +133,7 @@ for line in \
     'Failure, identifier [0-9]*, 17 bytes: "E=691 R=1 V=2"' \
     'Failure, identifier [0-9]*, 17 bytes: "E=648 R=0 V=2"' \
     'authenticator  refuses the packet with 4' \
+    'authenticator  has judged nothing: this is its last reply again' \
     'change of the password, identifier [0-9]*, 1118 bytes' \
     'authenticator  stores the account with its new password' \
     'Failure, identifier [0-9]*, 17 bytes: "E=691 R=0 V=2"' \
@@ -128,6 +141,9 @@ for line in \
     grep -q "$line" "$scratch/bench.log" || fail "$script does not print: $line"
 done
 [ "$(grep -c '^peer *is in$' "$scratch/bench.log")" = 2 ] || fail "$script: not let in twice"
+[ "$(grep -c 'its last reply again$' "$scratch/bench.log")" = 3 ] \
+    || fail "$script: not each last reply is given again"
+[ "$(grep -c 'stores the account' "$scratch/bench.log")" = 1 ] || fail "$script stores it twice"
 cp "$script" "$folder/lib/libmschap.so" "$scratch"
 (cd / && python3 "$scratch/bench.py" > /dev/null) || fail "$script: no library found beside it"
 echo "examples: $script plays both ends"

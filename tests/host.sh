@@ -26,13 +26,13 @@ extern uint8_t packet[MSCHAP_CHANGE_PACKET];
 size_t receive(uint8_t *into);
 void send(const uint8_t *bytes, size_t bytes_size);
 void store(mschap_record record);
-uint32_t quick_start(void);
-uint32_t quick_start(void)
+void decide(int in);
+void quick_start(void);
+void quick_start(void)
 {
     size_t size;
 END
     sed -n '/^ \* QUICK START/,/^ \* Check each/s/^ \*     //p' "$header"
-    echo '    return mschap_answer_reason(&answer, sizeof answer);'
     echo '}'
 } > "$quick"
 [ "$(grep -c mschap_ "$quick")" -ge 15 ] || { echo 'host: no quick start in the header'; exit 1; }

@@ -115,7 +115,7 @@ int main(int argc, char **argv)
     mschap_record record;
     mschap_answer answer;
     uint8_t packet[MSCHAP_CHANGE_PACKET], reply[MSCHAP_REPLY_SIZE];
-    uint32_t awaited, number;
+    uint32_t number;
     size_t size;
 
     if ((argc != 2 && argc != 4) || chdir(argv[1]) != 0)
@@ -126,10 +126,11 @@ int main(int argc, char **argv)
     }
     open_conversation(&talk, reply, sizeof reply);
     send_packet(reply, sizeof reply);
-    while ((awaited = mschap_conversation_awaits(&talk, sizeof talk)) != MSCHAP_AWAITS_NOTHING) {
-        size = receive_packet(packet, sizeof packet);
+    /* Every packet, as long as the link is up, also when nothing is awaited: a peer that missed the
+       last reply sends its packet again, and gets the same reply again. */
+    while ((size = receive_packet(packet, sizeof packet)) > 0) {
         /* A change has no name: it is for the account that was looked up for the last Response. */
-        if (awaited == MSCHAP_AWAITS_RESPONSE)
+        if (mschap_conversation_awaits(&talk, sizeof talk) == MSCHAP_AWAITS_RESPONSE)
             look_up(packet, size, &record);
         number = mschap_step(&talk, sizeof talk, packet, size, &record, sizeof record,
                              reply, sizeof reply, &answer, sizeof answer);
@@ -142,7 +143,12 @@ int main(int argc, char **argv)
         if (mschap_answer_record(&answer, sizeof answer, &record, sizeof record) == MSCHAP_OK)
             store(file, &record, sizeof record);
         send_packet(reply, sizeof reply);
-        fprintf(stderr, "reason: %u\n", (unsigned)mschap_answer_reason(&answer, sizeof answer));
+        fprintf(stderr, "reason: %u%s\n", (unsigned)mschap_answer_reason(&answer, sizeof answer),
+                mschap_answer_repeated(&answer, sizeof answer) ? ", again" : "");
     }
+    /* A real program lets the peer in as soon as nothing is awaited. This one tells it in the end:
+       after the last judgement there are only repeats of it, so the reason is still the same. */
+    if (mschap_conversation_awaits(&talk, sizeof talk) != MSCHAP_AWAITS_NOTHING)
+        die("the other end has hung up");
     return mschap_answer_reason(&answer, sizeof answer) == MSCHAP_SUCCESS ? 0 : 1;
 }

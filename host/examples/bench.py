@@ -4,11 +4,12 @@
     bench.py [LIBRARY]
 
 An authenticator challenges, and a peer answers with a mistyped password, then with the right one,
-which has expired, and changes it; then both talk again with the new password. Each packet is
-printed with what it means. LIBRARY is libmschap.so; without it, the one beside this script or in
-../lib. Nothing but the standard library of Python 3 is needed.
+which has expired, and changes it; then both talk again with the new password. The peer misses the
+last reply of each conversation, and gets it again. Each packet is printed with what it means.
+LIBRARY is libmschap.so; without it, the one beside this script or in ../lib. Nothing but the
+standard library of Python 3 is needed.
 
-Change it and see: try a password of your own, allow no retry (RETRIES), send a packet twice.
+Change it and see: try a password of your own, allow no retry (RETRIES), send other packets again.
 """
 import ctypes
 import os
@@ -32,8 +33,8 @@ MSCHAP_HASH_SIZE = 16
 MSCHAP_CHALLENGE_SIZE = 8
 MSCHAP_FILLER_SIZE = 512
 MSCHAP_RECORD_SIZE = 41
-MSCHAP_CONVERSATION_SIZE = 52
-MSCHAP_ANSWER_SIZE = 43
+MSCHAP_CONVERSATION_SIZE = 58
+MSCHAP_ANSWER_SIZE = 44
 MSCHAP_PEER_SIZE = 21
 MSCHAP_PASSWORD_SIZE = 516
 MSCHAP_REPLY_SIZE = 17
@@ -159,6 +160,9 @@ class Authenticator:
             print(f'authenticator  refuses the packet with {number}: no reply, nothing has changed')
             return None
         show('authenticator', packet_in(reply))
+        if call('answer_repeated', answer):
+            print('authenticator  has judged nothing: this is its last reply again')
+            return packet_in(reply)
         if call('answer_record', answer, self.record) == MSCHAP_OK:
             print('authenticator  stores the account with its new password')
         if call('conversation_awaits', self.talk) == MSCHAP_AWAITS_NOTHING:
@@ -192,17 +196,21 @@ class Peer:
 def converse(authenticator, tries, new):
     """A peer answers with each password in turn, and changes one that has expired."""
     peer = Peer(authenticator.open())
+    sent = []
     for text in tries:
         print(f'peer           answers with the password "{text}"')
         old = password_of(text)
-        response = peer.respond(old)
-        calls_for = peer.read(authenticator.judge(response))
+        sent.append(peer.respond(old))
+        calls_for = peer.read(authenticator.judge(sent[-1]))
         if calls_for != MSCHAP_CALL_RESPONSE:
             break
     if calls_for == MSCHAP_CALL_CHANGE:
-        authenticator.judge(response)  # the same once more: refused
+        authenticator.judge(sent[0])  # not the last one: refused
         print(f'peer           changes the password to "{new}"')
-        calls_for = peer.read(authenticator.judge(peer.change(old, password_of(new))))
+        sent.append(peer.change(old, password_of(new)))
+        calls_for = peer.read(authenticator.judge(sent[-1]))
+    print('peer           has missed the reply, and sends the same packet again')
+    calls_for = peer.read(authenticator.judge(sent[-1]))
     print('peer          ', 'is in' if calls_for == MSCHAP_CALL_NONE else 'is not let in')
     return calls_for == MSCHAP_CALL_NONE
 

@@ -4,6 +4,8 @@
  *
  *     peer NAME NEW PASSWORD ..    answers with each PASSWORD in turn, as a user who mistypes it;
  *                                  where it has expired, changes it to NEW
+ *     peer --lossy NAME NEW ..     the same on a bad line, which loses the first reply to each
+ *                                  packet: the packet is sent again
  *
  * A real program does not take a password from the command line, where others can see it.
  */
@@ -13,6 +15,7 @@
 #include <string.h>
 
 static mschap_peer peer;
+static int lossy;
 
 /* Reads the reply to what was sent last. A packet that is refused is passed over: it may be an old
    one that was late. */
@@ -23,10 +26,26 @@ static uint32_t await_reply(void)
     uint64_t reason;
     do {
         size_t size = receive_packet(packet, sizeof packet);
+        if (size == 0)
+            die("the other end has hung up");
         number = mschap_read_reply(&peer, sizeof peer, packet, size, &call, &reason);
     } while (number != MSCHAP_OK);
     fprintf(stderr, "reason: %lu\n", (unsigned long)reason);
     return call;
+}
+
+/* Sends a packet, and reads the reply to it. Where no reply comes, the same bytes are sent again (a
+   real program waits for some seconds): the authenticator gives the same reply again, and judges
+   nothing twice. */
+static uint32_t exchange(const uint8_t *packet, size_t packet_size)
+{
+    uint8_t lost[MSCHAP_REPLY_SIZE];
+    send_packet(packet, packet_size);
+    if (lossy && receive_packet(lost, sizeof lost) > 0) {
+        fprintf(stderr, "no reply: sent again\n");
+        send_packet(packet, packet_size);
+    }
+    return await_reply();
 }
 
 static uint32_t respond(const char *name, const mschap_password *password)
@@ -36,8 +55,7 @@ static uint32_t respond(const char *name, const mschap_password *password)
                               (const uint8_t *)name, strlen(name),
                               packet, sizeof packet) != MSCHAP_OK)
         die("a name that is empty or too long");
-    send_packet(packet, sizeof packet);
-    return await_reply();
+    return exchange(packet, sizeof packet);
 }
 
 static uint32_t change(const mschap_password *password, const char *text)
@@ -50,8 +68,7 @@ static uint32_t change(const mschap_password *password, const char *text)
                             &renewed, sizeof renewed, filler, sizeof filler,
                             packet, sizeof packet) != MSCHAP_OK)
         die("the change cannot be written");
-    send_packet(packet, sizeof packet);
-    return await_reply();
+    return exchange(packet, sizeof packet);
 }
 
 int main(int argc, char **argv)
@@ -62,8 +79,13 @@ int main(int argc, char **argv)
     size_t size;
     int next = 3;
 
+    if (argc > 1 && strcmp(argv[1], "--lossy") == 0) {
+        lossy = 1;
+        argc--;
+        argv++;
+    }
     if (argc < 4)
-        die("usage: peer NAME NEW PASSWORD ..");
+        die("usage: peer [--lossy] NAME NEW PASSWORD ..");
     size = receive_packet(packet, sizeof packet);
     if (mschap_read_challenge(packet, size, &peer, sizeof peer) != MSCHAP_OK)
         die("no Challenge");

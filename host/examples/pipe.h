@@ -49,15 +49,15 @@ static void send_packet(const uint8_t *buffer, size_t buffer_size)
         die("the other end does not read");
 }
 
-/* Receives a packet, and returns its size. */
+/* Receives a packet, and returns its size; 0 if the other end has hung up. */
 static size_t receive_packet(uint8_t *packet, size_t room)
 {
     uint8_t head[2];
     size_t size;
     if (!read_all(STDIN_FILENO, head, sizeof head))
-        die("the other end has hung up");
+        return 0;
     size = (size_t)head[0] << 8 | head[1];
-    if (size > room || !read_all(STDIN_FILENO, packet, size))
+    if (size == 0 || size > room || !read_all(STDIN_FILENO, packet, size))
         die("the other end sends too much, or too little");
     return size;
 }

@@ -18,16 +18,19 @@
  *     mschap_open(1, MSCHAP_TERMS, challenge, sizeof challenge, list, sizeof list,
  *                 &talk, sizeof talk, reply, sizeof reply);
  *     send(reply, mschap_packet_length(reply, sizeof reply));
- *     while (mschap_conversation_awaits(&talk, sizeof talk) != MSCHAP_AWAITS_NOTHING) {
- *         size = receive(packet);       // who it is: mschap_account_offset, mschap_account_length
+ *     while ((size = receive(packet)) != 0) {             // each packet, while the link is up
+ *         // who it is: mschap_account_offset, mschap_account_length
  *         if (mschap_step(&talk, sizeof talk, packet, size, &record, sizeof record,
  *                         reply, sizeof reply, &answer, sizeof answer) != MSCHAP_OK)
  *             continue;                                   // refused: nothing has changed
  *         if (mschap_answer_record(&answer, sizeof answer, &record, sizeof record) == MSCHAP_OK)
  *             store(record);                              // an accepted change of the password
  *         send(reply, mschap_packet_length(reply, sizeof reply));
+ *         if (mschap_answer_repeated(&answer, sizeof answer))
+ *             continue;                                   // the peer had missed the last reply
+ *         if (mschap_conversation_awaits(&talk, sizeof talk) == MSCHAP_AWAITS_NOTHING)
+ *             decide(mschap_answer_reason(&answer, sizeof answer) == MSCHAP_SUCCESS); // in or not
  *     }
- *     // in, if mschap_answer_reason(&answer, sizeof answer) is MSCHAP_SUCCESS
  *
  * Check each return value. examples/authenticator.c and examples/peer.c are whole programs.
  *
@@ -48,9 +51,11 @@
  * VALUES
  *   Accounts, conversations and so on are passed as values of the types below: bytes that only this
  *   library makes and reads. They hold no pointer, so they may be copied, stored and read again.
- *   Each begins with its kind and the version of its layout, MSCHAP_LAYOUT_VERSION; one of another
- *   kind or version, of another size or with bytes that no value has is refused with
- *   MSCHAP_BAD_ARGUMENT. Bytes are not signed: store values where nobody else writes.
+ *   Each begins with its kind and the version of that kind's layout, MSCHAP_RECORD_LAYOUT and so
+ *   on; one of another kind or version, of another size or with bytes that no value has is refused
+ *   with MSCHAP_BAD_ARGUMENT. 0.3.0 has new layouts of conversations and answers: those that 0.2.0
+ *   stored are refused, and its records, peers, passwords and lists stay valid.
+ *   Bytes are not signed: store values where nobody else writes.
  *   Arguments that are exchanged by mistake are refused, or are no C: GCC 14 says so by default,
  *   and other compilers with -Werror=incompatible-pointer-types.
  *
@@ -65,8 +70,10 @@
  *   knows is in the value that the caller keeps, and which challenges were issued is in the list
  *   that the caller passes. So calls on different buffers may be made at the same time, and a
  *   conversation or a peer may be stored and continued later. Do not continue a conversation from
- *   two copies: each would take an answer to the same challenge. Secrets that pass through are left
- *   on the stack; the library does not wipe them.
+ *   two copies: each would take an answer to the same challenge. Store the conversation that a step
+ *   leaves before its reply is sent: after a restart, one that was stored before the step would
+ *   judge the packet again, and not repeat the reply. Secrets that pass through are left on the
+ *   stack; the library does not wipe them.
  *
  * STACK
  *   Provide MSCHAP_STACK_SIZE bytes of stack for any call, whatever its input is. That is at least
@@ -87,11 +94,18 @@ extern "C" {
 
 /* ---- versions */
 
-#define MSCHAP_VERSION 0x000200      /* of this interface: major, minor, patch, a byte each */
-#define MSCHAP_VERSION_TEXT "0.2.0"
-#define MSCHAP_LAYOUT_VERSION 1      /* of the values that are stored */
+#define MSCHAP_VERSION 0x000300      /* of this interface: major, minor, patch, a byte each */
+#define MSCHAP_VERSION_TEXT "0.3.0"
 
-/* ---- what a function returns */
+/* of the layout of each kind of value */
+#define MSCHAP_RECORD_LAYOUT 1
+#define MSCHAP_CONVERSATION_LAYOUT 2 /* since 0.3.0, with the last answer */
+#define MSCHAP_ANSWER_LAYOUT 2       /* since 0.3.0, with whether it is a repeat */
+#define MSCHAP_PEER_LAYOUT 1
+#define MSCHAP_PASSWORD_LAYOUT 1
+#define MSCHAP_LIST_LAYOUT 1
+
+/* ---- what a function returns; 1 and 4 to 7 of a step are for a packet that is no repeat */
 
 #define MSCHAP_OK 0
 #define MSCHAP_ENDED 1           /* the conversation has ended */
@@ -172,8 +186,8 @@ extern "C" {
 #define MSCHAP_RESPONSE_SIZE 24
 #define MSCHAP_FILLER_SIZE 512
 #define MSCHAP_RECORD_SIZE 41
-#define MSCHAP_CONVERSATION_SIZE 52
-#define MSCHAP_ANSWER_SIZE 43
+#define MSCHAP_CONVERSATION_SIZE 58
+#define MSCHAP_ANSWER_SIZE 44
 #define MSCHAP_PEER_SIZE 21
 #define MSCHAP_PASSWORD_SIZE 516
 #define MSCHAP_LIST_PLACES 4096                        /* the most places of a list */
@@ -323,19 +337,28 @@ uint32_t mschap_open(uint32_t identifier, uint32_t terms,
 /* One step of a conversation: packet was received, and record is what the lookup of its name found
    (mschap_account_offset and the three functions below it tell where the parts of the name are).
    Writes the next conversation over this one; at the front of reply the Success or Failure to
-   send; and the answer, which tells the reason and whether there is a record to be stored.
+   send; and the answer, which tells the reason, whether the reply is a repeat, and whether there
+   is a record to be stored.
+
+   A repeat is a packet with the code and the identifier of the packet that was answered last,
+   whatever else is in it: the peer has missed the reply (RFC 1994). It draws the same reply
+   again, between two tries and after the end alike. It is not judged: record is ignored (it must
+   be valid, and any will do), the conversation stays as it was, and there is no record to be
+   stored. mschap_answer_repeated tells it. The conversation itself keeps the last reply, and no
+   earlier one, so a program needs no memory of its own for that: it keeps the conversation as long
+   as the link is up, and passes every CHAP packet to mschap_step, also when nothing is awaited.
 
    A change of the password has no name. While one is awaited, record is ignored (it must be valid,
    and any will do): the account is the one whose Response drew MSCHAP_E_PASSWD_EXPIRED. So
    remember with the conversation whose it is: its record is the one that mschap_answer_record
    gives after an accepted change.
 
-   Returns MSCHAP_OK if the packet is judged, with Success or Failure. Returns MSCHAP_ENDED,
-   MSCHAP_REPLY_ROOM, MSCHAP_FRAME, MSCHAP_CODE, MSCHAP_IDENTIFIER, MSCHAP_SIZE or MSCHAP_FLAGS,
-   the first that applies, if the packet is refused: send no reply; the conversation goes on as if
-   it had not come. Returns MSCHAP_BAD_ARGUMENT for an invalid conversation or record, or an answer
-   of another size.
-   Stack: 5,032 bytes. */
+   Returns MSCHAP_OK if there is a reply to send, Success or Failure: the packet was judged, or is
+   a repeat. Else the packet is refused: send no reply; the conversation goes on as if it had not
+   come. Returns then the first of these that applies: MSCHAP_REPLY_ROOM; MSCHAP_FRAME; and, unless
+   the packet is a repeat, MSCHAP_ENDED; MSCHAP_CODE; MSCHAP_IDENTIFIER; MSCHAP_SIZE; MSCHAP_FLAGS.
+   Returns MSCHAP_BAD_ARGUMENT for an invalid conversation or record, or an answer of another size.
+   Stack: 5,064 bytes. */
 uint32_t mschap_step(mschap_conversation *conversation, size_t conversation_size,
                      const uint8_t *packet, size_t packet_size,
                      const mschap_record *record, size_t record_size,
@@ -343,11 +366,19 @@ uint32_t mschap_step(mschap_conversation *conversation, size_t conversation_size
                      mschap_answer *answer, size_t answer_size);
 
 /* Returns the reason that a step's reply gives: MSCHAP_SUCCESS, or the Failure's, one of
-   MSCHAP_E_..; MSCHAP_INVALID for an invalid answer.
+   MSCHAP_E_.. (a repeat has the reason of the reply that it repeats); MSCHAP_INVALID for an invalid
+   answer.
    Stack: 336 bytes. */
 uint32_t mschap_answer_reason(const mschap_answer *answer, size_t answer_size);
 
-/* The record after an accepted change of the password: store it in the place of the account's.
+/* Returns whether a step's reply was the last one again: 1 for a repeat, which was not judged, so
+   that nothing is to be stored or decided; 0 if the packet was judged; MSCHAP_INVALID for an
+   invalid answer.
+   Stack: 336 bytes. */
+uint32_t mschap_answer_repeated(const mschap_answer *answer, size_t answer_size);
+
+/* The record after an accepted change of the password: store it in the place of the account's. A
+   repeat of the change gives none: its record was given when it was judged.
    Returns MSCHAP_OK, with the record; MSCHAP_NO_RECORD if nothing is to be stored;
    MSCHAP_BAD_ARGUMENT for an invalid answer, or unless record is MSCHAP_RECORD_SIZE bytes.
    Stack: 352 bytes. */
@@ -356,18 +387,18 @@ uint32_t mschap_answer_record(const mschap_answer *answer, size_t answer_size,
 
 /* Returns what a conversation awaits: MSCHAP_AWAITS_RESPONSE, MSCHAP_AWAITS_CHANGE or
    MSCHAP_AWAITS_NOTHING; MSCHAP_INVALID for an invalid conversation.
-   Stack: 352 bytes. */
+   Stack: 384 bytes. */
 uint32_t mschap_conversation_awaits(const mschap_conversation *conversation,
                                     size_t conversation_size);
 
 /* Returns the identifier of the packet that is awaited, 0 to 255 (of the last one, if none is);
    MSCHAP_INVALID for an invalid conversation.
-   Stack: 352 bytes. */
+   Stack: 384 bytes. */
 uint32_t mschap_conversation_identifier(const mschap_conversation *conversation,
                                         size_t conversation_size);
 
 /* Returns how many retries are left; MSCHAP_INVALID for an invalid conversation.
-   Stack: 352 bytes. */
+   Stack: 384 bytes. */
 uint32_t mschap_conversation_retries(const mschap_conversation *conversation,
                                      size_t conversation_size);
 

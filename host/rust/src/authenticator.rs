@@ -35,14 +35,18 @@ impl Terms {
     }
 }
 
-/// All that the authenticator keeps between two packets. It may be stored and continued later. It
-/// is continued once, since from two copies it would take two answers to one challenge.
+/// All that the authenticator keeps between two packets, its last reply among them. It may be
+/// stored and continued later. It is continued once, since from two copies it would take two
+/// answers to one challenge.
 #[derive(Clone, Copy, Debug, PartialEq, Eq)]
 pub struct Conversation([u8; sys::CONVERSATION_SIZE]);
 
-/// A packet that was judged.
+/// What a packet drew that was not refused.
 #[derive(Clone, Copy, Debug, PartialEq, Eq)]
-pub struct Judged {
+pub struct Answer {
+    /// The reply is the last one again: the packet was not judged, and nothing is to be stored or
+    /// decided.
+    pub repeated: bool,
     /// The reason that the reply gives: Success, or the Failure's.
     pub reason: Reason,
     /// The size of the reply, which is at the front of the buffer.
@@ -81,12 +85,16 @@ impl Conversation {
     /// ignored while a change is awaited). Writes the Success or Failure to be sent at the front of
     /// `reply` ([`REPLY_SIZE`](crate::REPLY_SIZE) bytes or more). A packet that is refused gets no
     /// reply and changes nothing.
+    ///
+    /// A packet with the code and the identifier of the one that was answered last, whatever else
+    /// is in it, is a repeat: it gets the same reply, after the end too, is not judged and changes
+    /// nothing, and `found` is ignored.
     pub fn step(
         &mut self,
         packet: &[u8],
         found: Option<&Account>,
         reply: &mut [u8],
-    ) -> Result<Judged, Refusal> {
+    ) -> Result<Answer, Refusal> {
         let record = Account::record(found)?;
         let mut answer = [0; sys::ANSWER_SIZE];
         Refusal::check(sys::step(&mut self.0, packet, &record, reply, &mut answer))?;
@@ -96,7 +104,8 @@ impl Conversation {
             _ => None,
         };
         let number = sys::answer_reason(&answer);
-        Ok(Judged {
+        Ok(Answer {
+            repeated: sys::answer_repeated(&answer) == 1,
             reason: Reason::of(number.into()).ok_or(Refusal::Unexpected(number))?,
             size: sys::packet_length(reply),
             updated,

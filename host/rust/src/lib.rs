@@ -21,9 +21,14 @@
 //! let (mut conversation, size) = opening?;
 //! let mut peer = Peer::read_challenge(&reply[..size])?;
 //! let size = peer.write_response(&password, b"DOM\\User", &mut packet)?;
-//! let judged = conversation.step(&packet[..size], Some(&account), &mut reply)?;
-//! assert_eq!(judged.reason, Reason::Success);
-//! assert_eq!(peer.read_reply(&reply[..judged.size])?.call, Call::Nothing);
+//! let answer = conversation.step(&packet[..size], Some(&account), &mut reply)?;
+//! assert_eq!((answer.reason, answer.repeated), (Reason::Success, false));
+//! assert_eq!(peer.read_reply(&reply[..answer.size])?.call, Call::Nothing);
+//!
+//! // A peer that missed the reply sends its packet again, and gets the same reply: so keep the
+//! // conversation while the link is up, and pass every packet to it.
+//! let answer = conversation.step(&packet[..size], None, &mut reply)?;
+//! assert_eq!((answer.reason, answer.repeated), (Reason::Success, true));
 //!
 //! // Another authenticator cannot issue the same challenge.
 //! let opening = Conversation::open(1, Terms::default(), &challenge, &mut issued, &mut reply);
@@ -32,8 +37,8 @@
 //! ```
 //!
 //! What is stored (a [`Conversation`], a [`Peer`], an [`Account`]'s record, an [`Issued`], a
-//! [`Password`]) begins with its kind and the version of its layout; `from_bytes` refuses bytes of
-//! another kind or version.
+//! [`Password`]) begins with its kind and the version of that kind's layout; `from_bytes` refuses
+//! bytes of another kind or version.
 
 #![deny(missing_docs)]
 #![deny(unsafe_code)]
@@ -50,7 +55,7 @@ mod refusal;
 pub mod sys;
 
 pub use account::Account;
-pub use authenticator::{account_of, domain_of, Awaited, Conversation, Judged, Terms};
+pub use authenticator::{account_of, domain_of, Answer, Awaited, Conversation, Terms};
 pub use cipher::{des_decrypt, des_encrypt, md4, rc4};
 pub use issued::Issued;
 pub use password::{challenge_response, LmHash, NtHash, Password};

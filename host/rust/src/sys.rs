@@ -6,9 +6,20 @@
 //! each one does. Here every value is bytes: the types around this module tell them apart.
 
 /// The version of the interface that is declared here: major, minor and patch, a byte each.
-pub const VERSION: u32 = 0x000200;
-/// The version of the layout of values that are stored.
-pub const LAYOUT_VERSION: u8 = 1;
+pub const VERSION: u32 = 0x000300;
+
+/// The version of a record's layout.
+pub const RECORD_LAYOUT: u8 = 1;
+/// The version of a conversation's layout: with the last answer, since 0.3.0.
+pub const CONVERSATION_LAYOUT: u8 = 2;
+/// The version of an answer's layout: with whether it is a repeat, since 0.3.0.
+pub const ANSWER_LAYOUT: u8 = 2;
+/// The version of a peer's layout.
+pub const PEER_LAYOUT: u8 = 1;
+/// The version of a password's layout.
+pub const PASSWORD_LAYOUT: u8 = 1;
+/// The version of a list's layout.
+pub const LIST_LAYOUT: u8 = 1;
 
 /// Done.
 pub const OK: u32 = 0;
@@ -84,9 +95,9 @@ pub const FILLER_SIZE: usize = 512;
 /// Bytes of a record.
 pub const RECORD_SIZE: usize = 41;
 /// Bytes of a conversation.
-pub const CONVERSATION_SIZE: usize = 52;
+pub const CONVERSATION_SIZE: usize = 58;
 /// Bytes of a step's answer.
-pub const ANSWER_SIZE: usize = 43;
+pub const ANSWER_SIZE: usize = 44;
 /// Bytes of a peer.
 pub const PEER_SIZE: usize = 21;
 /// Bytes of a password.
@@ -213,6 +224,9 @@ pub mod raw {
         ) -> u32;
         /// The reason of a step's reply; [`INVALID`](super::INVALID) for an invalid answer.
         pub fn mschap_answer_reason(answer: *const u8, answer_size: usize) -> u32;
+        /// 1 if a step's reply was the last one again, else 0; [`INVALID`](super::INVALID) for an
+        /// invalid answer.
+        pub fn mschap_answer_repeated(answer: *const u8, answer_size: usize) -> u32;
         /// The record after an accepted change of the password.
         pub fn mschap_answer_record(
             answer: *const u8,
@@ -494,6 +508,12 @@ pub fn step(
 pub fn answer_reason(answer: &[u8]) -> u32 {
     // SAFETY: slices, as said above.
     unsafe { raw::mschap_answer_reason(answer.as_ptr(), answer.len()) }
+}
+
+/// 1 if a step's reply was the last one again, else 0; [`INVALID`] for an invalid answer.
+pub fn answer_repeated(answer: &[u8]) -> u32 {
+    // SAFETY: slices, as said above.
+    unsafe { raw::mschap_answer_repeated(answer.as_ptr(), answer.len()) }
 }
 
 /// The record after an accepted change of the password.

@@ -148,7 +148,7 @@ fn records() {
 /// One opening with this answer, which is not 0: everything that was passed is unchanged.
 fn refused(list: &[u8], identifier: u32, terms: u32, size: usize, answer: u32) {
     let mut after = list.to_vec();
-    let mut conversation = [FILL; 52];
+    let mut conversation = [FILL; 58];
     let mut reply = vec![FILL; size];
     let number = sys::open(
         identifier,
@@ -163,7 +163,7 @@ fn refused(list: &[u8], identifier: u32, terms: u32, size: usize, answer: u32) {
     assert_eq!(after, list, "{what}");
     assert_eq!(
         (conversation, reply),
-        ([FILL; 52], vec![FILL; size]),
+        ([FILL; 58], vec![FILL; size]),
         "{what}"
     );
 }
@@ -191,8 +191,8 @@ fn openings() {
             assert_eq!((&after, reply), (passed, vec![FILL; size]));
             number
         };
-        bad_sizes(8, |challenge| open(challenge, &mut [0; 52]));
-        bad_sizes(52, |conversation| open(&[0; 8], conversation));
+        bad_sizes(8, |challenge| open(challenge, &mut [0; 58]));
+        bad_sizes(58, |conversation| open(&[0; 8], conversation));
         for identifier in [256, 257, 0x107, 65_536, sys::TERMS | 7, u32::MAX] {
             refused(passed, identifier, terms, size, sys::BAD_ARGUMENT);
         }
@@ -222,7 +222,7 @@ fn openings() {
     for lm in [0, sys::LM_ALLOWED, sys::LM_REFUSED] {
         for retries in [None, Some(0), Some(2), Some(7)] {
             let terms = sys::TERMS | lm | retries.map_or(0, sys::retries);
-            let mut conversation = [FILL; 52];
+            let mut conversation = [FILL; 58];
             let mut list = list(8, 0);
             let number = sys::open(
                 255,
@@ -276,7 +276,7 @@ fn lists() {
             continue;
         }
         let mut after = bytes.clone();
-        let number = sys::open(7, TERMS, &[0; 8], &mut after, &mut [0; 52], &mut [0; 17]);
+        let number = sys::open(7, TERMS, &[0; 8], &mut after, &mut [0; 58], &mut [0; 17]);
         assert_eq!((number, sys::list_used(&after)), (sys::OK, 3));
         let (used, places) = layout::to_list(&after).expect("a list");
         assert_eq!(used, 3);
@@ -305,8 +305,8 @@ fn lists() {
 }
 
 /// A conversation that awaits a Response, and a Response for it.
-fn opened() -> ([u8; 52], Vec<u8>) {
-    let (mut conversation, mut reply, mut peer) = ([0; 52], [0; 17], [0; 21]);
+fn opened() -> ([u8; 58], Vec<u8>) {
+    let (mut conversation, mut reply, mut peer) = ([0; 58], [0; 17], [0; 21]);
     let mut list = list(3, 0);
     let number = sys::open(7, TERMS, &[0; 8], &mut list, &mut conversation, &mut reply);
     assert_eq!(number, sys::OK);
@@ -339,21 +339,39 @@ fn steps() {
         bytes.resize(size, 0);
         bytes
     };
-    for size in others(52) {
-        bad_step(&resized(&conversation, size), &nobody, 43);
+    for size in others(58) {
+        bad_step(&resized(&conversation, size), &nobody, 44);
     }
     for size in others(41) {
-        bad_step(&conversation, &resized(&nobody, size), 43);
+        bad_step(&conversation, &resized(&nobody, size), 44);
     }
-    for size in others(43) {
+    for size in others(44) {
         bad_step(&conversation, &nobody, size);
     }
     // the right buffers draw an answer: the account is not found
     let mut reply = [FILL; 17];
-    let mut answer = [FILL; 43];
+    let mut answer = [FILL; 44];
     let number = sys::step(&mut conversation, &packet, &nobody, &mut reply, &mut answer);
-    assert_eq!((number, answer), (sys::OK, layout::answer(691, None)));
+    assert_eq!(
+        (number, answer),
+        (sys::OK, layout::answer(false, 691, None))
+    );
     assert_eq!(&reply, b"\x04\x07\x00\x11E=691 R=1 V=2");
+    // and the same packet again the same reply, and nothing else
+    let (mut same, mut again, mut repeated) = (conversation, [FILL; 17], [FILL; 44]);
+    let number = sys::step(&mut same, &packet, &nobody, &mut again, &mut repeated);
+    assert_eq!(
+        (number, repeated),
+        (sys::OK, layout::answer(true, 691, None))
+    );
+    assert_eq!((same, again), (conversation, reply));
+    // which wrong sizes do not get
+    for size in others(58) {
+        bad_step(&resized(&conversation, size), &nobody, 44);
+    }
+    for size in others(44) {
+        bad_step(&conversation, &nobody, size);
+    }
 
     // the functions that read a value
     let told = [
@@ -362,22 +380,28 @@ fn steps() {
         sys::conversation_retries,
     ];
     assert_eq!(told.map(|tell| tell(&conversation)), [2, 8, 1]);
-    for size in others(52) {
+    for size in others(58) {
         let bytes = resized(&conversation, size);
         assert_eq!(told.map(|tell| tell(&bytes)), [sys::INVALID; 3]);
     }
-    assert_eq!(sys::answer_reason(&answer), 691);
-    for size in others(43) {
-        assert_eq!(sys::answer_reason(&resized(&answer, size)), sys::INVALID);
+    let told = [sys::answer_reason, sys::answer_repeated];
+    assert_eq!(told.map(|tell| tell(&answer)), [691, 0]);
+    assert_eq!(told.map(|tell| tell(&repeated)), [691, 1]);
+    for size in others(44) {
+        for answer in [&answer, &repeated] {
+            let bytes = resized(answer, size);
+            assert_eq!(told.map(|tell| tell(&bytes)), [sys::INVALID; 2]);
+        }
     }
     let account = Default::default();
-    let updated = layout::answer(0, Some(&account));
+    let updated = layout::answer(false, 0, Some(&account));
     let mut record = [FILL; 41];
     for answer in [&answer, &updated] {
         bad_sizes(41, |record| sys::answer_record(answer, record));
         bad_sizes_of(answer, |answer| sys::answer_record(answer, &mut record));
     }
     assert_eq!(sys::answer_record(&answer, &mut record), 102);
+    assert_eq!(sys::answer_record(&repeated, &mut record), 102);
     assert_eq!(record, [FILL; 41]);
     assert_eq!(sys::answer_record(&updated, &mut record), sys::OK);
     assert_eq!(record, layout::record(Some(layout::account(&account))));
@@ -452,7 +476,7 @@ fn null_with_no_bytes() {
     let (n, m) = (null(), null_mut());
     let mut hash = [0; 16];
     let mut same = [0; 16];
-    let mut buffer = [FILL; 52];
+    let mut buffer = [FILL; 58];
     let mut out = [FILL; 64];
     let mut password = [FILL; 516];
     let (conversation, packet) = opened();
@@ -506,19 +530,20 @@ fn null_with_no_bytes() {
         let (q, c, o) = (challenge.as_ptr(), buffer.as_mut_ptr(), out.as_mut_ptr());
         let full = list.as_mut_ptr();
         // no list, no reply, no place
-        assert_eq!(mschap_open(7, TERMS, q, 8, m, 0, c, 52, o, 17), BAD);
-        assert_eq!(mschap_open(7, TERMS, q, 8, full, 4, c, 52, m, 0), 2);
-        assert_eq!(mschap_open(7, TERMS, q, 8, full, 4, c, 52, o, 17), 17);
-        assert_eq!((buffer, out), ([FILL; 52], [FILL; 64]));
+        assert_eq!(mschap_open(7, TERMS, q, 8, m, 0, c, 58, o, 17), BAD);
+        assert_eq!(mschap_open(7, TERMS, q, 8, full, 4, c, 58, m, 0), 2);
+        assert_eq!(mschap_open(7, TERMS, q, 8, full, 4, c, 58, o, 17), 17);
+        assert_eq!((buffer, out), ([FILL; 58], [FILL; 64]));
 
         assert_eq!(mschap_step(m, 0, n, 0, n, 0, m, 0, m, 0), BAD);
         let (c, o) = (next.as_mut_ptr(), out.as_mut_ptr());
         let reply = buffer.as_mut_ptr();
-        assert_eq!(mschap_step(c, 52, n, 0, r, 41, reply, 17, o, 43), 3);
+        assert_eq!(mschap_step(c, 58, n, 0, r, 41, reply, 17, o, 44), 3);
         let packet = packet.as_ptr();
-        assert_eq!(mschap_step(c, 52, packet, 55, r, 41, m, 0, o, 43), 2);
-        assert_eq!((next, buffer, out), (conversation, [FILL; 52], [FILL; 64]));
+        assert_eq!(mschap_step(c, 58, packet, 55, r, 41, m, 0, o, 44), 2);
+        assert_eq!((next, buffer, out), (conversation, [FILL; 58], [FILL; 64]));
         assert_eq!(mschap_answer_reason(n, 0), sys::INVALID);
+        assert_eq!(mschap_answer_repeated(n, 0), sys::INVALID);
         assert_eq!(mschap_answer_record(n, 0, m, 0), BAD);
         assert_eq!(mschap_conversation_awaits(n, 0), sys::INVALID);
         assert_eq!(mschap_conversation_identifier(n, 0), sys::INVALID);
@@ -539,7 +564,7 @@ fn null_with_no_bytes() {
         assert_eq!(mschap_read_challenge(n, 0, buffer.as_mut_ptr(), 21), 3);
         let p = peer.as_mut_ptr();
         assert_eq!(mschap_read_reply(p, 21, n, 0, a, b), 3);
-        assert_eq!((*a, *b, buffer), (9, 9, [FILL; 52]));
+        assert_eq!((*a, *b, buffer), (9, 9, [FILL; 58]));
         assert_eq!(mschap_write_response(m, 0, n, 0, n, 0, m, 0), BAD);
         assert_eq!(mschap_write_response(p, 21, n, 0, n, 0, m, 0), BAD);
         assert_eq!(mschap_write_response(p, 21, w, 516, n, 0, m, 0), 10);

@@ -64,7 +64,12 @@ fn numbers() {
     .map(|(name, size)| (name, size as u64));
     let numbers = [
         ("VERSION", sys::VERSION),
-        ("LAYOUT_VERSION", sys::LAYOUT_VERSION.into()),
+        ("RECORD_LAYOUT", sys::RECORD_LAYOUT.into()),
+        ("CONVERSATION_LAYOUT", sys::CONVERSATION_LAYOUT.into()),
+        ("ANSWER_LAYOUT", sys::ANSWER_LAYOUT.into()),
+        ("PEER_LAYOUT", sys::PEER_LAYOUT.into()),
+        ("PASSWORD_LAYOUT", sys::PASSWORD_LAYOUT.into()),
+        ("LIST_LAYOUT", sys::LIST_LAYOUT.into()),
         ("OK", sys::OK),
         ("INVALID", sys::INVALID),
         ("AWAITS_NOTHING", sys::AWAITS_NOTHING),

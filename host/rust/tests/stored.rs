@@ -7,7 +7,8 @@ mod layout;
 
 use layout::{KINDS, LIST_HEAD};
 use mschap::sys;
-use reference::authenticator::{self as their, Account, Conversation, Phase};
+use mschap::{Refusal, Terms};
+use reference::authenticator::{self as their, Account, Conversation, Last, Phase, Reply};
 use reference::message::Call;
 use reference::peer::{self, Turn, Verdict};
 use reference::{hashes, issued, packet};
@@ -23,6 +24,7 @@ const TERMS: u32 = sys::TERMS | sys::LM_ALLOWED | sys::retries(1);
 struct Seen {
     answered: usize,
     refused: usize,
+    repeated: usize,
 }
 
 impl Seen {
@@ -62,7 +64,7 @@ fn spoiled(value: &[u8], mut check: impl FnMut(&[u8])) -> usize {
     }
     // of another kind, with this one's size and with that one's
     for kind in KINDS {
-        for size in [value.len(), 21, 41, 43, 44, 52, 516] {
+        for size in [value.len(), 21, 41, 43, 44, 52, 58, 516] {
             for version in [0, 1, 2, 255] {
                 let mut bytes = value.to_vec();
                 bytes.resize(size, 0);
@@ -96,7 +98,39 @@ fn conversation(phase: Phase) -> Conversation {
         retries: 2,
         lm: true,
         phase,
+        last: None,
     }
+}
+
+/// A conversation that has answered the packet with a code and the identifier 7.
+fn answered(id: u8, phase: Phase, code: u8, reply: Reply) -> Conversation {
+    let last = Some(Last { code, id: 7, reply });
+    Conversation {
+        id,
+        last,
+        ..conversation(phase)
+    }
+}
+
+/// Conversations in each phase, with no answer, and with the answer of each kind to one of the
+/// packets below or to neither.
+fn conversations_kept() -> Vec<Conversation> {
+    let mut all = [Phase::Response, Phase::Change(account()), Phase::Ended]
+        .map(conversation)
+        .to_vec();
+    all.extend([
+        answered(8, Phase::Response, 2, Reply::failure(7, 691, true)),
+        answered(
+            8,
+            Phase::Change(account()),
+            2,
+            Reply::failure(7, 648, false),
+        ),
+        answered(7, Phase::Ended, 2, Reply::success(7)),
+        answered(7, Phase::Ended, 6, Reply::failure(7, 709, false)),
+        answered(7, Phase::Response, 9, Reply::failure(7, 691, true)),
+    ]);
+    all
 }
 
 /// A Response and a change for the conversations above.
@@ -116,27 +150,38 @@ fn packets() -> [Vec<u8>; 2] {
 
 /// A step with these bytes for conversation and record, against what they stand for.
 fn step(bytes: &[u8], record: &[u8], packet: &[u8], seen: &mut Seen) {
-    let (mut after, mut reply, mut answer) = (bytes.to_vec(), [FILL; 17], [FILL; 43]);
+    let (mut after, mut reply, mut answer) = (bytes.to_vec(), [FILL; 17], [FILL; 44]);
     let number = sys::step(&mut after, packet, record, &mut reply, &mut answer);
     let valid = layout::to_conversation(bytes).zip(layout::to_record(record));
     seen.note(valid.is_some());
     let Some((conversation, found)) = valid else {
         assert_eq!(number, sys::BAD_ARGUMENT, "{bytes:?} {record:?}");
-        let same = (bytes.to_vec(), [FILL; 17], [FILL; 43]);
+        let same = (bytes.to_vec(), [FILL; 17], [FILL; 44]);
         assert_eq!((after, reply, answer), same);
         return;
     };
     let mut their_reply = [FILL; 17];
-    let theirs = their::step(&conversation, packet, found.as_ref(), &mut their_reply);
+    let mut theirs = their::step(&conversation, packet, found.as_ref(), &mut their_reply);
     assert_eq!(number, theirs.refusal.into(), "{bytes:?} {record:?}");
-    assert_eq!(reply, their_reply);
+    if theirs.repeated {
+        // as the bytes say it: theirs has no reason but of three digits
+        let (reason, octets) = layout::last_reply(bytes).expect("an answer");
+        if (100..=999).contains(&reason) {
+            assert_eq!(&their_reply[..octets.len()], octets);
+        }
+        their_reply[..octets.len()].copy_from_slice(&octets);
+        theirs.reason = reason;
+        assert_eq!(after, bytes, "a repeat changes nothing");
+        seen.repeated += 1;
+    }
+    assert_eq!(reply, their_reply, "{bytes:?}");
     if number == sys::OK {
         let next = layout::to_conversation(&after);
         assert_eq!(next, Some(theirs.conversation));
-        let expected = (theirs.reason, theirs.record);
+        let expected = (theirs.repeated, theirs.reason, theirs.record);
         assert_eq!(layout::to_answer(&answer), Some(expected));
     } else {
-        assert_eq!((after, answer), (bytes.to_vec(), [FILL; 43]));
+        assert_eq!((after, answer), (bytes.to_vec(), [FILL; 44]));
     }
 }
 
@@ -144,8 +189,8 @@ fn step(bytes: &[u8], record: &[u8], packet: &[u8], seen: &mut Seen) {
 fn conversations() {
     let record = layout::record(Some(layout::account(&account())));
     let mut seen = Seen::default();
-    for phase in [Phase::Response, Phase::Change(account()), Phase::Ended] {
-        spoiled(&layout::conversation(&conversation(phase)), |bytes| {
+    for value in conversations_kept() {
+        spoiled(&layout::conversation(&value), |bytes| {
             let told = [
                 sys::conversation_awaits(bytes),
                 sys::conversation_identifier(bytes),
@@ -167,7 +212,186 @@ fn conversations() {
             }
         });
     }
-    assert!(seen.answered > 10_000 && seen.refused > 10_000);
+    assert!(seen.answered > 100_000 && seen.refused > 30_000 && seen.repeated > 30_000);
+}
+
+/// The bytes of the last answer, each in each value, are those of a value or are refused: a flag is
+/// 0 or 1, a reply is one of three, and Success has no reason.
+#[test]
+fn last_answers() {
+    let mut seen = Seen::default();
+    for reply in [
+        Reply::success(7),
+        Reply::failure(7, 691, false),
+        Reply::failure(7, 691, true),
+    ] {
+        let bytes = layout::conversation(&answered(7, Phase::Ended, 2, reply));
+        let last = &bytes[layout::LAST_AT..];
+        let failed = u8::from(last[3] != 0);
+        assert_eq!((last[..3].to_vec(), last[4]), (vec![1, 2, 7], 2 * failed));
+        for place in 0..6 {
+            for byte in 0..=255 {
+                let mut bytes = bytes;
+                bytes[layout::LAST_AT + place] = byte;
+                let valid = match place {
+                    0 => byte < 2,
+                    3 if failed == 0 => byte < 3,
+                    3 => byte == 1 || byte == 2,
+                    4 | 5 => failed == 1 || byte == 0,
+                    _ => true,
+                };
+                let stored = mschap::Conversation::from_bytes(&bytes);
+                assert_eq!(stored.is_ok(), valid, "{place} {byte}");
+                seen.note(valid);
+            }
+        }
+    }
+    assert_eq!((seen.answered, seen.refused), (2575, 2033));
+}
+
+/// Both ends by the wrapper, up to the reply to a Response by the right password: the conversation,
+/// the Response and the reply.
+fn responded(account: &mschap::Account) -> (mschap::Conversation, Vec<u8>, Vec<u8>) {
+    let (mut reply, mut packet) = ([FILL; 17], [FILL; 62]);
+    let mut issued = mschap::Issued::new(3);
+    let terms = Terms::default();
+    let opening = mschap::Conversation::open(7, terms, &CHALLENGE, &mut issued, &mut reply);
+    let (mut conversation, size) = opening.expect("a conversation");
+    let mut peer = mschap::Peer::read_challenge(&reply[..size]).expect("a Challenge");
+    let password = mschap::Password::from_utf16(&[0x50, 0xe4, 0x77]).expect("a password");
+    let size = peer
+        .write_response(&password, b"DOM\\User", &mut packet)
+        .expect("a Response");
+    let answer = conversation
+        .step(&packet[..size], Some(account), &mut reply)
+        .expect("an answer");
+    assert!(!answer.repeated);
+    let reply = reply[..answer.size].to_vec();
+    (conversation, packet[..size].to_vec(), reply)
+}
+
+/// A program that was started again gives a peer that missed the reply the same one, whatever else
+/// is in the packet and whatever record it finds, and stores and decides nothing.
+#[test]
+fn a_stored_conversation_repeats() {
+    let nt_hash = hashes::nt_hash(PASSWORD).map(mschap::NtHash).ok();
+    let fresh = mschap::Account {
+        nt_hash,
+        ..mschap::Account::default()
+    };
+    let disabled = mschap::Account {
+        disabled: true,
+        ..fresh
+    };
+    let expired = mschap::Account {
+        expired: true,
+        ..fresh
+    };
+    for (account, expected) in [
+        (&fresh, &b"\x03\x07\x00\x04"[..]),
+        (&disabled, b"\x04\x07\x00\x11E=647 R=0 V=2"),
+        (&expired, b"\x04\x07\x00\x11E=648 R=0 V=2"),
+        (
+            &mschap::Account::default(),
+            b"\x04\x07\x00\x11E=691 R=1 V=2",
+        ),
+    ] {
+        let (conversation, response, reply) = responded(account);
+        assert_eq!(reply, expected);
+        let stored = *conversation.as_bytes();
+        let mut again = mschap::Conversation::from_bytes(&stored).expect("a conversation");
+        for (packet, found) in [
+            (&response[..], Some(account)),
+            (&response, None),
+            (&[2, 7, 0, 4], Some(&fresh)),
+            (&[2, 7, 0, 5, 9, 9], Some(&expired)),
+        ] {
+            let mut buffer = [FILL; 20];
+            let answer = again.step(packet, found, &mut buffer).expect("a repeat");
+            assert_eq!((answer.repeated, answer.updated), (true, None));
+            assert_eq!(&buffer[..answer.size], expected);
+            assert!(buffer[answer.size..].iter().all(|byte| *byte == FILL));
+            assert_eq!(*again.as_bytes(), stored);
+        }
+        // the code and the identifier are both the last one's
+        for packet in [[6, 7, 0, 4], [2, 6, 0, 4]] {
+            assert!(again.step(&packet, None, &mut [0; 17]).is_err());
+        }
+        assert_eq!(*again.as_bytes(), stored);
+    }
+}
+
+/// An accepted change gives its record once: a repeat of it gives none.
+#[test]
+fn a_repeated_change_gives_no_record() {
+    let [_, change] = packets();
+    let mut bytes = layout::conversation(&conversation(Phase::Change(account())));
+    let nobody = layout::record(None);
+    let mut reply = [FILL; 17];
+    let mut answer = [FILL; 44];
+    let step = |bytes: &mut [u8], reply: &mut [u8], answer: &mut [u8]| {
+        sys::step(bytes, &change, &nobody, reply, answer)
+    };
+    assert_eq!(step(&mut bytes, &mut reply, &mut answer), sys::OK);
+    assert_eq!(reply[..4], [3, 7, 0, 4]);
+    let mut record = [FILL; 41];
+    assert_eq!(sys::answer_record(&answer, &mut record), sys::OK);
+    let after = bytes;
+    for _ in 0..3 {
+        let mut reply = [FILL; 17];
+        assert_eq!(step(&mut bytes, &mut reply, &mut answer), sys::OK);
+        assert_eq!((&reply[..4], reply[4]), (&[3, 7, 0, 4][..], FILL));
+        assert_eq!(answer, layout::answer(true, 0, None));
+        let mut record = [FILL; 41];
+        assert_eq!(sys::answer_record(&answer, &mut record), 102);
+        assert_eq!((bytes, record), (after, [FILL; 41]));
+    }
+}
+
+/// What 0.2.0 stored: every value had version 1. Conversations and answers have another layout now
+/// and are refused; the others are as they were.
+#[test]
+fn what_version_0_2_0_stored() {
+    let stored = |kind: u8, size: usize, front: &[u8]| {
+        let mut bytes = [&[kind, 1], front].concat();
+        bytes.resize(size, 0);
+        bytes
+    };
+    // it awaits a Response with identifier 7, LM is allowed and 2 retries are left
+    let conversation = stored(b'C', 52, &[2, 1, 7, 2, 1, 2, 3, 4, 5, 6, 7, 8]);
+    // Failure with the reason 691
+    let answer = stored(b'A', 43, &[2, 0xb3]);
+    for size in [52, 58] {
+        let mut bytes = conversation.clone();
+        bytes.resize(size, 0);
+        let stored = mschap::Conversation::from_bytes(&bytes);
+        assert_eq!(stored, Err(Refusal::BadArgument));
+        assert_eq!(sys::conversation_awaits(&bytes), sys::INVALID);
+    }
+    for size in [43, 44] {
+        let mut bytes = answer.clone();
+        bytes.resize(size, 0);
+        assert_eq!(sys::answer_reason(&bytes), sys::INVALID);
+    }
+    // and as version 2 they are what they are taken for
+    let mut bytes = conversation;
+    bytes.resize(58, 0);
+    bytes[1] = 2;
+    assert_eq!(sys::conversation_awaits(&bytes), 2);
+
+    let record = stored(b'R', 41, &[1, 1, 9, 9, 9]);
+    let account = mschap::Account::from_bytes(&record).expect("a record");
+    let hash = account.and_then(|account| account.nt_hash);
+    assert_eq!(
+        hash.map(|hash| hash.0[..4].to_vec()),
+        Some(vec![9, 9, 9, 0])
+    );
+    assert!(mschap::Peer::from_bytes(&stored(b'P', 21, &[1, 7])).is_ok());
+    let password = mschap::Password::from_bytes(&stored(b'W', 516, &[0, 2, b'a', 0]));
+    let text = password.and_then(|password| password.to_text());
+    assert_eq!(text.as_deref(), Ok("a"));
+    let list = mschap::Issued::from_bytes(&stored(b'L', 28, &[0, 2]));
+    assert_eq!(list.map(|list| list.used()), Ok(2));
 }
 
 #[test]
@@ -205,22 +429,25 @@ fn records() {
 fn answers() {
     let mut seen = Seen::default();
     for answer in [
-        layout::answer(0, Some(&account())),
-        layout::answer(691, None),
+        layout::answer(false, 0, Some(&account())),
+        layout::answer(false, 691, None),
+        layout::answer(true, 0, None),
     ] {
         spoiled(&answer, |bytes| {
             let value = layout::to_answer(bytes);
             seen.note(value.is_some());
-            let reason = value.map_or(sys::INVALID, |(reason, _)| reason.into());
+            let reason = value.map_or(sys::INVALID, |(_, reason, _)| reason.into());
             assert_eq!(sys::answer_reason(bytes), reason, "{bytes:?}");
+            let repeated = value.map_or(sys::INVALID, |(repeated, ..)| repeated.into());
+            assert_eq!(sys::answer_repeated(bytes), repeated, "{bytes:?}");
             let mut record = [FILL; 41];
             let number = sys::answer_record(bytes, &mut record);
             match value {
-                Some((_, Some(updated))) => {
+                Some((_, _, Some(updated))) => {
                     assert_eq!(number, sys::OK);
                     assert_eq!(layout::to_record(&record), Some(Some(updated)));
                     // as it is stored, with what stands beside a flag that is not set
-                    assert_eq!(record[2..], bytes[4..]);
+                    assert_eq!(record[2..], bytes[5..]);
                 }
                 other => {
                     let expected = other.map_or(sys::BAD_ARGUMENT, |_| 102);
@@ -444,7 +671,7 @@ fn lists() {
     let spent = layout::list(2, &[&places[..8], &CHALLENGE, &places[16..]].concat());
     for list in [layout::list(2, &places), empty, spent] {
         spoiled(&list, |bytes| {
-            let (mut after, mut conversation, mut reply) = (bytes.to_vec(), [FILL; 52], [FILL; 17]);
+            let (mut after, mut conversation, mut reply) = (bytes.to_vec(), [FILL; 58], [FILL; 17]);
             let number = sys::open(
                 7,
                 TERMS,
@@ -464,7 +691,7 @@ fn lists() {
             assert_eq!(mschap::Issued::from_bytes(bytes).is_ok(), sound.is_some());
 
             let Some((used, places)) = value else {
-                let same = (bytes.to_vec(), [FILL; 52], [FILL; 17]);
+                let same = (bytes.to_vec(), [FILL; 58], [FILL; 17]);
                 assert_eq!(number, sys::BAD_ARGUMENT, "{bytes:?}");
                 assert_eq!((after, conversation, reply), same);
                 return;
@@ -490,7 +717,7 @@ fn lists() {
                 assert_eq!(conversation, layout::conversation(&opening.conversation));
                 assert_eq!(after, layout::list(used as u16, &places));
             } else {
-                assert_eq!((&after[..], conversation), (bytes, [FILL; 52]));
+                assert_eq!((&after[..], conversation), (bytes, [FILL; 58]));
                 assert_eq!(after[LIST_HEAD..], places);
             }
         });
@@ -501,7 +728,7 @@ fn lists() {
 /// Each kind was spoiled in each place to each value.
 #[test]
 fn all_that_is_spoiled() {
-    for size in [21, 41, 43, 44, 52, 516] {
+    for size in [21, 41, 44, 58, 516] {
         let mut places = vec![0; size];
         let count = spoiled(&vec![0; size], |bytes| {
             if bytes.len() == size {

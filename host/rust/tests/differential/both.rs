@@ -63,7 +63,8 @@ pub fn their_conversation(ours: &Conversation) -> their::Conversation {
     theirs
 }
 
-/// A conversation of theirs as one of ours; bytes of no effect are drawn.
+/// A conversation of theirs as one of ours; bytes of no effect are drawn: the kept record where no
+/// change is awaited, the rest of a last answer where there is none.
 pub fn our_conversation(theirs: &their::Conversation, random: &mut Random) -> Conversation {
     let mut bytes = layout::conversation(theirs);
     let kept = match &theirs.phase {
@@ -76,8 +77,15 @@ pub fn our_conversation(theirs: &their::Conversation, random: &mut Random) -> Co
             drawn
         }
     };
-    let from = bytes.len() - layout::ACCOUNT_SIZE;
-    bytes[from..].copy_from_slice(&kept);
+    bytes[layout::KEPT_AT..layout::LAST_AT].copy_from_slice(&kept);
+    if theirs.last.is_none() {
+        let [code, id, high, low] = random.array();
+        let drawn = match random.below(3) as u8 {
+            0 => [0, code, id, 0, 0, 0],
+            failure => [0, code, id, failure, high, low],
+        };
+        bytes[layout::LAST_AT..].copy_from_slice(&drawn);
+    }
     Conversation::from_bytes(&bytes).expect("a conversation")
 }
 
@@ -213,6 +221,7 @@ pub struct Boxes {
 pub struct Outcome {
     pub refusal: u8,
     pub reason: u16,
+    pub repeated: bool,
     pub written: usize,
     pub changed: Option<their::Account>,
 }
@@ -246,6 +255,7 @@ impl Boxes {
                 assert_eq!(judged.size, theirs.written, "the reply's size");
                 let reason = judged.reason.number();
                 assert_eq!(reason, u32::from(theirs.reason), "the reason");
+                assert_eq!(judged.repeated, theirs.repeated, "whether it is a repeat");
                 let updated = judged.updated.as_ref().map(their_account);
                 assert_eq!(updated, theirs.record, "the record");
             }
@@ -257,6 +267,7 @@ impl Boxes {
         Outcome {
             refusal: theirs.refusal,
             reason: theirs.reason,
+            repeated: theirs.repeated,
             written: theirs.written,
             changed: theirs.record,
         }

@@ -9,6 +9,7 @@ mod lists;
 mod packets;
 mod random;
 mod readers;
+mod repeats;
 mod run;
 mod series;
 mod steps;

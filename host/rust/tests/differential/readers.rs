@@ -49,7 +49,7 @@ fn message(random: &mut Random, seen: &mut Seen) {
 /// reply has their identifier: they have no effect, and stay.
 fn early(random: &mut Random, seen: &mut Seen) {
     let mut bytes: [u8; sys::PEER_SIZE] = random.array();
-    bytes[..3].copy_from_slice(&[layout::PEER, sys::LAYOUT_VERSION, 0]);
+    bytes[..3].copy_from_slice(&[layout::PEER, sys::PEER_LAYOUT, 0]);
     let mut packet = packets::failure(random, bytes[3]);
     packets::damage(random, &mut packet);
     let refusal = packet::frame(&packet).err().unwrap_or(5);

@@ -18,6 +18,12 @@ impl Seen {
         self.0.get(what).copied().unwrap_or_default()
     }
 
+    /// This was met so often at least.
+    pub fn at_least(&self, count: u64, what: &str) {
+        let met = self.count(what);
+        assert!(met >= count, "met {met} times: {what}");
+    }
+
     /// Each of these was met.
     pub fn expect(&self, all: &[&str]) {
         for what in all {

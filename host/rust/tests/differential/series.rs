@@ -3,6 +3,7 @@
 use crate::both::{plain, their_conversation, Boxes, Opening, Passed, Peers};
 use crate::packets;
 use crate::random::Random;
+use crate::repeats::{self, Answered};
 use crate::run::{run, Seen};
 use mschap::{sys, Conversation, Issued, LmHash, Password, Terms};
 use reference::authenticator::{self as their, Account};
@@ -186,15 +187,15 @@ fn lm_response(peers: &mut Peers, password: &[u8], name: &[u8], random: &mut Ran
     packet::response(peers.last(), &lm, &random.array(), flag, name)
 }
 
-/// A packet that the box is to refuse, as a rule; the boxes must agree even where it is judged.
-fn noise(random: &mut Random, next: &[u8], earlier: Option<&Vec<u8>>) -> Vec<u8> {
+/// A packet that the box is to refuse, as a rule; the boxes must agree even where it is judged, or
+/// happens to be a repeat.
+fn noise(random: &mut Random, next: &[u8]) -> Vec<u8> {
     let mut packet = next.to_vec();
-    match (random.below(6), earlier) {
-        (0, Some(earlier)) => return earlier.clone(),
-        (0 | 1, _) => return packets::noise(random),
-        (2, _) => packet[1] = packet[1].wrapping_add(random.between(1, 255) as u8),
-        (3, _) => packet[0] = random.pick(&[0, 1, 3, 4, 5, 7]),
-        (4, _) => packet.truncate(random.below(next.len())),
+    match random.below(6) {
+        0 | 1 => return packets::noise(random),
+        2 => packet[1] = packet[1].wrapping_add(random.between(1, 255) as u8),
+        3 => packet[0] = random.pick(&[0, 1, 3, 4, 5, 7]),
+        4 => packet.truncate(random.below(next.len())),
         _ => {
             let length = random.below(55);
             packets::set_length(&mut packet, length);
@@ -217,10 +218,9 @@ fn series(random: &mut Random, seen: &mut Seen) {
     };
     let wrong = random.pick(&[0, 30, 60, 100]);
     let new = packets::password(random);
-    let mut earlier: Option<Vec<u8>> = None;
     let mut changing = false;
     let mut replies: Vec<Vec<u8>> = Vec::new();
-    let mut judged = 0;
+    let mut judged: Vec<Answered> = Vec::new();
     let mut accepted = None;
     loop {
         let mut packet = if changing {
@@ -242,13 +242,20 @@ fn series(random: &mut Random, seen: &mut Seen) {
             response(&mut peers, &password, &name, random)
         };
         for _ in 0..random.pick(&[0, 0, 0, 1, 2]) {
-            let noise = noise(random, &packet, earlier.as_ref());
+            let noise = noise(random, &packet);
             let mut our_reply = packets::buffer(random);
             let mut their_reply = our_reply.clone();
             let outcome = boxes.step(&noise, record, &mut our_reply, &mut their_reply);
-            judged += u32::from(outcome.refusal == 0);
             seen.note(format!("noise answered {}", outcome.refusal));
+            if outcome.refusal == 0 && !outcome.repeated {
+                judged.push(Answered {
+                    packet: noise,
+                    reply: our_reply[..outcome.written].to_vec(),
+                    reason: outcome.reason,
+                });
+            }
         }
+        repeats::some(random, &mut boxes, record, &judged, seen);
         if random.chance(20) {
             let more = random.between(1, 30);
             packet.extend(random.octets(more));
@@ -257,13 +264,28 @@ fn series(random: &mut Random, seen: &mut Seen) {
         let mut our_reply = random.octets(size);
         let mut their_reply = our_reply.clone();
         let outcome = boxes.step(&packet, record, &mut our_reply, &mut their_reply);
-        if outcome.refusal != 0 {
+        if outcome.refusal != 0 || outcome.repeated {
             // Noise was judged in its place: the peer has no reply to read.
             seen.note("overtaken by noise");
             break;
         }
-        judged += 1;
         seen.note(format!("judged {}", outcome.reason));
+        accepted = outcome.changed;
+        judged.push(Answered {
+            packet: packet.clone(),
+            reply: our_reply[..outcome.written].to_vec(),
+            reason: outcome.reason,
+        });
+        if random.chance(20) {
+            // The reply is lost, and the peer sends its packet again: this one it reads.
+            let size = random.between(17, 30);
+            our_reply = random.octets(size);
+            their_reply = our_reply.clone();
+            let again = boxes.step(&packet, record, &mut our_reply, &mut their_reply);
+            assert!(again.repeated && again.written == outcome.written);
+            assert_eq!(again.changed, None);
+            seen.note("missed, and sent again");
+        }
         let (ours, theirs) = (
             &our_reply[..outcome.written],
             &their_reply[..outcome.written],
@@ -271,15 +293,18 @@ fn series(random: &mut Random, seen: &mut Seen) {
         let strays = strays(random, ours, &replies);
         let call = read_among(&mut peers, [ours, theirs], &strays, seen);
         replies.push(ours.to_vec());
-        accepted = outcome.changed;
-        earlier = Some(packet);
         match call {
             Some(Call::Retry) => {}
             Some(Call::Change2) => changing = true,
             _ => break,
         }
     }
-    assert!(judged <= u32::from(retries) + 2, "packets judged: {judged}");
+    repeats::some(random, &mut boxes, record, &judged, seen);
+    let judged = judged.len();
+    assert!(
+        judged <= usize::from(retries) + 2,
+        "packets judged: {judged}"
+    );
     if let Some(account) = accepted {
         seen.note("password changed");
         if random.chance(25) {
@@ -309,6 +334,12 @@ fn series_agree() {
         seen.expect(&[&format!("judged {reason}")]);
     }
     seen.expect(&["password changed", "later conversation"]);
+    for kind in repeats::KINDS {
+        for time in repeats::TIMES {
+            seen.at_least(1_000, &format!("{kind}, {time}"));
+        }
+    }
+    seen.at_least(10_000, "missed, and sent again");
     seen.expect(&["stray read", "stray refused 3", "stray refused 5"]);
     seen.expect(&["stray refused 11", "stray refused behind the reply"]);
 }

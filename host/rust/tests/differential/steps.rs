@@ -6,7 +6,7 @@ use crate::packets;
 use crate::random::Random;
 use crate::run::{run, Seen};
 use mschap::sys;
-use reference::authenticator::{Account, Conversation, Phase};
+use reference::authenticator::{Account, Conversation, Last, Phase, Reply};
 use reference::{hashes, packet, peer};
 
 /// A Response that is valid for the account as often as not.
@@ -37,6 +37,25 @@ fn change(random: &mut Random, conversation: &Conversation, old: &[u8]) -> Vec<u
     out
 }
 
+/// A last answer, or none: to the packet, or to the one before it, or to any. No conversation that
+/// was opened awaits what it answered last; these may.
+fn last(random: &mut Random, id: u8, packet: &[u8]) -> Option<Last> {
+    let (code, id) = match (random.below(8), packet) {
+        (0, [code, id, ..]) => (*code, *id),
+        (1 | 2, _) => (random.pick(&[2, 6]), id.wrapping_sub(1)),
+        (3, _) => (random.octet(), random.octet()),
+        _ => return None,
+    };
+    let reply = match random.below(8) {
+        0 | 1 => Reply::success(id),
+        _ => {
+            let reason = random.pick(&[646, 647, 648, 649, 691, 709]);
+            Reply::failure(id, reason, random.chance(50))
+        }
+    };
+    Some(Last { code, id, reply })
+}
+
 fn step(random: &mut Random, seen: &mut Seen) {
     let account = packets::account(random);
     let mut conversation = Conversation {
@@ -45,6 +64,7 @@ fn step(random: &mut Random, seen: &mut Seen) {
         retries: random.below(8) as u8,
         lm: random.chance(60),
         phase: Phase::Response,
+        last: None,
     };
     let mut packet = if random.chance(30) {
         packets::noise(random)
@@ -60,11 +80,12 @@ fn step(random: &mut Random, seen: &mut Seen) {
         change(random, &conversation, &old)
     };
     match random.below(25) {
-        0 => conversation.phase = Phase::Ended,
-        1 => conversation.phase = Phase::Change(account),
-        2 => conversation.phase = Phase::Response,
+        0 | 1 => conversation.phase = Phase::Ended,
+        2 => conversation.phase = Phase::Change(account),
+        3 => conversation.phase = Phase::Response,
         _ => {}
     }
+    conversation.last = last(random, conversation.id, &packet);
     if random.chance(75) {
         packets::damage(random, &mut packet);
     }
@@ -78,7 +99,12 @@ fn step(random: &mut Random, seen: &mut Seen) {
     let passed = packets::buffer(random);
     let (mut our_reply, mut their_reply) = (passed.clone(), passed.clone());
     let outcome = boxes.step(&packet, record, &mut our_reply, &mut their_reply);
+    if outcome.repeated {
+        let ended = conversation.phase == Phase::Ended;
+        seen.note(format!("repeated, ended {ended}"));
+    }
     seen.note(match (outcome.refusal, outcome.reason) {
+        (0, reason) if outcome.repeated => format!("repeated {reason}"),
         (0, 0) if outcome.changed.is_some() => "judged: changed".to_string(),
         (0, reason) => format!("judged {reason}"),
         (refusal, _) => format!("refused {refusal}"),
@@ -100,9 +126,13 @@ fn step(random: &mut Random, seen: &mut Seen) {
         assert_eq!(their_conversation(&next), boxes.theirs);
         assert_eq!(reply, our_reply);
         if number == sys::OK {
-            let expected = (outcome.reason, outcome.changed);
+            let expected = (outcome.repeated, outcome.reason, outcome.changed);
             assert_eq!(layout::to_answer(&answer), Some(expected));
             assert_eq!(sys::answer_reason(&answer), outcome.reason.into());
+            assert_eq!(sys::answer_repeated(&answer), outcome.repeated.into());
+            if outcome.repeated {
+                assert_eq!(&bytes, before.as_bytes(), "a repeat changes nothing");
+            }
         } else {
             assert_eq!(&bytes, before.as_bytes(), "a refusal changes nothing");
             assert_eq!(answer, garbage, "a refusal hands out nothing");
@@ -118,6 +148,10 @@ fn steps_agree() {
     }
     for reason in [0, 646, 647, 648, 649, 691, 709] {
         seen.expect(&[&format!("judged {reason}")]);
+        seen.at_least(1_000, &format!("repeated {reason}"));
     }
     seen.expect(&["judged: changed"]);
+    for ended in [false, true] {
+        seen.at_least(1_000, &format!("repeated, ended {ended}"));
+    }
 }

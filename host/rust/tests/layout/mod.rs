@@ -1,10 +1,10 @@
 //! The layouts of the values that a caller keeps, written down a second time for the tests: each
-//! begins with its kind and the version of its layout. A decoder gives what the bytes stand for;
-//! none if no value has them.
+//! begins with its kind and the version of that kind's layout. A decoder gives what the bytes stand
+//! for; none if no value has them.
 #![allow(dead_code)]
 
 use mschap::sys;
-use reference::authenticator::{Account, Conversation, Phase};
+use reference::authenticator::{Account, Conversation, Last, Phase, Reply};
 use reference::peer::Turn;
 
 pub const RECORD: u8 = b'R';
@@ -16,23 +16,35 @@ pub const LIST: u8 = b'L';
 pub const KINDS: [u8; 6] = [RECORD, ANSWER, CONVERSATION, PEER, PASSWORD, LIST];
 /// Bytes of kind and version.
 pub const TAG: usize = 2;
+/// Where the account that is kept begins in a conversation.
+pub const KEPT_AT: usize = 14;
+/// Where the last answer begins in a conversation.
+pub const LAST_AT: usize = 52;
 /// Bytes of an account within a record, an answer or a conversation.
 pub const ACCOUNT_SIZE: usize = 38;
 /// Bytes before the places of a list.
 pub const LIST_HEAD: usize = 4;
 
+/// The version of a kind's layout.
+pub fn version(kind: u8) -> u8 {
+    match kind {
+        CONVERSATION | ANSWER => 2,
+        _ => 1,
+    }
+}
+
 /// Kind and version, and behind them a body of so many bytes, which is filled in.
 fn tagged<const N: usize>(kind: u8, fill: impl FnOnce(&mut [u8])) -> [u8; N] {
     let mut bytes = [0; N];
     bytes[0] = kind;
-    bytes[1] = 1;
+    bytes[1] = version(kind);
     fill(&mut bytes[TAG..]);
     bytes
 }
 
 /// What is behind kind and version.
 fn body(kind: u8, size: usize, bytes: &[u8]) -> Option<&[u8]> {
-    (bytes.len() == size && bytes[..TAG] == [kind, 1]).then(|| &bytes[TAG..])
+    (bytes.len() == size && bytes[..TAG] == [kind, version(kind)]).then(|| &bytes[TAG..])
 }
 
 fn flag(byte: u8) -> Option<bool> {
@@ -109,17 +121,68 @@ pub fn record_parts(bytes: &[u8]) -> Option<(u32, [u8; 16], [u8; 16])> {
     Some((flags, part(bytes, 4), part(bytes, 21)))
 }
 
-pub fn answer(reason: u16, updated: Option<&Account>) -> [u8; sys::ANSWER_SIZE] {
+pub fn answer(repeated: bool, reason: u16, updated: Option<&Account>) -> [u8; sys::ANSWER_SIZE] {
     tagged(ANSWER, |to| {
-        to[..2].copy_from_slice(&reason.to_be_bytes());
-        lookup(updated.map(account), &mut to[2..]);
+        to[0] = repeated.into();
+        to[1..3].copy_from_slice(&reason.to_be_bytes());
+        lookup(updated.map(account), &mut to[3..]);
     })
 }
 
-pub fn to_answer(bytes: &[u8]) -> Option<(u16, Option<Account>)> {
+/// Whether it is a repeat, the reason, and the record to be stored.
+pub fn to_answer(bytes: &[u8]) -> Option<(bool, u16, Option<Account>)> {
     let body = body(ANSWER, sys::ANSWER_SIZE, bytes)?;
-    let updated = to_lookup(&body[2..])?;
-    Some((u16::from_be_bytes(part(body, 0)), updated))
+    let updated = to_lookup(&body[3..])?;
+    Some((flag(body[0])?, u16::from_be_bytes(part(body, 1)), updated))
+}
+
+/// The last answer: that there is one, code and identifier, which reply, and its reason.
+fn last(last: &Last) -> [u8; 6] {
+    let (reply, reason) = match last.reply.failed() {
+        None => (0, 0),
+        Some((reason, 0)) => (1, reason),
+        Some((reason, _)) => (2, reason),
+    };
+    let [high, low] = reason.to_be_bytes();
+    [1, last.code, last.id, reply, high, low]
+}
+
+/// What bytes say of a last answer, though it be said that there is none: the identifier, the
+/// reason and whether a retry is allowed, or neither with Success.
+fn to_reply(bytes: &[u8]) -> Option<(u8, Option<(u16, bool)>)> {
+    let failed = match (bytes[3], u16::from_be_bytes(part(bytes, 4))) {
+        (0, 0) => None,
+        (1, reason) => Some((reason, false)),
+        (2, reason) => Some((reason, true)),
+        _ => return None,
+    };
+    Some((bytes[2], failed))
+}
+
+/// The reason and the octets of the last answer in the bytes of a conversation. No box gives a
+/// reason that has not three digits; of such a one the last three are written.
+pub fn last_reply(bytes: &[u8]) -> Option<(u16, Vec<u8>)> {
+    let (id, failed) = to_reply(&bytes[LAST_AT..])?;
+    Some(match failed {
+        None => (0, vec![3, id, 0, 4]),
+        Some((reason, retry)) => {
+            let text = format!("E={:03} R={} V=2", reason % 1000, u8::from(retry));
+            (reason, [&[4, id, 0, 17], text.as_bytes()].concat())
+        }
+    })
+}
+
+/// The last answer, or none. For a reason that has not three digits another one stands here, since
+/// only such ones are theirs.
+fn to_last(bytes: &[u8]) -> Option<Option<Last>> {
+    let (id, failed) = to_reply(bytes)?;
+    let reply = match failed {
+        None => Reply::success(id),
+        Some((reason @ 100..=999, retry)) => Reply::failure(id, reason, retry),
+        Some((_, retry)) => Reply::failure(id, 691, retry),
+    };
+    let code = bytes[1];
+    Some(flag(bytes[0])?.then_some(Last { code, id, reply }))
 }
 
 /// A conversation; nothing is kept unless a change is awaited.
@@ -129,7 +192,7 @@ pub fn conversation(conversation: &Conversation) -> [u8; sys::CONVERSATION_SIZE]
             Phase::Ended => 0,
             Phase::Response => 2,
             Phase::Change(kept) => {
-                to[12..].copy_from_slice(&account(kept));
+                to[12..50].copy_from_slice(&account(kept));
                 6
             }
         };
@@ -137,12 +200,15 @@ pub fn conversation(conversation: &Conversation) -> [u8; sys::CONVERSATION_SIZE]
         to[2] = conversation.id;
         to[3] = conversation.retries;
         to[4..12].copy_from_slice(&conversation.challenge);
+        if let Some(answered) = &conversation.last {
+            to[50..].copy_from_slice(&last(answered));
+        }
     })
 }
 
 pub fn to_conversation(bytes: &[u8]) -> Option<Conversation> {
     let body = body(CONVERSATION, sys::CONVERSATION_SIZE, bytes)?;
-    let kept = to_account(&body[12..])?;
+    let kept = to_account(&body[12..50])?;
     Some(Conversation {
         id: body[2],
         challenge: part(body, 4),
@@ -154,6 +220,7 @@ pub fn to_conversation(bytes: &[u8]) -> Option<Conversation> {
             6 => Phase::Change(kept),
             _ => return None,
         },
+        last: to_last(&body[50..])?,
     })
 }
 
@@ -206,7 +273,7 @@ pub fn to_password(bytes: &[u8]) -> Option<&[u8]> {
 
 /// A list: how many places are used, and all places.
 pub fn list(used: u16, places: &[u8]) -> Vec<u8> {
-    let mut bytes = vec![LIST, 1];
+    let mut bytes = vec![LIST, version(LIST)];
     bytes.extend(used.to_be_bytes());
     bytes.extend(places);
     bytes
