@@ -1,6 +1,7 @@
-// The six exchanges of RFC 2433, B.1.
+// The six exchanges of RFC 2433, B.1, and a Success that did not arrive.
 use accounts::Lookup;
 use authenticator::Retries;
+use loopback::again;
 use loopback::another_challenge;
 use loopback::challenge;
 use loopback::change;
@@ -62,6 +63,16 @@ fn retried_and_changed() {
     change(loopback);
 }
 
+// The peer has the same octets to send: it is where it was.
+fn missed() {
+    title(b"A Success that did not arrive");
+    let mut loopback = usual_opening();
+    let peer = loopback.peer;
+    loopback = rightly(loopback, false);
+    say(b"   The peer does not hear it, and sends its Response again:");
+    again(loopback, peer);
+}
+
 pub(crate) fn all() {
     successful();
     failed();
@@ -69,4 +80,5 @@ pub(crate) fn all() {
     attacked();
     changed();
     retried_and_changed();
+    missed();
 }

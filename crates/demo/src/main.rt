@@ -1,6 +1,6 @@
-// A box (the authenticator) and a peer talk: the six exchanges of RFC 2433, B.1, and the slips that
-// cost weeks. Each packet is a line: who sends it, its kind, its identifier and its octets; a
-// sentence says what it means.
+// A box (the authenticator) and a peer talk: the six exchanges of RFC 2433, B.1, a reply that is
+// missed, and the slips that cost weeks. Each packet is a line: who sends it, its kind, its
+// identifier and its octets; a sentence says what it means.
 mod exchanges;
 mod slips;
 
@@ -9,8 +9,8 @@ use loopback::say;
 // What a student needs to read the rest.
 fn key() {
     say(b"A box (the authenticator) and a peer talk MS-CHAP version 1: the six exchanges of");
-    say(b"RFC 2433, B.1, and then nine slips, each with what to look at. The account is");
-    say(b"BENCH\\user; its password is 'MyPw', a wrong one is 'bad', and the new one 'MyNewPw'.");
+    say(b"RFC 2433, B.1, a reply that is missed, and ten slips, each with what to look at. The");
+    say(b"account is BENCH\\user; its password is 'MyPw', a wrong one 'bad', a new one 'MyNewPw'.");
     say(b"<- is a packet of the box, -> one of the peer, with its first 64 octets in hexadecimal.");
     say(b"Octets are counted from 0. Behind code, identifier and Length (two octets) a packet has");
     say(b"   Challenge        08, and from octet 5 on the challenge: eight octets to be answered");

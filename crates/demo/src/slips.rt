@@ -4,6 +4,7 @@ use authenticator::Retries;
 use loopback::IssuedList;
 use loopback::Loopback;
 use loopback::account;
+use loopback::again;
 use loopback::another_challenge;
 use loopback::answered;
 use loopback::challenge;
@@ -93,9 +94,8 @@ fn shared() {
 
 // A retry from the right password, to the challenge that a carry makes.
 fn carried(loopback: Loopback, slip: [u8; 8]) {
-    say(
-        b"   The same retry by a peer that carries: it has the right password, and is turned away.",
-    );
+    say(b"   In place of that, the same retry by a peer that carries: it has the right password,");
+    say(b"   and is turned away.");
     let password = right();
     let mut out = [0u8; 310];
     let wrote = write_response(loopback, &password, &mut out);
@@ -183,6 +183,21 @@ fn fallback() {
     wrongly_with_lm(loopback, lm, account_with_lm(hash));
 }
 
+// A guess under the identifier that was answered, and then the retry, both from the right password.
+fn judged_again() {
+    title(b"Slip: a repeated Response judged again.");
+    say(b"   A repeat draws the last reply again, whatever is in it. Look at the reply to it: the");
+    say(b"   slip would send Success, 03070004, and one identifier would do for any number of");
+    say(b"   guesses.");
+    let mut loopback = opening(7, challenge(), Retries::Count(1));
+    let peer = loopback.peer;
+    loopback = wrongly(loopback, false);
+    say(b"   The next guess, under the identifier that was answered, is the right password:");
+    loopback = again(loopback, peer);
+    say(b"   The conversation is where it was, and the retry is still left:");
+    rightly(loopback, false);
+}
+
 // ---- the change
 
 // The right change but for the octets from a place on, which a slip made otherwise.
@@ -241,6 +256,7 @@ pub(crate) fn all() {
     disabled();
     unknown();
     fallback();
+    judged_again();
     by_old_hash();
     second_key();
     anew();

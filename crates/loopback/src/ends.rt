@@ -152,6 +152,8 @@ pub fn answered(
     let packet = octets::part_of(out, 0, written.length);
     lines::from_peer(packet, made);
     let answer = before.step(packet, lookup, &mut reply);
+    let kind = answer.kind;
+    lines::repeated(kind);
     let conversation = answer.next;
     let updated = answer.updated;
     let waiting = wrote.peer;
@@ -199,6 +201,13 @@ pub fn rightly(loopback: Loopback, expired: bool) -> Loopback {
 
 pub fn wrongly(loopback: Loopback, expired: bool) -> Loopback {
     wrongly_for(loopback, account(expired))
+}
+
+// A Response from the right password by a peer that did not hear the last reply: the box has gone
+// on, and the peer is where it was.
+pub fn again(mut loopback: Loopback, peer: Peer) -> Loopback {
+    loopback.peer = peer;
+    rightly(loopback, false)
 }
 
 // ---- the change

@@ -6,6 +6,7 @@ mod lines;
 pub use ends::IssuedList;
 pub use ends::Loopback;
 pub use ends::account;
+pub use ends::again;
 pub use ends::another_challenge;
 pub use ends::answered;
 pub use ends::challenge;

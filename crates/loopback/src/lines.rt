@@ -1,4 +1,5 @@
 // What is printed: text, and packets.
+use authenticator::Kind;
 use libc::STDOUT_FILENO;
 use message::Call;
 use message::Failed;
@@ -129,6 +130,16 @@ pub(crate) fn from_peer(octets: &[u8], made: &[u8]) {
     packet(b"   -> ", octets);
     put(b"      ");
     say(made);
+}
+
+// That the box does not judge the packet, where it is a repeat.
+pub(crate) fn repeated(kind: Kind) {
+    match kind {
+        Kind::Repeated(_) => say(
+            b"      A repeat: the box does not judge it, and gives its last reply again.",
+        ),
+        _ => {}
+    }
 }
 
 // Document 01's reasons.
