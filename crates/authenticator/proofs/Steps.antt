@@ -5,7 +5,7 @@ use mathlib.Core.Bool.{Bool, true, false, not, _&&_, and-false, true≢false}
 use mathlib.Core.List.{List}
 use mathlib.Core.Logic.{_≢_}
 use mathlib.Core.Path.{_≡_, refl, sym, ap, _∙_}
-use Prim.Native.Nat.{ℕ, _≤_}
+use Prim.Native.Nat.{ℕ, _≤_, _<_}
 use native.Mathlib.Omega.{arith}
 use borrow.Author.Tests.{lt-ltb, ne-eqb, eq-eqb, eqb-true, eqb-false}
 use lib.Dec.{eqb}
@@ -13,6 +13,7 @@ use lib.ListN.{length}
 use Rattle.octets.proofs.Parts.{agrees-refl}
 use Rattle.accounts.specs.declared.Lookup.{Lookup}
 use Rattle.packets.proofs.Writing.{taken}
+use Rattle.packets.specs.Frame.{octet}
 use Rattle.packets.specs.Reply.{longestReply}
 use Rattle.authenticator.specs.Admit.{isRepeat, stepRefusal}
 use Rattle.authenticator.specs.Judge.{judge}
@@ -155,6 +156,18 @@ refused-whole c s h =
     let n = number-step c (s .packet) (s .account) (s .buffer) in
     refused-step c (s .packet) (s .account) (s .buffer) (λ e. h (n ∙ e))
     ∙ ap (λ (k : ℕ). refusedAs k c (s .buffer)) (sym n)
+
+-- so a packet that drew a reply was not refused
+pub drew-answered : (c : Conversation) (s : StepInput) {n : ℕ}
+    → octet 0 (replyOf (stepOn c s)) ≡ n → 0 < n → refusalAt stepOn c s ≡ 0
+drew-answered c s {n} e pos = which (eqb (refusalAt stepOn c s) 0) refl
+  where
+    which : (t : Bool) → eqb (refusalAt stepOn c s) 0 ≡ t → refusalAt stepOn c s ≡ 0
+    which true z = eqb-true (refusalAt stepOn c s) 0 z
+    which false z =
+        let nothing = ap (λ (o : Outcome). octet 0 (replyOf o))
+        (refused-whole c s (eqb-false (refusalAt stepOn c s) 0 z)) in
+        absurd (omega arith)
 
 -- ---- the reply
 

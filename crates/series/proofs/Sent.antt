@@ -1,13 +1,13 @@
 -- What our peer's packets carry, with any box: the code of their kind and the identifier of its
 -- turn; and its turn after a Failure that calls for a retry. And which packets our box takes for a
--- repeat.
+-- repeat, and which are seen to be one.
 -- Assumes nothing.
-use mathlib.Core.Bool.{Bool, false, cond, _&&_, and-false}
+use mathlib.Core.Bool.{Bool, true, false, cond, not, _&&_, and-false}
 use mathlib.Core.List.{List, _++_}
 use mathlib.Core.Logic.{_≢_}
 use mathlib.Core.Path.{_≡_, ap, _∙_}
 use Prim.Native.Nat.{ℕ}
-use borrow.Author.Tests.{eq-eqb, ne-eqb}
+use borrow.Author.Tests.{le-ltb, eq-eqb, ne-eqb}
 use lib.Dec.{eqb}
 use lib.ListN.{length}
 use Rattle.challenges.specs.Challenges.{nextId}
@@ -15,13 +15,15 @@ use Rattle.message.specs.Message.{calledFor, failedWith, noChallenge}
 use Rattle.message.specs.Reasons.{authenticationFailure}
 use Rattle.message.specs.declared.Reading.{Reading}
 use Rattle.packets.specs.Codes.{responseCode, changeCode}
-use Rattle.packets.specs.Frame.{octet}
+use Rattle.packets.specs.Frame.{octet, badFrame}
+use Rattle.packets.specs.Reply.{longestReply, badReplyBuffer}
 use Rattle.packets.specs.declared.ChallengeFields.{ChallengeFields}
 use Rattle.authenticator.specs.Admit.{isRepeat, stepRefusal}
 use Rattle.authenticator.specs.Encode.{version}
 use Rattle.authenticator.specs.Opening.{Opening, opened}
-use Rattle.authenticator.specs.Steps.{StepInput, Box}
+use Rattle.authenticator.specs.Steps.{StepInput, Box, BoxState, repeatsAnswered, isRepeatAt}
 use Rattle.authenticator.specs.declared.Conversation.{Conversation}
+use Rattle.authenticator.proofs.Admitted.{Readable}
 use Rattle.authenticator.proofs.Steps.{repeats-step}
 use Rattle.peer.specs.Peer.{peerReads}
 use Rattle.peer.specs.Write.{writeResponse}
@@ -113,3 +115,17 @@ module _ (c : Conversation) (s : StepInput) where
       not-here (ap (λ (t : Bool). c .last .present && (code && t))
       (ne-eqb (octet 1 (s .packet)) (c .last .id) n)
       ∙ ap (λ (t : Bool). c .last .present && t) (and-false code) ∙ and-false (c .last .present))
+
+-- ---- what is seen to be a repeat, and what is not
+
+module _ (p : BoxState) (s : StepInput) where
+  pub seen-repeat : Readable (s .packet) (s .buffer)
+      → repeatsAnswered (p .answered) (s .packet) ≡ true → isRepeatAt p s ≡ true
+  seen-repeat r e = rw (le-ltb (length (s .buffer)) longestReply (r .room), r .frame, e)
+
+  pub seen-new : repeatsAnswered (p .answered) (s .packet) ≡ false → isRepeatAt p s ≡ false
+  seen-new e =
+      let room = not (badReplyBuffer (s .buffer)) in
+      let frame = not (badFrame (s .packet)) in
+      ap (λ (x : Bool). room && (frame && x)) e
+      ∙ ap (λ (x : Bool). room && x) (and-false frame) ∙ and-false room

@@ -4,14 +4,12 @@
 -- each of the three packets once more after its answer, with another record; and a later
 -- conversation.
 -- Assumes nothing.
-use mathlib.Core.Bool.{Bool, true, false}
+use mathlib.Core.Bool.{true, false}
 use mathlib.Core.List.{List, [], _∷_}
 use mathlib.Core.Logic.{inl, inr}
 use mathlib.Core.Path.{_≡_, refl, ap, _∙_}
 use Prim.Native.Nat.{ℕ, _<_}
 use native.Mathlib.Omega.{arith}
-use borrow.Author.Tests.{eqb-true, eqb-false}
-use lib.Dec.{eqb}
 use lib.ListN.{replicate}
 use Rattle.issued.specs.Issued.{emptyList}
 use Rattle.message.specs.Message.{textOf}
@@ -20,16 +18,14 @@ use Rattle.accounts.specs.Account.{blankAccount, notFound, found}
 use Rattle.authenticator.specs.Admit.{refusalFor}
 use Rattle.authenticator.specs.Encode.{version}
 use Rattle.authenticator.specs.Opening.{Opening, opened}
-use Rattle.authenticator.specs.Step.{Outcome}
-use Rattle.authenticator.specs.Steps.{StepInput, stepOn, replyOf, BoxState, nextAfter, refusalAt}
+use Rattle.authenticator.specs.Steps.{StepInput, stepOn, replyOf, BoxState, nextAfter}
 use Rattle.authenticator.specs.Steps.{unanswered, nextState, NotJudged}
 use Rattle.accounts.specs.declared.Account.{Account}
-use Rattle.authenticator.specs.declared.Conversation.{Conversation}
 use Rattle.authenticator.specs.declared.Phase.the-variants.{Ended}
 use Rattle.authenticator.specs.declared.Retries.the-variants.{Default, Count}
 use Rattle.authenticator.specs.declared.LmChoice.the-variants.{Silent}
 use Rattle.authenticator.proofs.Openings.{may-open-empty}
-use Rattle.authenticator.proofs.Steps.{refused-whole}
+use Rattle.authenticator.proofs.Steps.{drew-answered}
 use Rattle.series.specs.Course.{end, Along, total}
 use Rattle.series.specs.Series.{right, Step, other, SeriesState, start, exchange, next}
 use Rattle.series.specs.Series.{
@@ -189,19 +185,6 @@ claimed = demand3 (opening (Count 1)) opens-once refl .1 (account true) 1 [] ste
 
 -- ---- the repeats of this series
 
--- a packet that drew a reply was answered
-pub answered-by : (c : Conversation) (s : StepInput) {n : ℕ} → octet 0 (replyOf (stepOn c s)) ≡ n
-    → 0 < n
-    → refusalAt stepOn c s ≡ 0
-answered-by c s {n} e pos = which (eqb (refusalAt stepOn c s) 0) refl
-  where
-    which : (t : Bool) → eqb (refusalAt stepOn c s) 0 ≡ t → refusalAt stepOn c s ≡ 0
-    which true z = eqb-true (refusalAt stepOn c s) 0 z
-    which false z =
-        let none = ap (λ (o : Outcome). octet 0 (replyOf o))
-        (refused-whole c s (eqb-false (refusalAt stepOn c s) 0 z)) in
-        absurd (omega arith)
-
 -- once more it draws the same reply, hands out no record and leaves the conversation
 abbrev DrawnAgain : BoxState → StepInput → Type 0
 DrawnAgain p s = Drawn (replyOf (stepOn (p .conversation) s)) (nextAfter stepOn (p .conversation) s)
@@ -211,7 +194,7 @@ drawn-again : (p : BoxState) (s : StepInput) {n : ℕ}
     → octet 0 (replyOf (stepOn (p .conversation) s)) ≡ n → 0 < n → DrawnAgain p s
 drawn-again p s e pos =
     let c = p .conversation in
-    let ok = answered-by c s e pos in
+    let ok = drew-answered c s e pos in
     let a = again-itself c s ok in
     any-number c s ok (again s ∷ [])
     (record { code = refl; id = refl; room = a .room; frame = a .frame }, tt) .0 .0

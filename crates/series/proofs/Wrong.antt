@@ -39,7 +39,7 @@ use Rattle.authenticator.specs.Steps.{
 }
 use Rattle.accounts.specs.declared.Account.{Account}
 use Rattle.accounts.specs.declared.Lookup.{Lookup}
-use Rattle.authenticator.proofs.Steps.{refused-whole, reply-of}
+use Rattle.authenticator.proofs.Steps.{drew-answered, reply-of}
 use Rattle.authenticator.specs.declared.Conversation.{Conversation}
 use Rattle.authenticator.specs.declared.Retries.the-variants.{Default, Count}
 use Rattle.authenticator.proofs.Openings.{opened-first}
@@ -109,22 +109,17 @@ not-refusing n h =
 
 module _ (d : Judge) (c : Conversation) (s : StepInput) (new : repeatsHere c s ≡ false) where
   -- a packet that is no repeat and draws a reply was judged
-  drew : {n : ℕ} → octet 0 (replyOf (judging d c s)) ≡ n → 0 < n → judging d c s
-      ≡ judgedAs c (d c s) (s .buffer)
-  drew {n} e pos = which (eqb (refusalAt stepOn c s) 0) refl
+  drew : {n : ℕ} → octet 0 (replyOf (judging d c s)) ≡ n → 0 < n
+      → judging d c s ≡ judgedAs c (d c s) (s .buffer)
+  drew e pos = which (eqb (refusalAt stepOn c s) 0) refl
     where
-      here : (t : Bool) → eqb (refusalAt stepOn c s) 0 ≡ t → judging d c s
-          ≡ cond t (judgedAs c (d c s) (s .buffer)) (stepOn c s)
-      here true z = rw (z, new)
-      here false z = rw z
-
-      which : (t : Bool) → eqb (refusalAt stepOn c s) 0 ≡ t → judging d c s
-          ≡ judgedAs c (d c s) (s .buffer)
-      which true z = here true z
+      which : (t : Bool) → eqb (refusalAt stepOn c s) 0 ≡ t
+          → judging d c s ≡ judgedAs c (d c s) (s .buffer)
+      which true z = rw (z, new)
       which false z =
-          let none = ap (λ (o : Outcome). octet 0 (replyOf o))
-          (here false z ∙ refused-whole c s (eqb-false (refusalAt stepOn c s) 0 z)) in
-          absurd (omega arith)
+          let ours : judging d c s ≡ stepOn c s = rw z in
+          absurd (eqb-false (refusalAt stepOn c s) 0 z
+          (drew-answered c s (ap (λ (o : Outcome). octet 0 (replyOf o)) (sym ours) ∙ e) pos))
 
   -- and the reply is the one that it draws
   code-drawn : {n : ℕ} → 17 ≤ length (s .buffer) → octet 0 (replyOf (judging d c s)) ≡ n → 0 < n

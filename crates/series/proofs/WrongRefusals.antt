@@ -14,9 +14,9 @@ use lib.Dec.{eqb}
 use lib.ListN.{take, replicate}
 use Rattle.octets.specs.Parts.{agrees}
 use Rattle.message.specs.Message.{textOf}
-use Rattle.packets.specs.Frame.{octet, badFrame, writtenOver}
+use Rattle.packets.specs.Frame.{octet, writtenOver}
 use Rattle.packets.specs.Response.{responseRefusal}
-use Rattle.packets.specs.Reply.{successPacket, failurePacket, badReplyBuffer}
+use Rattle.packets.specs.Reply.{successPacket, failurePacket}
 use Rattle.accounts.specs.Account.{found}
 use Rattle.authenticator.specs.Conversation.{isEnded}
 use Rattle.authenticator.specs.Opening.{firstConversation, opened}
@@ -34,7 +34,6 @@ use Rattle.authenticator.specs.Steps.{
   repeatsAnswered,
 }
 use Rattle.authenticator.specs.Steps.{
-  isRepeatAt,
   ruledRefusal,
   nextAfter,
   isJudged,
@@ -67,7 +66,7 @@ use Rattle.series.proofs.Sample.{
   rightTry,
   right-allowed,
 }
-use Rattle.series.proofs.Sent.{first-id, sent-carries}
+use Rattle.series.proofs.Sent.{first-id, sent-carries, seen-new}
 use Rattle.series.proofs.Wrong.{success-code, try}
 
 abbrev pub first : Conversation
@@ -153,10 +152,6 @@ stray-is-judged = refl
 stray-judged : judged box (unanswered first) stray ≡ 1
 stray-judged = ap (λ (t : Bool). cond {A = ℕ} t 1 0) stray-is-judged
 
--- another identifier
-no-repeat : (t u v w : Bool) → w ≡ false → (t && (u && (v && w))) ≡ false
-no-repeat t u v w e = rw (e, and-false v, and-false u, and-false t)
-
 -- a Success was drawn
 pub success-drew : (o : Outcome) (before : List ℕ) (id : ℕ) → replyOf o ≡ successPacket id
     → drewReply o before ≡ true
@@ -191,13 +186,12 @@ not-judging-strays h =
     let x = exchange box ourWriter q (right old user) l in
     let id = sent-carries box q l (right old user) (all .0 .1 .0 .1) .1
     ∙ first-id (opening (Count 1)) opens-once refl [] in
-    let new : isRepeatAt (q .box) (x .input) ≡ false =
-    ap (λ (a : Option AnsweredPacket). not (badReplyBuffer (x .input .buffer)) &&
-    (not (badFrame (x .input .packet)) && repeatsAnswered a (x .input .packet)))
+    let new = seen-new (q .box) (x .input)
+    (ap (λ (a : Option AnsweredPacket). repeatsAnswered a (x .input .packet))
     (stray-seen (p .box .conversation) first-once)
-    ∙ no-repeat (not (badReplyBuffer (x .input .buffer))) (not (badFrame (x .input .packet)))
-    (eqb (octet 0 (x .input .packet)) 2) (eqb (octet 1 (x .input .packet)) 9)
-    (ne-eqb (octet 1 (x .input .packet)) 9 (λ e. omega (arith, id, e))) in
+    ∙ ap (λ (t : Bool). eqb (octet 0 (x .input .packet)) 2 && t)
+    (ne-eqb (octet 1 (x .input .packet)) 9 (λ e. omega (arith, id, e)))
+    ∙ and-false (eqb (octet 0 (x .input .packet)) 2)) in
     let one = ap₂ (λ (t u : Bool). cond {A = ℕ} (t && not u) 1 0)
     (success-drew (x .outcome) (replicate 17 0) (q .peer .turn .id) (all .0 .1 .0 .0 .0)) new in
     omega (

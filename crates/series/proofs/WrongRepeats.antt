@@ -9,16 +9,16 @@ use mathlib.Core.Option.{Option, none, some}
 use mathlib.Core.Path.{_≡_, refl, sym, ap, ap₂, _∙_, subst}
 use Prim.Native.Nat.{ℕ}
 use native.Mathlib.Omega.{arith}
-use borrow.Author.Tests.{le-ltb, eq-eqb, ne-eqb}
+use borrow.Author.Tests.{eq-eqb, ne-eqb}
 use lib.Dec.{eqb}
 use lib.ListN.{length, replicate}
 use Rattle.octets.specs.Parts.{agrees}
 use Rattle.octets.specs.Digits.{hexOf}
 use Rattle.message.specs.Message.{textOf}
 use Rattle.packets.specs.Codes.{responseCode, changeCode}
-use Rattle.packets.specs.Frame.{octet, badFrame, writtenOver}
+use Rattle.packets.specs.Frame.{octet, writtenOver}
 use Rattle.packets.specs.Response.{responseRefusal}
-use Rattle.packets.specs.Reply.{failurePacket, longestReply, badReplyBuffer}
+use Rattle.packets.specs.Reply.{failurePacket}
 use Rattle.packets.proofs.ReadBack.{ResponseBack}
 use Rattle.packets.proofs.Writing.{length-success}
 use Rattle.authenticator.specs.Encode.{replyPacket}
@@ -47,6 +47,7 @@ use Rattle.authenticator.specs.declared.Retries.the-variants.{Count}
 use Rattle.authenticator.proofs.Admitted.{Readable}
 use Rattle.authenticator.specs.Repeats.{Again}
 use Rattle.authenticator.proofs.Repeats.{Keeps, answered, repeats-again}
+use Rattle.authenticator.proofs.Steps.{drew-answered}
 use Rattle.peer.specs.Write.{responseFields, responseFor}
 use Rattle.peer.specs.declared.Turn.{Turn}
 use Rattle.peer.proofs.Found.{response-found}
@@ -61,7 +62,7 @@ use Rattle.series.specs.Boxes.{
   neverRepeats,
   comparesIdentifier,
   guessesRight,
-  letsIn,
+  acceptsGuess,
   judgesRepeats,
   isChange,
   handsOut,
@@ -84,14 +85,16 @@ use Rattle.series.proofs.Sample.{
   right-allowed,
   change-allowed,
 }
-use Rattle.series.proofs.Sent.{sent-carries, none-answered, other-code}
+use Rattle.series.proofs.Sent.{
+  sent-carries,
+  none-answered,
+  other-code,
+  seen-repeat,
+  seen-new,
+}
 use Rattle.series.proofs.Taken.{right-valid}
-use Rattle.series.proofs.Witness.{answered-by}
 use Rattle.series.proofs.Wrong.{success-code, failure-code, try, tries}
 use Rattle.series.proofs.WrongRefusals.{first, first-once, success-drew}
-
-all-true : (t u v : Bool) → t ≡ true → u ≡ true → v ≡ true → (t && (u && v)) ≡ true
-all-true t u v p q r = rw (p, q, r)
 
 -- ---- after one invalid try
 
@@ -128,9 +131,7 @@ module _ (w : Conversation → StepInput → Bool) (f : Box) where
   seen-again : (t : StepInput) → octet 0 (t .packet) ≡ 2 → octet 1 (t .packet) ≡ 255
       → Readable (t .packet) (t .buffer) → isRepeatAt after t ≡ true
   seen-again t code id r =
-      all-true (not (badReplyBuffer (t .buffer))) (not (badFrame (t .packet)))
-      (repeatsAnswered (after .answered) (t .packet))
-      (ap not (le-ltb (length (t .buffer)) longestReply (r .room))) (ap not (r .frame))
+      seen-repeat after t r
       (ap (λ (a : Option AnsweredPacket). repeatsAnswered a (t .packet)) seen-first
       ∙ ap₂ (λ (x y : Bool). x && y) (eq-eqb (octet 0 (t .packet)) 2 code)
       (eq-eqb (octet 1 (t .packet)) 255 id))
@@ -179,39 +180,56 @@ not-refusing-repeats n h =
 
 -- ---- judges a repeat anew
 
--- the right password under the old identifier, to the challenge in force
-abbrev guessTurn : Turn
-guessTurn = record { id = 255; challenge = second .challenge }
+module _ (past : List ℕ → List ℕ) (k : Kind) (h : Demand3 (judgesRepeats past k) ourWriter) where
+  -- the right password under the old identifier, to the challenge by which the box judges it
+  abbrev judgedBy : Conversation
+  judgedBy = record {
+    terms = second .terms;
+    id = second .id;
+    challenge = past (second .challenge);
+    retries = second .retries;
+    phase = second .phase;
+    kept = second .kept;
+    last = second .last;
+  }
 
-abbrev guess : StepInput
-guess = record {
-  packet = responseFor guessTurn old user ++ [];
-  account = found
-      (account false);
-  buffer = replicate 17 0;
-}
+  abbrev turn : Turn
+  turn = record { id = 255; challenge = past (second .challenge) }
 
-guess-found : ResponseBack 255 (responseFields (second .challenge) old) user (guess .packet)
-guess-found = response-found guessTurn old user [] (omega arith) (omega arith)
+  abbrev guess : StepInput
+  guess = record {
+    packet = responseFor turn old user ++ [];
+    account = found (account false);
+    buffer = replicate 17 0;
+  }
 
--- draws Success, where the same Failure was due
-pub not-judging-repeats : (k : Kind) → Demand3 (judgesRepeats k) ourWriter → ⊥
-not-judging-repeats k h =
-    let readable : Readable (guess .packet) (guess .buffer) =
-    record { room = omega arith; frame = guess-found .frame } in
-    let place = after guessesRight (letsIn k) in
-    let same = claim-after (judgesRepeats k) h guess .sameReply failed
-    (seen-first guessesRight (letsIn k))
-    (seen-again guessesRight (letsIn k) guess (guess-found .code) (guess-found .id) readable) .0 in
-    let valid : guessesRight (place .conversation) guess ≡ true =
-    ap (λ (c : Conversation). guessesRight c guess) (second-is guessesRight (letsIn k))
-    ∙ right-valid second guessTurn refl old user [] (omega arith, omega arith)
-    (account false) refl refl in
-    let here = again-here guessesRight (letsIn k) guess (guess-found .code) (guess-found .id)
-    readable in
-    let drawn = ap (λ (o : Outcome). o .answer .written)
-    (as-other guessesRight (letsIn k) (place .conversation) guess here valid) in
-    omega (arith, same, drawn, length-success (octet 1 (guess .packet)), failed-length)
+  guess-found : ResponseBack 255 (responseFields (turn .challenge) old) user (guess .packet)
+  guess-found = response-found turn old user [] (omega arith) (omega arith)
+
+  readable : Readable (guess .packet) (guess .buffer)
+  readable = record { room = omega arith; frame = guess-found .frame }
+
+  abbrev right-guess : Conversation → StepInput → Bool
+  right-guess = guessesRight past
+
+  guess-right : right-guess (after right-guess (acceptsGuess k) .conversation) guess ≡ true
+  guess-right =
+      ap (λ (c : Conversation). right-guess c guess) (second-is right-guess (acceptsGuess k))
+      ∙ right-valid judgedBy turn refl old user [] (omega arith, omega arith) (account false)
+      refl refl
+
+  -- draws Success, where the same Failure was due
+  pub not-judging-repeats : ⊥
+  not-judging-repeats =
+      let f = acceptsGuess k in
+      let code = guess-found .code in
+      let id = guess-found .id in
+      let same = claim-after (judgesRepeats past k) h guess .sameReply failed
+      (seen-first right-guess f) (seen-again right-guess f guess code id readable) .0 in
+      let drawn = ap (λ (o : Outcome). o .answer .written)
+      (as-other right-guess f (after right-guess f .conversation) guess
+      (again-here right-guess f guess code id readable) guess-right) in
+      omega (arith, same, drawn, length-success (octet 1 (guess .packet)), failed-length)
 
 -- ---- hands a record out again
 
@@ -271,7 +289,7 @@ module _ (k : Kind) (h : Demand3 (handsOutAgain k) ourWriter) where
   last-code =
       let drew = ap (λ (x : Outcome). octet 0 (replyOf x)) (sym ours)
       ∙ ap (octet 0) (claimed .0 .0 .0) ∙ failure-code _ (textOf 648 0 2) in
-      let ok = answered-by (p .box .conversation) s drew (omega arith) in
+      let ok = drew-answered (p .box .conversation) s drew (omega arith) in
       ap (λ (x : Outcome). x .answer .next .last .code) ours
       ∙ answered (p .box .conversation) s ok .code ∙ response-sent
 
@@ -284,7 +302,7 @@ module _ (k : Kind) (h : Demand3 (handsOutAgain k) ourWriter) where
 
   change-answered : refusalAt stepOn (q .box .conversation) t ≡ 0
   change-answered =
-      answered-by (q .box .conversation) t
+      drew-answered (q .box .conversation) t
       (ap (λ (x : Outcome). octet 0 (replyOf x)) (sym theirs)
       ∙ ap (octet 0) (claimed .1 .0 .0 .0 .0) ∙ success-code _) (omega arith)
 
@@ -297,17 +315,14 @@ module _ (k : Kind) (h : Demand3 (handsOutAgain k) ourWriter) where
   -- by what is seen: a reply was drawn to the change, and it was no repeat
   change-new : isRepeatAt (q .box) t ≡ false
   change-new =
-      let fresh = other-answered (isJudged box (p .box) s)
+      seen-new (q .box) t
+      (other-answered (isJudged box (p .box) s)
       (record {
         code = octet 0 (s .packet);
         id = octet 1 (s .packet);
         reply = replyOf (box (p .box .conversation) s);
       })
-      (t .packet) (λ e. omega (arith, sym change-sent ∙ e ∙ response-sent)) in
-      let room = not (badReplyBuffer (t .buffer)) in
-      let frame = not (badFrame (t .packet)) in
-      ap (λ (x : Bool). room && (frame && x)) fresh
-      ∙ ap (λ (x : Bool). room && x) (and-false frame) ∙ and-false room
+      (t .packet) (λ e. omega (arith, sym change-sent ∙ e ∙ response-sent)))
 
   change-seen : r .box .answered
       ≡ some (record {
@@ -325,14 +340,13 @@ module _ (k : Kind) (h : Demand3 (handsOutAgain k) ourWriter) where
       (claimed .1 .0 .0 .0 .0)) change-new
 
   -- so the change once more is a repeat
-  repeat-seen : isRepeatAt (r .box) (once-more t) ≡ true
-  repeat-seen =
+  again-seen : isRepeatAt (r .box) (once-more t) ≡ true
+  again-seen =
       let a = again-itself (q .box .conversation) t change-answered in
-      all-true (not (badReplyBuffer (t .buffer))) (not (badFrame (t .packet))) _
-      (ap not (le-ltb (length (t .buffer)) longestReply (a .room))) (ap not (a .frame))
+      seen-repeat (r .box) (once-more t) (record { room = a .room; frame = a .frame })
       (ap (λ (x : Option AnsweredPacket). repeatsAnswered x (t .packet)) change-seen
-      ∙ ap₂ (λ (x y : Bool). x && y) (eq-eqb (octet 0 (t .packet)) _ refl)
-      (eq-eqb (octet 1 (t .packet)) _ refl))
+      ∙ ap₂ (λ (x y : Bool). x && y) (eq-eqb (octet 0 (t .packet)) (octet 0 (t .packet)) refl)
+      (eq-eqb (octet 1 (t .packet)) (octet 1 (t .packet)) refl))
 
   -- and this box hands out a record with it
   handed-out : box (r .box .conversation) (once-more t) .answer .updated .found ≡ true
@@ -351,7 +365,7 @@ module _ (k : Kind) (h : Demand3 (handsOutAgain k) ourWriter) where
       let u = once-more t in
       let drew = drewReply (box (r .box .conversation) u) (u .buffer) in
       let unjudged : judged box (r .box) u ≡ 0 =
-      ap (λ (x : Bool). cond {A = ℕ} (drew && not x) 1 0) repeat-seen
+      ap (λ (x : Bool). cond {A = ℕ} (drew && not x) 1 0) again-seen
       ∙ ap (λ (x : Bool). cond {A = ℕ} x 1 0) (and-false drew) in
       let claim = h (opening (Count 1)) opens-once refl .2 (s ∷ t ∷ u ∷ []) .1 .1 .1 .0 in
       true≢false (sym handed-out ∙ claim .leaves unjudged .1)

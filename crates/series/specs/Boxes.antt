@@ -3,6 +3,7 @@
 -- WrongRefusals, WrongRepeats).
 -- Assumes nothing: these are definitions.
 use mathlib.Core.Bool.{Bool, true, cond, not, _&&_}
+use mathlib.Core.List.{List}
 use Prim.Native.Nat.{ℕ}
 use lib.Dec.{eqb, ltb}
 use Rattle.message.specs.Reasons.{noReason}
@@ -186,17 +187,19 @@ abbrev pub neverRepeats : ℕ → Box
 neverRepeats n = answeringRepeats (λ c s. true) (refusing n)
 
 -- judges it anew: under the old identifier a wrong guess draws the same reply as before and leaves
--- the conversation, and a right one, by the challenge in force, draws Success, by whatever name
-abbrev pub guessesRight : Conversation → StepInput → Bool
-guessesRight c s = foundValid (c .terms) (c .challenge) (s .account) (readResponse (s .packet))
+-- the conversation, and a right one draws Success, by whatever name; by the challenge in force or,
+-- as `past` gives it from that, by another one, as that of the packet that it repeats
+abbrev pub guessesRight : (List ℕ → List ℕ) → Conversation → StepInput → Bool
+guessesRight past c s =
+    foundValid (c .terms) (past (c .challenge)) (s .account) (readResponse (s .packet))
 
-abbrev pub letsIn : Kind → Box
-letsIn k c s = withKind k
+abbrev pub acceptsGuess : Kind → Box
+acceptsGuess k c s = withKind k
     (judgedAs (withId (octet 1 (s .packet)) c) (judgementFor c (s .account .account) noReason)
     (s .buffer))
 
-abbrev pub judgesRepeats : Kind → Box
-judgesRepeats k = answeringRepeats guessesRight (letsIn k)
+abbrev pub judgesRepeats : (List ℕ → List ℕ) → Kind → Box
+judgesRepeats past k = answeringRepeats (guessesRight past) (acceptsGuess k)
 
 -- hands out, with a repeated change, the record that is passed with it, by whatever name (the kept
 -- record is dropped at the end)
