@@ -1,6 +1,7 @@
--- Demand 3 holds of none of these boxes: one that refuses a repeat, one that judges it anew, one
--- that hands a record out with a repeated change, one that takes another packet for a repeat; and
--- one that calls its judgements repeats, whether it judges as ours does or without end.
+-- Demand 3 holds of none of these boxes: one that refuses a repeat between tries, one that refuses
+-- it after the end, one that judges it anew, one that hands a record out with a repeated change,
+-- one that takes another packet for a repeat; and one that calls its judgements repeats, whether it
+-- judges as ours does or without end.
 -- Assumes nothing.
 use mathlib.Core.Bool.{Bool, true, false, cond, not, _&&_, and-false, true≢false}
 use mathlib.Core.List.{List, [], _∷_, _++_}
@@ -28,6 +29,7 @@ use Rattle.verify.specs.Response.{firstReason, responseReason}
 use Rattle.authenticator.specs.Admit.{refusalFor}
 use Rattle.authenticator.specs.Conversation.{retried, answerWith, withLast}
 use Rattle.authenticator.specs.Judge.{judgeResponse, judge}
+use Rattle.authenticator.specs.Opening.{firstConversation, opened}
 use Rattle.authenticator.specs.Step.{Outcome, isRepeated, step}
 use Rattle.authenticator.specs.Steps.{
   StepInput,
@@ -45,6 +47,7 @@ use Rattle.authenticator.specs.declared.Kind.{Kind}
 use Rattle.authenticator.specs.declared.Reply.the-variants.{Failure}
 use Rattle.authenticator.specs.declared.Retries.the-variants.{Count}
 use Rattle.authenticator.proofs.Admitted.{Readable}
+use Rattle.authenticator.proofs.Openings.{opened-first, may-open-empty}
 use Rattle.authenticator.specs.Repeats.{Again}
 use Rattle.authenticator.proofs.Repeats.{Keeps, answered, repeats-again}
 use Rattle.authenticator.proofs.Steps.{drew-answered}
@@ -59,7 +62,9 @@ use Rattle.series.specs.Boxes.{
   neverCounts,
   answeringRepeats,
   refusing,
-  neverRepeats,
+  silentAfterEnd,
+  beforeEnd,
+  silentBetweenTries,
   comparesIdentifier,
   guessesRight,
   acceptsGuess,
@@ -73,6 +78,7 @@ use Rattle.series.specs.Boxes.{
 use Rattle.series.specs.Writers.{ourWriter}
 use Rattle.series.proofs.Sample.{
   opening,
+  three-places,
   opens-once,
   old,
   user,
@@ -165,18 +171,60 @@ failed-length = refl
 try-readable : Readable (try 255 .packet) (try 255 .buffer)
 try-readable = record { room = omega arith; frame = refl }
 
--- ---- answers nothing more
+-- ---- repeats nothing between tries
 
-pub not-refusing-repeats : (n : ℕ) → Demand3 (neverRepeats n) ourWriter → ⊥
-not-refusing-repeats n h =
-    let always : Conversation → StepInput → Bool = λ c s. true in
+pub not-silent-between-tries : (n : ℕ) → Demand3 (silentBetweenTries n) ourWriter → ⊥
+not-silent-between-tries n h =
+    let f = refusing n in
     let t = try 255 in
-    let same = claim-after (neverRepeats n) h t .sameReply failed (seen-first always (refusing n))
-    (seen-again always (refusing n) t refl refl try-readable) .0 in
-    let none = ap (λ (o : Outcome). o .answer .written)
-    (as-other always (refusing n) (after always (refusing n) .conversation) t
-    (again-here always (refusing n) t refl refl try-readable) refl) in
-    omega (arith, same, none, failed-length)
+    let same = claim-after (silentBetweenTries n) h t .sameReply failed (seen-first beforeEnd f)
+    (seen-again beforeEnd f t refl refl try-readable) .0 in
+    let live = ap (λ (c : Conversation). beforeEnd c t) (second-is beforeEnd f) in
+    let nothing = ap (λ (o : Outcome). o .answer .written)
+    (as-other beforeEnd f (after beforeEnd f .conversation) t
+    (again-here beforeEnd f t refl refl try-readable) live) in
+    omega (arith, same, nothing, failed-length)
+
+-- ---- answers nothing more after the end
+
+-- with no retries the first invalid try ends the conversation
+abbrev only : Conversation
+only = firstConversation (opening (Count 0))
+
+opens-only : opened (opening (Count 0)) .refusal ≡ 0
+opens-only =
+    may-open-empty (opening (Count 0)) (omega arith) (omega arith) three-places refl refl
+    (omega arith)
+
+abbrev final : AnsweredPacket
+final = record { code = 2; id = 255; reply = failurePacket 255 (textOf 691 0 2) }
+
+final-length : length (final .reply) ≡ 17
+unfolding failurePacket textOf hexOf
+final-length = refl
+
+module _ (n : ℕ) where
+  abbrev over : BoxState
+  over = nextState (silentAfterEnd n) (unanswered only) (try 255)
+
+  seen-final : over .answered ≡ some final
+  unfolding refusalFor responseRefusal step judge judgeResponse responseReason firstReason
+      failurePacket textOf hexOf writtenOver agrees
+  seen-final = refl
+
+  nothing-more : silentAfterEnd n (over .conversation) (try 255) .answer .written ≡ 0
+  unfolding refusalFor responseRefusal step judge judgeResponse responseReason firstReason
+  nothing-more = refl
+
+  pub not-silent-after-end : Demand3 (silentAfterEnd n) ourWriter → ⊥
+  not-silent-after-end h =
+      let claim = subst (λ (c : Conversation). StepClaim (silentAfterEnd n)
+      (nextState (silentAfterEnd n) (unanswered c) (try 255)) (try 255))
+      (opened-first (opening (Count 0)) opens-only)
+      (h (opening (Count 0)) opens-only refl .2 (try 255 ∷ try 255 ∷ []) .1 .1 .0) in
+      let again = seen-repeat over (try 255) try-readable
+      (ap (λ (a : Option AnsweredPacket). repeatsAnswered a (try 255 .packet)) seen-final) in
+      omega (arith, claim .sameReply final seen-final again .0, nothing-more, final-length)
 
 -- ---- judges a repeat anew
 

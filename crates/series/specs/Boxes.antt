@@ -15,7 +15,7 @@ use Rattle.authenticator.specs.Encode.{replyPacket}
 use Rattle.accounts.specs.Account.{notFound, found}
 use Rattle.accounts.specs.declared.Lookup.{Lookup}
 use Rattle.verify.specs.Response.{foundValid}
-use Rattle.authenticator.specs.Conversation.{ended}
+use Rattle.authenticator.specs.Conversation.{isEnded, ended}
 use Rattle.authenticator.specs.declared.Judgement.{Judgement}
 use Rattle.authenticator.specs.Judge.{judgementFor, judge}
 use Rattle.authenticator.specs.Step.{Outcome, isRepeated, judgedAs, repeatedAs, refusedAs}
@@ -182,9 +182,19 @@ withUpdated l o =
 abbrev pub answeringRepeats : (Conversation → StepInput → Bool) → Box → Box
 answeringRepeats when f c s = cond (repeatsHere c s && when c s) (f c s) (stepOn c s)
 
--- answers nothing more: the packet is refused, with one number or another
-abbrev pub neverRepeats : ℕ → Box
-neverRepeats n = answeringRepeats (λ c s. true) (refusing n)
+-- answers nothing more after the end, or repeats nothing before it: the packet is refused, with one
+-- number or another
+abbrev pub afterEnd : Conversation → StepInput → Bool
+afterEnd c s = isEnded (c .phase)
+
+abbrev pub silentAfterEnd : ℕ → Box
+silentAfterEnd n = answeringRepeats afterEnd (refusing n)
+
+abbrev pub beforeEnd : Conversation → StepInput → Bool
+beforeEnd c s = not (isEnded (c .phase))
+
+abbrev pub silentBetweenTries : ℕ → Box
+silentBetweenTries n = answeringRepeats beforeEnd (refusing n)
 
 -- judges it anew: under the old identifier a wrong guess draws the same reply as before and leaves
 -- the conversation, and a right one draws Success, by whatever name; by the challenge in force or,
