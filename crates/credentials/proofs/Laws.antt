@@ -28,6 +28,7 @@ use Rattle.credentials.specs.declared.Content.the-variants.{Over, Odd, P
 use Rattle.credentials.specs.declared.Unsealed.{Unsealed}
 use Rattle.credentials.specs.declared.Sealed.{Sealed}
 use Rattle.credentials.specs.Credentials.{blockSize, ntHashOf, badNtPassword, lmKeys, upper, responseOf, oldUnderNew, plainBlock, sealedBlock, badFiller, sealRefusal, sealedAs, lengthIn, contentFor, lengthTold, passwordLength, ValidLength, unsealedAs, passwordIn}
+use Rattle.credentials.specs.Credentials.{lengthUnder}
 use Rattle.credentials.proofs.Plain.{front, front-length, body-length, plain-parts, length-plain}
 
 -- ---- lengths
@@ -86,6 +87,11 @@ module _ (filler password : List ℕ) (room : length filler ≡ 512) (fits : len
   unsealed-plain : (old : List ℕ) → crypted old (sealedBlock old filler password) ≡ plainBlock filler password
   unfolding sealedBlock
   unsealed-plain old = crypted-twice old (plainBlock filler password)
+
+  -- the length that it gives
+  pub length-under : (old : List ℕ)
+      → lengthUnder old (sealedBlock old filler password) ≡ length password
+  length-under old = ap lengthIn (unsealed-plain old) ∙ length-read
 
   pub length-sealed : (old : List ℕ) → length (sealedBlock old filler password) ≡ 516
   length-sealed old = sym (length-crypted old (sealedBlock old filler password)) ∙ ap length (unsealed-plain old) ∙ length-plain filler password room fits

@@ -1,6 +1,7 @@
 // Hashes, responses and the sealed password of MS-CHAP (RFC 2433, appendix A).
 use refusals::refuse_if;
 ghost use mathlib.Core.Path.{_≡_};
+ghost use mathlib.Core.Bool.{cond};
 ghost use mathlib.Core.List.{_++_};
 ghost use Prim.Native.Nat.{_≤_};
 ghost use lib.ListN.{length};
@@ -207,17 +208,21 @@ pub fn seal(old: [u8; HASH_SIZE], password: &[u8], filler: &[u8]) -> Sealed
     Sealed { refusal: 0, block }
 }
 
-// What a length of the opened block says.
+// A content where a test holds, and else the rest: the order of the tests is composed by this.
+fn content_if(test: bool, content: Content, rest: Content) -> Content
+    ensures { λ r. ⌜ r ≡ cond test content rest ⌝ }
+{
+    if test { content } else { rest }
+}
+
+// What a length of the opened block says: over 512 before odd.
 fn content_of(n: u32) -> Content
     ensures { λ r. ⌜ r ≡ contentFor n ⌝ }
 {
-    if (LONGEST_NT as u32) < n {
-        return Content::Over;
-    }
-    if n % 2 == 1 {
-        return Content::Odd;
-    }
-    Content::Password(n as usize)
+    let over = (LONGEST_NT as u32) < n;
+    let odd = n % 2 == 1;
+    let even = content_if(odd, Content::Odd, Content::Password(n as usize));
+    content_if(over, Content::Over, even)
 }
 
 // Opens a block under the old hash.

@@ -1,3 +1,4 @@
-pub mod NewHash
+pub mod Checked
 pub mod Accepted
+pub mod FirstFault
 pub mod Reasons

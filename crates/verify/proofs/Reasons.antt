@@ -3,6 +3,7 @@
 -- Assumes nothing.
 use mathlib.Core.Bool.{Bool, true, false, cond, not}
 use mathlib.Core.List.{List}
+use mathlib.Core.Logic.{_≢_}
 use mathlib.Core.Path.{_≡_}
 use Prim.Native.Nat.{ℕ, _<_}
 use native.Mathlib.Omega.{arith}
@@ -55,7 +56,26 @@ first-reason v a = which v (a .disabled) (a .«hours_denied») (a .«dialin_deni
     which true false false false true = expired
     which true false false false false = success
 
+-- no Response draws the reason of a change
+not-changing : (v : Bool) (a : Account) → firstReason v a ≢ changingPassword
+unfolding firstReason
+not-changing v a = which v (a .disabled) (a .«hours_denied») (a .«dialin_denied») (a .expired)
+  where
+    which : (v d h n x : Bool)
+        → cond (not v) authenticationFailure (cond d accountDisabled (cond h restrictedLogonHours
+        (cond n noDialinPermission (cond x passwordExpired noReason)))) ≢ changingPassword
+    which false d h n x e = omega (arith, e)
+    which true true h n x e = omega (arith, e)
+    which true false true n x e = omega (arith, e)
+    which true false false true x e = omega (arith, e)
+    which true false false false true e = omega (arith, e)
+    which true false false false false e = omega (arith, e)
+
 module _ (t : Terms) (challenge : List ℕ) (f : Response) where
+  pub response-not-changing : (l : Lookup) → responseReason t challenge l f ≢ changingPassword
+  unfolding responseReason
+  response-not-changing l = not-changing _ _
+
   pub response-reason : (l : Lookup) → Reason (responseReason t challenge l f)
   unfolding responseReason
   response-reason l = first-reason _ _

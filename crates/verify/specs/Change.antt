@@ -1,49 +1,57 @@
--- When a change of the password is accepted, as the code finds out: by the record that was kept and
--- the challenge in force. Document 01's sentence itself stands in specs/Accepted, and that the two
--- say the same is proved (proofs/Accepted).
+-- What is wrong with a change of the password, or its new hash, as the code finds it out: by the
+-- record that was kept and the challenge in force. Document 01's sentence on an accepted change
+-- stands in specs/Accepted and document 02's on the first fault in specs/FirstFault; that these
+-- say the same is proved (proofs/Accepted, proofs/FirstFault).
 -- Assumes nothing: these are definitions.
-use mathlib.Core.Bool.{Bool, cond, _&&_}
+use mathlib.Core.Bool.{Bool, cond, not}
 use mathlib.Core.List.{List}
 use mathlib.Core.Option.{Option, none, some}
 use Prim.Native.Nat.{ℕ, _%_}
-use lib.Dec.{eqb}
+use lib.Dec.{eqb, ltb}
+use lib.ListN.{replicate}
 use Rattle.octets.specs.Parts.{agrees}
-use Rattle.credentials.specs.Credentials.{
-  ntHashOf,
-  responseOf,
-  oldUnderNew,
-  unsealedAs,
-  passwordIn,
-}
-use Rattle.credentials.specs.declared.Unsealed.{Unsealed}
-use Rattle.credentials.specs.declared.Content.{Content}
-use Rattle.credentials.specs.declared.Content.the-variants.{Over, Odd, Password}
+use Rattle.credentials.specs.Credentials.{hashSize, longestNt, responseOf, oldUnderNew}
 use Rattle.accounts.specs.declared.Account.{Account}
 use Rattle.packets.specs.declared.Change.{Change}
+use Rattle.verify.specs.Accepted.{lengthFor, hashFor}
+use Rattle.verify.specs.Faults.{firstFault, isFaultless}
+use Rattle.verify.specs.declared.ChangeFault.{ChangeFault}
+use Rattle.verify.specs.declared.CheckedChange.{CheckedChange}
 
--- the hash of the password in an opened block; none where the length is over 512 or odd
-abbrev pub contentHash : Content → Unsealed → Option (List ℕ)
-contentHash Over o = none
-contentHash Odd o = none
-contentHash (Password n) o = some (ntHashOf (passwordIn o n))
+-- the new hash, or sixteen octets 0 beside a fault
+abbrev pub checkedWith : ChangeFault → List ℕ → CheckedChange
+checkedWith fault h =
+    record { fault = fault; hash = cond (isFaultless fault) h (replicate hashSize 0) }
 
-abbrev pub unsealedHash : Unsealed → Option (List ℕ)
-unsealedHash o = contentHash (o .content) o
+-- ---- the proofs of a new hash
 
--- the old hash under the new one is the one sent, and the NT response is the new hash's to the
--- challenge in force
-abbrev pub proves : Account → List ℕ → Change → List ℕ → Bool
-proves kept challenge f h =
-    agrees (f .verifier) (oldUnderNew (kept .nt .octets) h)
-    && agrees (f .nt) (responseOf h challenge)
+-- RFC 2433 A.17: the old hash under the new one is not the one sent
+abbrev pub badVerifier : Account → Change → List ℕ → Bool
+badVerifier kept f h = not (agrees (f .verifier) (oldUnderNew (kept .nt .octets) h))
 
-abbrev pub proven : Account → List ℕ → Change → Option (List ℕ) → Option (List ℕ)
-proven kept challenge f none = none
-proven kept challenge f (some h) = cond (proves kept challenge f h) (some h) none
+-- RFC 2433 A.7: the NT response is not the new hash's to the challenge in force
+abbrev pub badResponse : List ℕ → Change → List ℕ → Bool
+badResponse challenge f h = not (agrees (f .nt) (responseOf h challenge))
 
--- The new hash of an accepted change: the kept record has an NT hash and flag bit 0 is set. Bit 1
--- and the LM fields are ignored.
-unfoldable pub newHash : Account → List ℕ → Change → Option (List ℕ)
+-- ---- a change
+
+-- Document 02, request 2026-04, on document 01's conditions. Bit 1 of the flags and the LM fields
+-- are ignored.
+unfoldable pub changeFault : Account → List ℕ → Change → ChangeFault
+changeFault kept challenge f =
+    firstFault
+    (not (kept .nt .present))
+    (not (eqb (f .flags % 2) 1))
+    (ltb longestNt (lengthFor kept f))
+    (eqb (lengthFor kept f % 2) 1)
+    (badVerifier kept f (hashFor kept f))
+    (badResponse challenge f (hashFor kept f))
+
+-- what is told of it
+unfoldable pub checkedChange : Account → List ℕ → Change → CheckedChange
+checkedChange kept challenge f = checkedWith (changeFault kept challenge f) (hashFor kept f)
+
+-- the new hash of an accepted change
+abbrev pub newHash : Account → List ℕ → Change → Option (List ℕ)
 newHash kept challenge f =
-    cond (kept .nt .present && eqb (f .flags % 2) 1)
-    (proven kept challenge f (unsealedHash (unsealedAs (kept .nt .octets) (f .block)))) none
+    cond (isFaultless (changeFault kept challenge f)) (some (hashFor kept f)) none

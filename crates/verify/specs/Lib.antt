@@ -1,3 +1,6 @@
 pub mod Response
-pub mod Change
 pub mod Accepted
+pub mod Faults
+pub mod Change
+pub mod Inner
+pub mod FirstFault

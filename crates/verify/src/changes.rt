@@ -1,48 +1,86 @@
-// Whether a change of the password is accepted. The kept record decides.
+// Whether a change of the password is accepted, and what is wrong with one that is not. The kept
+// record decides.
 //
-// Every condition is a total test and all of them are made, so that a change which is not accepted
-// takes about the same work whatever is wrong with it.
+// Every condition is a total test and all of them are made, one hash, one proof of the old hash and
+// one response in every case, so that a change which is not accepted takes about the same work
+// whatever is wrong with it. Each function passes on what was found wrong beneath it.
 ghost use mathlib.Core.Path.{_≡_};
-ghost use mathlib.Core.Bool.{cond, _&&_};
-ghost use lib.Dec.{eqb};
+ghost use mathlib.Core.Bool.{cond};
 ghost use Prim.Native.Nat.{_-_, _%_, _≤_};
+ghost use lib.ListN.{length};
 ghost use Rattle.octets.specs.Parts.{part, agrees};
 ghost use Rattle.credentials.specs.Credentials.{longestNt, ntHashOf, ValidLength};
-ghost use Rattle.accounts.specs.Account.{noHash, hashOf, hashFrom};
-ghost use Rattle.verify.specs.Change.{unsealedHash, proves, newHash};
+ghost use Rattle.verify.specs.Change.{checkedWith, badVerifier, badResponse, checkedChange};
+ghost use Rattle.verify.specs.Inner.{contentFault, contentLength, checkedBlock};
+ghost use Rattle.verify.specs.declared.ChangeFault.the-variants.{NoFault};
+ghost use Rattle.verify.specs.declared.ChangeFault.the-variants.{OldHashWrong, ResponseWrong};
+use crate::ChangeFault;
+use crate::CheckedChange;
+use crate::faults::fault_before;
+use crate::faults::fault_if;
+use crate::faults::is_faultless;
 use accounts::Account;
-use accounts::Hash;
-use accounts::hash_of;
-use accounts::no_hash;
 use credentials::Content;
+use credentials::HASH_SIZE;
 use credentials::LONGEST_NT;
 use credentials::Unsealed;
 
-// The hash of the password of n octets at the end of an unsealed block.
-fn hash_of_last(octets: [u8; LONGEST_NT], n: usize) -> Hash
-    requires { ⌜ (n ≤ longestNt) × (n % 2 ≡ 0) ⌝ }
-    ensures { λ r. ⌜ r ≡ hashOf (ntHashOf (part (longestNt - n) n octets)) ⌝ }
+// What was found: the hash, unless something is wrong.
+fn checked_with(fault: ChangeFault, hash: [u8; HASH_SIZE]) -> CheckedChange
+    ensures { λ r. ⌜ r ≡ checkedWith fault hash ⌝ }
 {
-    let hashed = credentials::nt_hash(octets::part_of(&octets, LONGEST_NT - n, n));
-    let hash = hashed.hash;
-    hash_of(hash)
-}
-
-// The hash of the password in an unsealed block, or none.
-fn unsealed_hash(unsealed: Unsealed) -> Hash
-    requires { ⌜ ValidLength (unsealed .content) ⌝ }
-    ensures { λ r. ⌜ r ≡ hashFrom (unsealedHash unsealed) ⌝ }
-{
-    let content = unsealed.content;
-    let octets = unsealed.octets;
-    match content {
-        Content::Over => no_hash(),
-        Content::Odd => no_hash(),
-        Content::Password(n) => hash_of_last(octets, n),
+    if is_faultless(fault) {
+        return CheckedChange { fault, hash };
+    }
+    CheckedChange {
+        fault,
+        hash: [0; HASH_SIZE],
     }
 }
 
-fn is_same_hash(a: [u8; 16], b: [u8; 16]) -> bool
+// The hash of the password of n octets at the end of an unsealed block.
+fn hash_of_last(octets: &[u8], n: usize) -> [u8; HASH_SIZE]
+    requires { ⌜ (length (now octets) ≡ longestNt) × (n ≤ longestNt) × (n % 2 ≡ 0) ⌝ }
+    ensures { λ r. ⌜ r ≡ ntHashOf (part (longestNt - n) n (now (octets .entry))) ⌝ }
+{
+    credentials::nt_hash(octets::part_of(octets, LONGEST_NT - n, n)).hash
+}
+
+// The fault of an unsealed block's length.
+fn content_fault(content: Content) -> ChangeFault
+    ensures { λ r. ⌜ r ≡ contentFault content ⌝ }
+{
+    match content {
+        Content::Over => ChangeFault::LengthOver,
+        Content::Odd => ChangeFault::LengthOdd,
+        Content::Password(n) => ChangeFault::NoFault,
+    }
+}
+
+// How many octets are hashed: those of the password, or none.
+fn content_length(content: Content) -> usize
+    ensures { λ r. ⌜ r ≡ contentLength content ⌝ }
+{
+    match content {
+        Content::Over => 0,
+        Content::Odd => 0,
+        Content::Password(n) => n,
+    }
+}
+
+// The hash of the password in an unsealed block, or the fault of its length. One is made in every
+// case.
+fn checked_block(unsealed: Unsealed) -> CheckedChange
+    requires { ⌜ ValidLength (unsealed .content) ⌝ }
+    ensures { λ r. ⌜ r ≡ checkedBlock unsealed ⌝ }
+{
+    let content = unsealed.content;
+    let octets = unsealed.octets;
+    let hash = hash_of_last(&octets, content_length(content));
+    checked_with(content_fault(content), hash)
+}
+
+fn is_same_hash(a: [u8; HASH_SIZE], b: [u8; HASH_SIZE]) -> bool
     ensures { λ r. ⌜ r ≡ agrees a b ⌝ }
 {
     octets::agree(&a, &b)
@@ -54,9 +92,16 @@ fn is_same_response(a: [u8; 24], b: [u8; 24]) -> bool
     octets::agree(&a, &b)
 }
 
-// Whether the old hash under the new one and the new hash's response are those that were sent.
-fn is_proven(kept: Account, challenge: [u8; 8], fields: packets::Change, hash: [u8; 16]) -> bool
-    ensures { λ r. ⌜ r ≡ proves kept challenge fields hash ⌝ }
+// What is wrong with the proof of a new hash: the old hash under it, or its response, is not the
+// one that was sent.
+fn proof_fault(
+    kept: Account,
+    challenge: [u8; 8],
+    fields: packets::Change,
+    hash: [u8; HASH_SIZE],
+) -> ChangeFault
+    ensures { λ r. ⌜ r ≡ cond (badVerifier kept fields hash) OldHashWrong
+        (cond (badResponse challenge fields hash) ResponseWrong NoFault) ⌝ }
 {
     let nt = kept.nt;
     let old = nt.octets;
@@ -67,25 +112,29 @@ fn is_proven(kept: Account, challenge: [u8; 8], fields: packets::Change, hash: [
         response,
         credentials::challenge_response(hash, challenge),
     );
-    same_hash & same_response
+    let rest = fault_if(
+        !same_response,
+        ChangeFault::ResponseWrong,
+        ChangeFault::NoFault,
+    );
+    fault_if(!same_hash, ChangeFault::OldHashWrong, rest)
 }
 
-fn hash_where(test: bool, hash: Hash) -> Hash
-    ensures { λ r. ⌜ r ≡ cond test hash noHash ⌝ }
-{
-    if test { hash } else { no_hash() }
-}
-
-// The new hash of an accepted change, or none.
-pub fn new_hash(kept: Account, challenge: [u8; 8], fields: packets::Change) -> Hash
-    ensures { λ r. ⌜ r ≡ hashFrom (newHash kept challenge fields) ⌝ }
+// The new hash of an accepted change, or the first thing that is wrong with it.
+pub fn check_change(kept: Account, challenge: [u8; 8], fields: packets::Change) -> CheckedChange
+    ensures { λ r. ⌜ r ≡ checkedChange kept challenge fields ⌝ }
 {
     let nt = kept.nt;
     let old = nt.octets;
     let block = fields.block;
-    let hash = unsealed_hash(credentials::unseal(old, block));
-    let octets = hash.octets;
-    let proven = is_proven(kept, challenge, fields, octets);
-    let bit_set = fields.flags % 2 == 1;
-    hash_where((nt.present & bit_set) & (hash.present & proven), hash)
+    let absent = !nt.present;
+    let clear = fields.flags % 2 != 1;
+    let found = checked_block(credentials::unseal(old, block));
+    let hash = found.hash;
+    let length = found.fault;
+    let proof = proof_fault(kept, challenge, fields, hash);
+    let inside = fault_before(length, proof);
+    let sent = fault_if(clear, ChangeFault::NoNtResponse, inside);
+    let fault = fault_if(absent, ChangeFault::NoNtHash, sent);
+    checked_with(fault, hash)
 }

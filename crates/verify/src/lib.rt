@@ -1,7 +1,8 @@
 // Verification: whether a Response is valid for an account record and with which reason it is
-// answered, and whether a change of the password is accepted. No conversation and no packets: the
-// challenge in force, the record and the fields decide.
+// answered, and whether a change of the password is accepted or what is wrong with it. No
+// conversation and no packets: the challenge in force, the record and the fields decide.
 mod changes;
+mod faults;
 mod responses;
 
 // What the opening fixes for the whole conversation.
@@ -10,5 +11,31 @@ pub struct Terms {
     pub lm: bool,
 }
 
-pub use changes::new_hash;
+// What is wrong with a change that is not accepted: the first that holds, in this order.
+pub enum ChangeFault {
+    NoFault,
+    // the kept record has no NT hash
+    NoNtHash,
+    // flag bit 0 is clear: the peer does not ask for its NT response (RFC 2433, section 10)
+    NoNtResponse,
+    // the opened block's length is over 512, or odd
+    LengthOver,
+    LengthOdd,
+    // the old hash under the new one is not the one that was sent
+    OldHashWrong,
+    // the NT response is not that of the new hash to the challenge in force
+    ResponseWrong,
+}
+
+// A change that was checked: what is wrong with it, or none and its new hash (sixteen octets 0
+// beside a fault).
+pub struct CheckedChange {
+    pub fault: ChangeFault,
+    pub hash: [u8; 16],
+}
+
+pub use changes::check_change;
+pub use faults::fault_number;
+pub use faults::fault_with;
+pub use faults::is_faultless;
 pub use responses::response_reason;

@@ -2,7 +2,6 @@
 -- are the definition's.
 -- Assumes nothing.
 use borrow.Author.Needs.{needs}
-use mathlib.Core.Path.{_∙_}
 use Rattle.verify.specs.Response.{firstReason}
 use Rattle.verify.proofs.responses.first_reason.Statement.{statement}
 use Rattle.verify.proofs.responses.first_reason.Tie as tie

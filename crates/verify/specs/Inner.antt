@@ -1,0 +1,30 @@
+-- What the code finds in an opened block. Only private functions cite it.
+-- Assumes nothing: these are definitions.
+use Prim.Native.Nat.{ℕ}
+use Rattle.credentials.specs.Credentials.{ntHashOf, passwordIn}
+use Rattle.credentials.specs.declared.Unsealed.{Unsealed}
+use Rattle.credentials.specs.declared.Content.{Content}
+use Rattle.credentials.specs.declared.Content.the-variants.{Over, Odd, Password}
+use Rattle.verify.specs.Change.{checkedWith}
+use Rattle.verify.specs.declared.ChangeFault.{ChangeFault}
+use Rattle.verify.specs.declared.ChangeFault.the-variants.{NoFault, LengthOver, LengthOdd}
+use Rattle.verify.specs.declared.CheckedChange.{CheckedChange}
+
+-- the fault of its length
+abbrev pub contentFault : Content → ChangeFault
+contentFault Over = LengthOver
+contentFault Odd = LengthOdd
+contentFault (Password n) = NoFault
+
+-- how many of its octets are hashed: those of the password, or none
+abbrev pub contentLength : Content → ℕ
+contentLength Over = 0
+contentLength Odd = 0
+contentLength (Password n) = n
+
+-- the hash of the password in it, or the fault of its length
+abbrev pub checkedContent : Content → Unsealed → CheckedChange
+checkedContent k o = checkedWith (contentFault k) (ntHashOf (passwordIn o (contentLength k)))
+
+abbrev pub checkedBlock : Unsealed → CheckedChange
+checkedBlock o = checkedContent (o .content) o
