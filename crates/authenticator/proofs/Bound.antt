@@ -3,7 +3,6 @@
 -- Assumes nothing.
 use mathlib.Core.Bool.{Bool, true, false, cond, _&&_}
 use mathlib.Core.List.{List}
-use mathlib.Core.Option.{Option, none, some}
 use mathlib.Core.Path.{_≡_, refl, sym, ap, subst}
 use Prim.Native.Nat.{ℕ, _+_, _≤_, _<_}
 use native.Mathlib.Omega.{arith}
@@ -16,13 +15,11 @@ use Rattle.accounts.specs.declared.Account.{Account}
 use Rattle.accounts.specs.declared.Lookup.{Lookup}
 use Rattle.message.specs.Reasons.{authenticationFailure, passwordExpired}
 use Rattle.verify.specs.Response.{responseReason}
-use Rattle.verify.specs.Change.{newHash}
 use Rattle.authenticator.specs.Conversation.{isEnded, ended, retried, awaitingChange}
 use Rattle.authenticator.specs.Opening.{Opening, retriesOf, firstConversation}
 use Rattle.authenticator.specs.Judge.{
   afterReason,
   judgeResponse,
-  changeJudgement,
   judgeChange,
   judgeIn,
   judge,
@@ -68,11 +65,7 @@ response-less c l f ph = after-less c (l .account) (responseReason (c .terms) (c
 
 change-less : (c : Conversation) (f : changes.Change) → leftIn (judgeChange c f .next) < 1
 unfolding judgeChange
-change-less c f = which (newHash (c .kept) (c .challenge) f)
-  where
-    which : (o : Option (List ℕ)) → leftIn (changeJudgement c o .next) < 1
-    which none = omega arith
-    which (some h) = omega arith
+change-less c f = omega arith
 
 phase-less : (ph : Phase) (c : Conversation) (p : List ℕ) (l : Lookup) → c .phase ≡ ph → isEnded ph
     ≡ false

@@ -4,7 +4,6 @@
 use mathlib.Core.Bool.{Bool, true, false, cond, _&&_, and-false, true≢false}
 use mathlib.Core.List.{List}
 use mathlib.Core.Logic.{_≢_}
-use mathlib.Core.Option.{Option, none, some}
 use mathlib.Core.Path.{_≡_, refl, sym, ap, _∙_, subst}
 use Prim.Native.Nat.{ℕ}
 use native.Mathlib.Omega.{arith}
@@ -20,7 +19,6 @@ use Rattle.packets.specs.Change.{readChange}
 use Rattle.packets.specs.declared.Response as responses
 use Rattle.packets.specs.declared.Change as changes
 use Rattle.verify.specs.Response.{responseReason}
-use Rattle.verify.specs.Change.{newHash}
 use Rattle.authenticator.specs.Conversation.{
   isEnded,
   noAnswer,
@@ -32,7 +30,6 @@ use Rattle.authenticator.specs.Admit.{isRepeat}
 use Rattle.authenticator.specs.Judge.{
   afterReason,
   judgeResponse,
-  changeJudgement,
   judgeChange,
   judgeIn,
   judge,
@@ -89,11 +86,7 @@ module _ (c : Conversation) where
 
   change-ends : (f : changes.Change) → isEnded (judgeChange c f .next .phase) ≡ true
   unfolding judgeChange
-  change-ends f = which (newHash (c .kept) (c .challenge) f)
-    where
-      which : (o : Option (List ℕ)) → isEnded (changeJudgement c o .next .phase) ≡ true
-      which none = refl
-      which (some h) = refl
+  change-ends f = refl
 
   phase-next : (ph : Phase) (p : List ℕ) (l : Lookup) → isEnded ph ≡ false
       → isEnded (judgeIn ph c p l .next .phase) ≡ false

@@ -3,7 +3,6 @@
 -- Assumes nothing.
 use mathlib.Core.Bool.{Bool, true, false, cond, _||_, _&&_, or-true}
 use mathlib.Core.List.{List}
-use mathlib.Core.Option.{Option, none, some}
 use mathlib.Core.Path.{_≡_, refl, ap, _∙_, subst}
 use Prim.Native.Nat.{ℕ, suc, _-_, _<_}
 use native.Mathlib.Omega.{arith}
@@ -22,12 +21,10 @@ use Rattle.verify.specs.Response.{responseReason}
 use Rattle.authenticator.specs.Judge.{
   afterReason,
   judgeResponse,
-  changeJudgement,
   judgeChange,
   judgeIn,
   judge,
 }
-use Rattle.verify.specs.Change.{newHash}
 use Rattle.authenticator.specs.Step.{Outcome}
 use Rattle.authenticator.specs.Steps.{StepInput, stepOn, nextAfter}
 use Rattle.accounts.specs.declared.Account.{Account}
@@ -78,11 +75,7 @@ response-adds-none c l f x h = after-adds-none c (l .account)
 change-adds-none : (c : Conversation) (f : changes.Change) (x : List ℕ)
     → CanBeInForce (judgeChange c f .next) x → CanBeInForce c x
 unfolding judgeChange
-change-adds-none c f x = which (newHash (c .kept) (c .challenge) f)
-  where
-    which : (o : Option (List ℕ)) → CanBeInForce (changeJudgement c o .next) x → CanBeInForce c x
-    which none h = h
-    which (some v) h = h
+change-adds-none c f x h = h
 
 phase-adds-none : (ph : Phase) (c : Conversation) (p : List ℕ) (l : Lookup) (x : List ℕ)
     → CanBeInForce (judgeIn ph c p l .next) x → CanBeInForce c x

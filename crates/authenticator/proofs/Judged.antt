@@ -5,7 +5,7 @@
 use mathlib.Core.Bool.{Bool, true, false, cond}
 use mathlib.Core.List.{List}
 use mathlib.Core.Logic.{_≢_}
-use mathlib.Core.Option.{Option, some}
+use mathlib.Core.Option.{some}
 use mathlib.Core.Path.{_≡_, refl, sym, ap, _∙_}
 use Prim.Native.Nat.{ℕ, _<_}
 use native.Mathlib.Omega.{arith}
@@ -17,9 +17,11 @@ use Rattle.message.specs.Reasons.{authenticationFailure, passwordExpired, noRea
 use Rattle.packets.specs.Response.{readResponse}
 use Rattle.packets.specs.Change.{readChange}
 use Rattle.verify.specs.Response.{valid, foundValid, responseReason}
-use Rattle.verify.specs.Change.{newHash}
+use Rattle.verify.specs.Change.{checkedChange, newHash}
 use Rattle.verify.specs.Accepted.{SameButIgnored}
-use Rattle.verify.proofs.Accepted.{ignored-hash}
+use Rattle.verify.specs.declared.ChangeFault.the-variants.{NoFault}
+use Rattle.verify.specs.declared.CheckedChange.{CheckedChange}
+use Rattle.verify.proofs.Accepted.{ignored-change, checked-accepted}
 use Rattle.verify.proofs.Reasons.{reason-invalid, rightful-reason}
 use Rattle.authenticator.specs.Conversation.{ended, retried, awaitingChange}
 use Rattle.authenticator.specs.Judge.{
@@ -46,17 +48,33 @@ use Rattle.authenticator.proofs.Steps.{repeated-step, refused-step}
 -- record
 abbrev pub tryAgain : Conversation → Judgement
 tryAgain c =
-    record { reply = Failure authenticationFailure true; next = retried c; updated = notFound }
+    record {
+      reply = Failure authenticationFailure true;
+      fault = NoFault;
+      next = retried c;
+      updated = notFound;
+    }
 
 abbrev pub expiredFor : Conversation → Account → Judgement
 expiredFor c a =
-    record { reply = Failure passwordExpired false; next = awaitingChange c a; updated = notFound }
+    record {
+      reply = Failure passwordExpired false;
+      fault = NoFault;
+      next = awaitingChange c a;
+      updated = notFound;
+    }
 
 abbrev pub accepted : Conversation → Judgement
-accepted c = record { reply = Success; next = ended c; updated = notFound }
+accepted c = record { reply = Success; fault = NoFault; next = ended c; updated = notFound }
 
 abbrev pub changedTo : Conversation → List ℕ → Judgement
-changedTo c h = record { reply = Success; next = ended c; updated = found (changed (c .kept) h) }
+changedTo c h =
+    record {
+      reply = Success;
+      fault = NoFault;
+      next = ended c;
+      updated = found (changed (c .kept) h);
+    }
 
 module _ (c : Conversation) (p b : List ℕ) (ok : Passes c p b) where
   step-in : (l : Lookup) {ph : Phase} → c .phase ≡ ph → step c p l b
@@ -73,7 +91,7 @@ module _ (c : Conversation) (p b : List ℕ) (ok : Passes c p b) where
 
   change-step : (l : Lookup) → c .phase ≡ Change
       → step c p l b
-      ≡ judgedAs c (changeJudgement c (newHash (c .kept) (c .challenge) (readChange p))) b
+      ≡ judgedAs c (changeJudgement c (checkedChange (c .kept) (c .challenge) (readChange p))) b
   unfolding judgeChange
   change-step l e = step-in l e
 
@@ -111,7 +129,8 @@ module _ (c : Conversation) (p b : List ℕ) (ok : Passes c p b) where
       → step c p l b ≡ judgedAs c (changedTo c h) b
   change-law l h ph e =
       change-step c p b ok l ph
-      ∙ ap (λ (o : Option (List ℕ)). judgedAs c (changeJudgement c o) b) e
+      ∙ ap (λ (v : CheckedChange). judgedAs c (changeJudgement c v) b)
+      (checked-accepted (c .kept) (c .challenge) (readChange p) h e)
 
 -- nor has what is to be ignored of the packet
 pub ignored-step : (c : Conversation) (p q b : List ℕ) (l m : Lookup) → c .phase ≡ Change
@@ -119,8 +138,8 @@ pub ignored-step : (c : Conversation) (p q b : List ℕ) (l m : Lookup) → c .p
     → step c p l b ≡ step c q m b
 ignored-step c p q b l m ph x y e =
     change-step c p b x l ph
-    ∙ ap (λ (o : Option (List ℕ)). judgedAs c (changeJudgement c o) b)
-    (ignored-hash (c .kept) (c .challenge) (readChange p) (readChange q) e)
+    ∙ ap (λ (v : CheckedChange). judgedAs c (changeJudgement c v) b)
+    (ignored-change (c .kept) (c .challenge) (readChange p) (readChange q) e)
     ∙ sym (change-step c q b y m ph)
 
 -- a changed record is rightful where the kept one is, is not expired, and has the new hash

@@ -11,4 +11,5 @@ pub mod Spends
 pub mod Openings
 pub mod InForce
 pub mod Replies
+pub mod Faults
 pub mod Written

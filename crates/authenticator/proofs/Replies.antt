@@ -3,7 +3,6 @@
 -- Assumes nothing.
 use mathlib.Core.Bool.{Bool, true, false, cond}
 use mathlib.Core.List.{List, _++_}
-use mathlib.Core.Option.{Option, none, some}
 use mathlib.Core.Path.{_≡_, refl, sym, ap, _∙_, subst}
 use Prim.Native.Nat.{ℕ, _<_}
 use native.Mathlib.Omega.{arith}
@@ -11,7 +10,7 @@ use borrow.Author.Tests.{eqb-true}
 use lib.Dec.{eqb}
 use Rattle.accounts.specs.declared.Lookup.{Lookup}
 use Rattle.message.specs.Message.{failedWith, noChallenge, succeeded}
-use Rattle.message.specs.Reasons.{noReason}
+use Rattle.message.specs.Reasons.{changingPassword, noReason}
 use Rattle.message.specs.declared.Reading.{Reading}
 use Rattle.packets.specs.Response.{readResponse}
 use Rattle.packets.specs.Change.{readChange}
@@ -20,14 +19,14 @@ use Rattle.packets.specs.declared.Response as responses
 use Rattle.packets.specs.declared.Change as changes
 use Rattle.packets.proofs.ReadBack.{success-back, failure-read}
 use Rattle.verify.specs.Response.{responseReason}
-use Rattle.verify.specs.Change.{newHash}
+use Rattle.verify.specs.Faults.{isFaultless}
+use Rattle.verify.specs.Change.{checkedChange}
 use Rattle.verify.proofs.Reasons.{Reason, success, change, three-digits, response-reason}
 use Rattle.authenticator.specs.Judge.{
   reasonOf,
   mayRetry,
   replyFor,
   judgeResponse,
-  changeJudgement,
   judgeChange,
   judgeIn,
   judge,
@@ -47,7 +46,7 @@ use Rattle.authenticator.proofs.Steps.{judged-step, kind-repeated, repl
 
 -- ---- the reply is the one for its reason
 
-reason-of-reply : (c : Conversation) (e : ℕ) → reasonOf (replyFor c e) ≡ e
+pub reason-of-reply : (c : Conversation) (e : ℕ) → reasonOf (replyFor c e) ≡ e
 reason-of-reply c e = which (eqb e noReason) refl
   where
     which : (t : Bool) → eqb e noReason ≡ t → reasonOf (cond t Success (Failure e (mayRetry c e)))
@@ -69,11 +68,14 @@ response-fitting c l f =
 
 change-fitting : (c : Conversation) (f : changes.Change) → Fitting c (judgeChange c f)
 unfolding judgeChange
-change-fitting c f = which (newHash (c .kept) (c .challenge) f)
+change-fitting c f = which (isFaultless (checkedChange (c .kept) (c .challenge) f .fault))
   where
-    which : (o : Option (List ℕ)) → Fitting c (changeJudgement c o)
-    which none = (change, refl)
-    which (some h) = (success, refl)
+    reply : Bool → Reply
+    reply t = cond t Success (Failure changingPassword false)
+
+    which : (t : Bool) → Reason (reasonOf (reply t)) × (reply t ≡ replyFor c (reasonOf (reply t)))
+    which true = (success, refl)
+    which false = (change, refl)
 
 judge-in-fitting : (ph : Phase) (c : Conversation) (p : List ℕ) (l : Lookup)
     → Fitting c (judgeIn ph c p l)

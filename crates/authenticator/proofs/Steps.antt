@@ -16,7 +16,9 @@ use Rattle.packets.proofs.Writing.{taken}
 use Rattle.packets.specs.Frame.{octet}
 use Rattle.packets.specs.Reply.{longestReply}
 use Rattle.authenticator.specs.Admit.{isRepeat, stepRefusal}
-use Rattle.authenticator.specs.Judge.{judge}
+use Rattle.verify.specs.Faults.{faultNumber}
+use Rattle.verify.specs.Change.{checkedChange}
+use Rattle.authenticator.specs.Judge.{judgeResponse, judgeChange, judgeIn, judge}
 use Rattle.authenticator.specs.Encode.{replyPacket}
 use Rattle.authenticator.specs.Step.{
   refusalIn,
@@ -28,6 +30,8 @@ use Rattle.authenticator.specs.Step.{
   refusedAs,
   stepReason,
   stepRepeats,
+  faultIn,
+  stepFault,
   step,
 }
 use Rattle.authenticator.specs.Steps.{StepInput, stepOn, drewReply, refusalAt}
@@ -35,6 +39,8 @@ use Rattle.authenticator.specs.Steps.{replyOf}
 use Rattle.authenticator.specs.declared.Answer.{Answer}
 use Rattle.authenticator.specs.declared.Conversation.{Conversation}
 use Rattle.authenticator.specs.declared.Judgement.{Judgement}
+use Rattle.authenticator.specs.declared.Phase.{Phase}
+use Rattle.authenticator.specs.declared.Phase.the-variants.{Response, Change, Ended}
 use Rattle.authenticator.specs.declared.Reply.{Reply}
 use Rattle.authenticator.proofs.Admitted.{Passes, passes, passed}
 use Rattle.authenticator.proofs.Written.{reply-fits}
@@ -77,7 +83,7 @@ module _ (c : Conversation) (p : List ℕ) (l : Lookup) (b : List ℕ) where
           let h = passed c p b (eqb-true (stepRefusal c p b) 0 e) r in
           judged h (judged-step h)
 
-  -- ---- its number, its reason, and whether it is a repeat
+  -- ---- its number, its reason, whether it is a repeat, and what is wrong with a change
 
   pub number-step : refusalIn (step c p l b .answer .kind) ≡ stepRefusal c p b
   number-step = which case-of
@@ -111,14 +117,36 @@ module _ (c : Conversation) (p : List ℕ) (l : Lookup) (b : List ℕ) where
           ∙ sym (ap (λ (t : Bool). eqb (stepRefusal c p b) 0 && t) (h .fresh)
           ∙ and-false (eqb (stepRefusal c p b) 0))
 
+  -- what is wrong with a change, where one is judged
+  fault-judged : (ph : Phase) → faultNumber (judgeIn ph c p l .fault) ≡ faultIn ph c p
+  unfolding judgeResponse judgeChange checkedChange
+  fault-judged Response = refl
+  fault-judged Change = refl
+  fault-judged Ended = refl
+
+  pub fault-step : faultNumber (step c p l b .answer .fault) ≡ stepFault c p b
+  unfolding stepFault judge
+  fault-step = which case-of
+    where
+      which : Case c p l b → faultNumber (step c p l b .answer .fault) ≡ stepFault c p b
+      which (refused n e) =
+          ap (λ (o : Outcome). faultNumber (o .answer .fault)) e
+          ∙ rw (ne-eqb (stepRefusal c p b) 0 n)
+      which (repeated z r e) =
+          ap (λ (o : Outcome). faultNumber (o .answer .fault)) e ∙ rw (z, r)
+      which (judged h e) =
+          ap (λ (o : Outcome). faultNumber (o .answer .fault)) e ∙ fault-judged (c .phase)
+          ∙ rw (passes c p b h, h .fresh)
+
   -- what an answer tells, where it is the step's
   pub told : {r : Answer} → r ≡ step c p l b .answer
       → (refusalIn (r .kind) ≡ stepRefusal c p b) × (reasonIn (r .kind) ≡ stepReason c p l b)
-      × (isRepeated (r .kind) ≡ stepRepeats c p b)
+      × (isRepeated (r .kind) ≡ stepRepeats c p b) × (faultNumber (r .fault) ≡ stepFault c p b)
   told e = (
     ap (λ (a : Answer). refusalIn (a .kind)) e ∙ number-step,
     ap (λ (a : Answer). reasonIn (a .kind)) e ∙ reason-step,
     ap (λ (a : Answer). isRepeated (a .kind)) e ∙ repeats-step,
+    ap (λ (a : Answer). faultNumber (a .fault)) e ∙ fault-step,
   )
 
 -- ---- what the kind tells of a step

@@ -1,10 +1,11 @@
 -- The second part of a step: how an awaited packet is judged (document 01, "How the box judges").
--- Whether a Response is valid and a change accepted is defined in `verify`; here is what follows:
--- the reply, the next conversation and the updated record.
+-- Whether a Response is valid and a change accepted, and what is wrong with one that is not, is
+-- defined in `verify`; here is what follows: the reply, the next conversation and the updated
+-- record.
 -- Assumes nothing: these are definitions.
 use mathlib.Core.Bool.{Bool, false, cond, _&&_}
 use mathlib.Core.List.{List}
-use mathlib.Core.Option.{Option, none, some}
+use mathlib.Core.Option.{Option}
 use Prim.Native.Nat.{ℕ}
 use lib.Dec.{eqb, ltb}
 use Rattle.accounts.specs.Account.{notFound, found, changed}
@@ -21,7 +22,10 @@ use Rattle.packets.specs.Change.{readChange}
 use Rattle.packets.specs.declared.Response as responses
 use Rattle.packets.specs.declared.Change as changes
 use Rattle.verify.specs.Response.{valid, responseReason}
-use Rattle.verify.specs.Change.{newHash}
+use Rattle.verify.specs.Faults.{isFaultless}
+use Rattle.verify.specs.Change.{checkedChange, newHash}
+use Rattle.verify.specs.declared.ChangeFault.the-variants.{NoFault}
+use Rattle.verify.specs.declared.CheckedChange.{CheckedChange}
 use Rattle.authenticator.specs.Conversation.{ended, retried, awaitingChange}
 use Rattle.authenticator.specs.declared.Conversation.{Conversation}
 use Rattle.authenticator.specs.declared.Phase.{Phase}
@@ -54,7 +58,13 @@ afterReason c a e =
     cond (mayRetry c e) (retried c) (cond (eqb e passwordExpired) (awaitingChange c a) (ended c))
 
 abbrev pub judgementFor : Conversation → Account → ℕ → Judgement
-judgementFor c a e = record { reply = replyFor c e; next = afterReason c a e; updated = notFound }
+judgementFor c a e =
+    record {
+      reply = replyFor c e;
+      fault = NoFault;
+      next = afterReason c a e;
+      updated = notFound;
+    }
 
 unfoldable pub judgeResponse : Conversation → Lookup → responses.Response → Judgement
 judgeResponse c l f =
@@ -62,12 +72,15 @@ judgeResponse c l f =
 
 -- ---- a change
 
--- Success and the updated record, or a Failure; either ends the conversation
-abbrev pub changeJudgement : Conversation → Option (List ℕ) → Judgement
-changeJudgement c none =
-    record { reply = Failure changingPassword false; next = ended c; updated = notFound }
-changeJudgement c (some h) =
-    record { reply = Success; next = ended c; updated = found (changed (c .kept) h) }
+-- Success and the updated record, or a Failure and what is wrong; either ends the conversation
+abbrev pub changeJudgement : Conversation → CheckedChange → Judgement
+changeJudgement c v =
+    record {
+      reply = cond (isFaultless (v .fault)) Success (Failure changingPassword false);
+      fault = v .fault;
+      next = ended c;
+      updated = cond (isFaultless (v .fault)) (found (changed (c .kept) (v .hash))) notFound;
+    }
 
 -- the new hash of a change that is accepted by the record that was kept and the challenge in force
 abbrev pub newHashIn : Conversation → changes.Change → Option (List ℕ)
@@ -75,7 +88,7 @@ newHashIn c f = newHash (c .kept) (c .challenge) f
 
 -- the record that was kept decides, whatever record is passed with the change
 unfoldable pub judgeChange : Conversation → changes.Change → Judgement
-judgeChange c f = changeJudgement c (newHashIn c f)
+judgeChange c f = changeJudgement c (checkedChange (c .kept) (c .challenge) f)
 
 -- ---- by the phase
 
@@ -83,7 +96,7 @@ judgeChange c f = changeJudgement c (newHashIn c f)
 abbrev pub judgeIn : Phase → Conversation → List ℕ → Lookup → Judgement
 judgeIn Response c p l = judgeResponse c l (readResponse p)
 judgeIn Change c p l = judgeChange c (readChange p)
-judgeIn Ended c p l = record { reply = Success; next = c; updated = notFound }
+judgeIn Ended c p l = record { reply = Success; fault = NoFault; next = c; updated = notFound }
 
 unfoldable pub judge : Conversation → List ℕ → Lookup → Judgement
 judge c p l = judgeIn (c .phase) c p l

@@ -10,11 +10,17 @@ use lib.ListN.{length}
 use Rattle.accounts.specs.Account.{notFound}
 use Rattle.accounts.specs.declared.Lookup.{Lookup}
 use Rattle.packets.specs.Frame.{writtenOver}
+use Rattle.packets.specs.Change.{readChange}
+use Rattle.verify.specs.Faults.{faultNumber}
+use Rattle.verify.specs.Change.{changeFault}
+use Rattle.verify.specs.declared.ChangeFault.the-variants.{NoFault}
 use Rattle.authenticator.specs.Conversation.{answerWith, withLast}
 use Rattle.authenticator.specs.Admit.{isRepeat, stepRefusal}
 use Rattle.authenticator.specs.Judge.{reasonOf, judge}
 use Rattle.authenticator.specs.Encode.{replyPacket}
 use Rattle.authenticator.specs.declared.Conversation.{Conversation}
+use Rattle.authenticator.specs.declared.Phase.{Phase}
+use Rattle.authenticator.specs.declared.Phase.the-variants.{Response, Change, Ended}
 use Rattle.authenticator.specs.declared.Judgement.{Judgement}
 use Rattle.authenticator.specs.declared.Kind.{Kind}
 use Rattle.authenticator.specs.declared.Kind.the-variants.{Refused, Repeated, Judged}
@@ -50,6 +56,7 @@ judgedAs c j b =
     record {
       answer = record {
         kind = Judged (reasonOf (j .reply));
+        fault = j .fault;
         next = withLast (answerWith c (j .reply)) (j .next);
         written = length reply;
         updated = j .updated;
@@ -57,18 +64,19 @@ judgedAs c j b =
       buffer = writtenOver reply b;
     }
 
+-- where nothing is judged, the conversation stays as it was, and neither a fault nor a record is
+-- handed out
+abbrev pub unjudged : Kind → Conversation → ℕ → Answer
+unjudged kind c written =
+    record { kind = kind; fault = NoFault; next = c; written = written; updated = notFound }
+
 -- "draws the same reply octets and is not judged; the conversation stays as it was, and no record
--- is handed out"
+-- is handed out", and "a repeat carries no reason" for a 709 (document 02, request 2026-04)
 abbrev pub repeatedAs : Conversation → List ℕ → Outcome
 repeatedAs c b =
     let reply = replyPacket (c .last .id) (c .last .reply) in
     record {
-      answer = record {
-        kind = Repeated (reasonOf (c .last .reply));
-        next = c;
-        written = length reply;
-        updated = notFound;
-      };
+      answer = unjudged (Repeated (reasonOf (c .last .reply))) c (length reply);
       buffer = writtenOver reply b;
     }
 
@@ -76,7 +84,7 @@ repeatedAs c b =
 abbrev pub refusedAs : ℕ → Conversation → List ℕ → Outcome
 refusedAs n c b =
     record {
-      answer = record { kind = Refused n; next = c; written = 0; updated = notFound };
+      answer = unjudged (Refused n) c 0;
       buffer = b;
     }
 
@@ -90,6 +98,19 @@ stepReason c p l b =
 -- a repeat that is not refused
 abbrev pub stepRepeats : Conversation → List ℕ → List ℕ → Bool
 stepRepeats c p b = eqb (stepRefusal c p b) 0 && isRepeat (c .last) p
+
+-- what is wrong with a change that is judged, by its number; 0 is none, and beside every other
+-- answer
+abbrev pub faultIn : Phase → Conversation → List ℕ → ℕ
+faultIn Response c p = 0
+faultIn Change c p = faultNumber (changeFault (c .kept) (c .challenge) (readChange p))
+faultIn Ended c p = 0
+
+unfoldable pub stepFault : Conversation → List ℕ → List ℕ → ℕ
+stepFault c p b =
+    cond (eqb (stepRefusal c p b) 0)
+    (cond (isRepeat (c .last) p) 0 (faultIn (c .phase) c p))
+    0
 
 unfoldable pub step : Conversation → List ℕ → Lookup → List ℕ → Outcome
 step c p l b =

@@ -1,5 +1,5 @@
 // The second part of a step: how an awaited packet is judged. Whether a Response is valid and a
-// change accepted is found out by `verify`.
+// change accepted, and what is wrong with one that is not, is found out by `verify`.
 ghost use mathlib.Core.Path.{_≡_};
 ghost use Rattle.packets.specs.Response.{readResponse};
 ghost use Rattle.packets.specs.Change.{readChange};
@@ -21,6 +21,8 @@ use accounts::changed;
 use accounts::found;
 use accounts::not_found;
 use message::reasons;
+use verify::ChangeFault;
+use verify::is_faultless;
 
 impl Conversation {
     fn may_retry(self, reason: u16) -> bool
@@ -66,6 +68,7 @@ impl Conversation {
         let updated = not_found();
         Judgement {
             reply,
+            fault: ChangeFault::NoFault,
             next,
             updated,
         }
@@ -77,13 +80,15 @@ impl Conversation {
     {
         let challenge = self.challenge;
         let kept = self.kept;
-        let hash = verify::new_hash(kept, challenge, packets::read_change(packet));
-        let octets = hash.octets;
+        let checked = verify::check_change(kept, challenge, packets::read_change(packet));
+        let fault = checked.fault;
+        let hash = checked.hash;
         let next = self.to_end();
-        if hash.present {
-            let updated = found(changed(kept, octets));
+        if is_faultless(fault) {
+            let updated = found(changed(kept, hash));
             return Judgement {
                 reply: Reply::Success,
+                fault,
                 next,
                 updated,
             };
@@ -91,6 +96,7 @@ impl Conversation {
         let updated = not_found();
         Judgement {
             reply: Reply::Failure(reasons::CHANGING_PASSWORD, false),
+            fault,
             next,
             updated,
         }
@@ -108,6 +114,7 @@ impl Conversation {
                 let updated = not_found();
                 Judgement {
                     reply: Reply::Success,
+                    fault: ChangeFault::NoFault,
                     next: self,
                     updated,
                 }

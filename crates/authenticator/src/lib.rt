@@ -13,7 +13,9 @@ ghost use lib.ListN.{length};
 ghost use Rattle.packets.specs.Reply.{longestReply};
 ghost use Rattle.authenticator.specs.Admit.{stepRefusal};
 ghost use Rattle.authenticator.specs.Step.{refusalIn, reasonIn, isRepeated};
-ghost use Rattle.authenticator.specs.Step.{stepReason, stepRepeats, repeatedAs, step};
+ghost use Rattle.authenticator.specs.Step.{stepReason, stepRepeats, stepFault};
+ghost use Rattle.authenticator.specs.Step.{repeatedAs, step};
+ghost use Rattle.verify.specs.Faults.{faultNumber};
 use accounts::Account;
 use accounts::Lookup;
 use accounts::not_found;
@@ -21,6 +23,7 @@ pub use admit::awaited_code;
 use admit::is_repeat;
 pub use encode::reason_of;
 use encode::write_reply;
+use verify::ChangeFault;
 use verify::Terms;
 
 // What a conversation awaits.
@@ -81,10 +84,11 @@ pub enum Reply {
     Failure(u16, bool),
 }
 
-// How a packet is judged: the reply, the next conversation, and the record that an accepted change
-// updates.
+// How a packet is judged: the reply, what is wrong with a change, the next conversation, and the
+// record that an accepted change updates.
 pub struct Judgement {
     pub reply: Reply,
+    pub fault: ChangeFault,
     pub next: Conversation,
     pub updated: Lookup,
 }
@@ -97,10 +101,12 @@ pub enum Kind {
     Judged(u16),
 }
 
-// What a step answers: the kind, the next conversation, how many octets of the reply buffer the
-// reply takes, and the record that an accepted change updates.
+// What a step answers: the kind, beside a change that was judged and not accepted what is wrong
+// with it (else NoFault), the next conversation, how many octets of the reply buffer the reply
+// takes, and the record that an accepted change updates. The peer is told nothing of the fault.
 pub struct Answer {
     pub kind: Kind,
+    pub fault: ChangeFault,
     pub next: Conversation,
     pub written: usize,
     pub updated: Lookup,
@@ -120,6 +126,7 @@ impl Conversation {
         let updated = not_found();
         Answer {
             kind: Kind::Repeated(reason),
+            fault: ChangeFault::NoFault,
             next: self,
             written,
             updated,
@@ -137,7 +144,9 @@ impl Conversation {
             × (reasonIn (r .kind)
             ≡ stepReason self (now (packet .entry)) lookup (now (reply .entry)))
             × (isRepeated (r .kind)
-            ≡ stepRepeats self (now (packet .entry)) (now (reply .entry))) ⌝ }
+            ≡ stepRepeats self (now (packet .entry)) (now (reply .entry)))
+            × (faultNumber (r .fault)
+            ≡ stepFault self (now (packet .entry)) (now (reply .entry))) ⌝ }
     {
         let last = self.last;
         let repeated = is_repeat(last, packet);
@@ -146,6 +155,7 @@ impl Conversation {
             let updated = not_found();
             return Answer {
                 kind: Kind::Refused(refusal),
+                fault: ChangeFault::NoFault,
                 next: self,
                 written: 0,
                 updated,
@@ -160,9 +170,11 @@ impl Conversation {
         let reason = reason_of(value);
         let answer = self.answer_with(value);
         let next = judged.next.with_last(answer);
+        let fault = judged.fault;
         let updated = judged.updated;
         Answer {
             kind: Kind::Judged(reason),
+            fault,
             next,
             written,
             updated,

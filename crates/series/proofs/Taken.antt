@@ -3,7 +3,7 @@
 use mathlib.Core.Bool.{Bool, true, false, cond, _&&_}
 use mathlib.Core.List.{List, _++_}
 use mathlib.Core.Option.{some}
-use mathlib.Core.Path.{_≡_, sym, ap, ap₂, _∙_}
+use mathlib.Core.Path.{_≡_, refl, sym, ap, ap₂, _∙_}
 use Prim.Native.Nat.{ℕ, _%_, _≤_, _<_}
 use native.Mathlib.Omega.{arith}
 use borrow.Author.Tests.{eq-eqb}
@@ -11,7 +11,7 @@ use lib.Dec.{eqb}
 use lib.ListN.{length}
 use Rattle.octets.specs.Parts.{agrees}
 use Rattle.octets.proofs.Parts.{agrees-refl}
-use Rattle.credentials.specs.Credentials.{ntHashOf, responseOf, oldUnderNew, unsealedAs}
+use Rattle.credentials.specs.Credentials.{ntHashOf, responseOf, oldUnderNew}
 use Rattle.packets.specs.Response.{readResponse}
 use Rattle.packets.specs.Change.{readChange}
 use Rattle.accounts.specs.Account.{found, Rightful}
@@ -19,10 +19,11 @@ use Rattle.verify.specs.Response.{answers, valid}
 use Rattle.authenticator.specs.Judge.{validIn, newHashIn}
 use Rattle.authenticator.specs.Conversation.{awaitedCode, isEnded}
 use Rattle.authenticator.specs.Admit.{bodyRefusal}
-use Rattle.verify.specs.Change.{unsealedHash}
+use Rattle.verify.specs.Accepted.{hashFor, Accepted}
 use Rattle.authenticator.specs.Step.{judgedAs, step}
 use Rattle.accounts.specs.declared.Account.{Account}
 use Rattle.accounts.specs.declared.Lookup.{Lookup}
+use Rattle.packets.specs.declared.Change as changes
 use Rattle.authenticator.proofs.Admitted.{Passes}
 use Rattle.authenticator.proofs.Fresh.{Fresh, new-packet}
 use Rattle.authenticator.proofs.Judged.{
@@ -34,7 +35,7 @@ use Rattle.authenticator.proofs.Judged.{
   valid-law,
   change-law,
 }
-use Rattle.verify.proofs.Accepted.{hash-sealed, new-hash}
+use Rattle.verify.proofs.Accepted.{length-inside, hash-inside, accepted-if}
 use Rattle.authenticator.specs.declared.Conversation.{Conversation}
 use Rattle.authenticator.specs.declared.Phase.{Phase}
 use Rattle.authenticator.specs.declared.Phase.the-variants.{Response, Change}
@@ -135,26 +136,30 @@ module _ (c : Conversation) (t : Turn) (h : InStep c t) (fresh : Fresh c) (ph : 
         body = ap (λ (x : Phase). bodyRefusal x change) ph ∙ f .fit (omega arith);
       }
 
+  abbrev fields : changes.Change
+  fields = changeFields (t .challenge) old new filler
+
   module _ (there : c .kept .nt .present ≡ true) (right : ntHashOf old ≡ c .kept .nt .octets) where
+    inside : hashFor (c .kept) fields ≡ ntHashOf new
+    inside = hash-inside (ntHashOf old) filler new full (fits .0) (c .kept) fields right refl
+
+    change-accepted : Accepted (c .kept) (c .challenge) fields
+    change-accepted =
+        let size = length-inside (ntHashOf old) filler new full (fits .0) (c .kept) fields right
+        refl in
+        record {
+          hasHash = there;
+          bit0 = ap (λ (n : ℕ). n % 2) (change-flags (t .challenge) old new filler);
+          even = ap (λ (n : ℕ). n % 2) size ∙ fits .1;
+          atMost512 = omega (arith, size, fits .0);
+          oldHash = ap₂ oldUnderNew right (sym inside);
+          response = ap₂ responseOf (sym inside) (sym (h .challenge));
+        }
+
     change-hash : newHashIn c (readChange change) ≡ some (ntHashOf new)
     change-hash =
-        let f = changeFields (t .challenge) old new filler in
-        let inside : unsealedHash (unsealedAs (c .kept .nt .octets) (f .block))
-        ≡ some (ntHashOf new) =
-        ap (λ (x : List ℕ). unsealedHash (unsealedAs x (f .block))) (sym right)
-        ∙ hash-sealed (ntHashOf old) filler new full (fits .0) (fits .1) in
-        let verifier : agrees (f .verifier) (oldUnderNew (c .kept .nt .octets) (ntHashOf new))
-        ≡ true =
-        ap (λ (x : List ℕ). agrees (f .verifier) (oldUnderNew x (ntHashOf new))) (sym right)
-        ∙ agrees-refl (f .verifier) in
-        let nt : agrees (f .nt) (responseOf (ntHashOf new) (c .challenge)) ≡ true =
-        ap (λ (x : List ℕ). agrees (f .nt) (responseOf (ntHashOf new) x)) (h .challenge)
-        ∙ agrees-refl (f .nt) in
         ap (newHashIn c) (change-there .fields)
-        ∙ new-hash (c .kept) (c .challenge) f (ntHashOf new) there
-        (ap (λ (n : ℕ). eqb (n % 2) 1) (change-flags (t .challenge) old new filler)) inside
-        (both (agrees (f .verifier) (oldUnderNew (c .kept .nt .octets) (ntHashOf new)))
-        (agrees (f .nt) (responseOf (ntHashOf new) (c .challenge))) verifier nt)
+        ∙ accepted-if (c .kept) (c .challenge) fields change-accepted ∙ ap some inside
 
     pub change-taken : (l : Lookup) → step c change l b ≡ judgedAs c (changedTo c (ntHashOf new)) b
     change-taken l = change-law c change b change-passes l (ntHashOf new) ph change-hash

@@ -15,6 +15,7 @@ use Rattle.authenticator.specs.Encode.{replyPacket}
 use Rattle.accounts.specs.Account.{notFound, found}
 use Rattle.accounts.specs.declared.Lookup.{Lookup}
 use Rattle.verify.specs.Response.{foundValid}
+use Rattle.verify.specs.declared.ChangeFault.the-variants.{NoFault}
 use Rattle.authenticator.specs.Conversation.{isEnded, ended}
 use Rattle.authenticator.specs.declared.Judgement.{Judgement}
 use Rattle.authenticator.specs.Judge.{judgementFor, judge}
@@ -57,6 +58,7 @@ leavesRecord c s =
     let d = judge c (s .packet) (s .account) in
     record {
       reply = d .reply;
+      fault = d .fault;
       next = d .next;
       updated = cond (d .updated .found) (found (c .kept)) notFound;
     }
@@ -94,7 +96,12 @@ withId id c = record {
 abbrev pub neverCounts : Judge
 neverCounts c s =
     let d = judge c (s .packet) (s .account) in
-    record { reply = d .reply; next = withRetries (c .retries) (d .next); updated = d .updated }
+    record {
+      reply = d .reply;
+      fault = d .fault;
+      next = withRetries (c .retries) (d .next);
+      updated = d .updated;
+    }
 
 -- ---- boxes that judge as ours does, and answer otherwise what ours refuses
 
@@ -117,6 +124,7 @@ handsOutRecord c s =
     record {
       answer = record {
         kind = Refused (refusalAt stepOn c s);
+        fault = NoFault;
         next = c;
         written = 0;
         updated = s .account;
@@ -144,7 +152,13 @@ allowsLm c s = refusedAs (refusalAt stepOn c s) (withLm c) (s .buffer)
 abbrev pub endsUnseen : Box
 endsUnseen c s =
     record {
-      answer = record { kind = Judged 0; next = ended c; written = 0; updated = notFound };
+      answer = record {
+        kind = Judged 0;
+        fault = NoFault;
+        next = ended c;
+        written = 0;
+        updated = notFound;
+      };
       buffer = s .buffer;
     }
 
@@ -160,6 +174,7 @@ withKind k o =
     record {
       answer = record {
         kind = k;
+        fault = o .answer .fault;
         next = o .answer .next;
         written = o .answer .written;
         updated = o .answer .updated;
@@ -172,6 +187,7 @@ withUpdated l o =
     record {
       answer = record {
         kind = o .answer .kind;
+        fault = o .answer .fault;
         next = o .answer .next;
         written = o .answer .written;
         updated = l;

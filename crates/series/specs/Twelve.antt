@@ -9,7 +9,7 @@ use lib.ListN.{take, replicate}
 use Rattle.des.specs.Des.{expandKey}
 use Rattle.credentials.specs.Credentials.{lengthIn, contentFor}
 use Rattle.credentials.specs.declared.Content.{Content}
-use Rattle.credentials.specs.declared.Content.the-variants.{Over, Odd, Password}
+use Rattle.credentials.specs.declared.Content.the-variants.{Over, Odd}
 use Rattle.message.specs.Message.{readMessage}
 use Rattle.message.specs.declared.NewChallenge.{NewChallenge}
 use Rattle.message.specs.declared.Verdict.{Verdict}
@@ -37,12 +37,12 @@ pub data Input : Type 0 where
   block : List ℕ → Input
   message : List ℕ → Input
 
--- A number; octets; a refusal's number; the length of a password or none; E, R, C or none, and V.
+-- A number; octets; a refusal's number; what an opened block holds; E, R, C or none, and V.
 pub data Output : Type 0 where
   number : ℕ → Output
   octets : List ℕ → Output
   refusal : ℕ → Output
-  password : Option ℕ → Output
+  content : Content → Output
   fields : ℕ → ℕ → Option (List ℕ) → ℕ → Output
 
 -- on an empty list with a place for each of its three challenges
@@ -66,11 +66,6 @@ drawnAs (kind.Judged e) o = octets (replyOf o)
 abbrev answered : Outcome → Output
 answered o = drawnAs (o .answer .kind) o
 
-abbrev held : Content → Output
-held Over = password none
-held Odd = password none
-held (Password n) = password (some n)
-
 -- C, where it is given
 abbrev givenIn : NewChallenge → Option (List ℕ)
 givenIn c = cond (c .given) (some (c .octets)) none
@@ -88,7 +83,7 @@ outputOf (opening id c) = octets
     (take (opened (openingOf id c) .written) (openedBuffer (openingOf id c)))
 outputOf (response id p) = answered
     (step (firstConversation (openingOf id (replicate 8 0))) p notFound (replicate 17 0))
-outputOf (block b) = held (contentFor (lengthIn b))
+outputOf (block b) = content (contentFor (lengthIn b))
 outputOf (message m) = readAs (readMessage m .verdict) (readMessage m .c)
 
 pub record Row : Type 0 where
@@ -128,9 +123,9 @@ rows =
     -- (h), (i): as many octets as Length says
     ∷ record { input = response 7 (zeroResponse 7 0 54 49); output = refusal 6 }
     ∷ record { input = response 7 (zeroResponse 7 1 55 306); output = refusal 6 }
-    -- (j), twice
-    ∷ record { input = block (replicate 512 0 ++ (2 ∷ 2 ∷ 0 ∷ 0 ∷ [])); output = password none }
-    ∷ record { input = block (replicate 512 0 ++ (7 ∷ 0 ∷ 0 ∷ 0 ∷ [])); output = password none }
+    -- (j), twice: 514 is over 512, and 7 is odd
+    ∷ record { input = block (replicate 512 0 ++ (2 ∷ 2 ∷ 0 ∷ 0 ∷ [])); output = content Over }
+    ∷ record { input = block (replicate 512 0 ++ (7 ∷ 0 ∷ 0 ∷ 0 ∷ [])); output = content Odd }
     -- (k) E=648 R=0 V=3 extra
     ∷ record {
       input = message (69 ∷ 61 ∷ 54 ∷ 52 ∷ 56 ∷ 32 ∷ 82 ∷ 61 ∷ 48 ∷ 32 ∷ 86 ∷ 61 ∷ 51 ∷ 32 ∷ 101 ∷ 120 ∷ 116 ∷ 114 ∷ 97 ∷ []);

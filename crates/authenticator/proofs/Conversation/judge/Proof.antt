@@ -3,6 +3,7 @@
 use borrow.Author.Needs.{needs}
 use mathlib.Core.Path.{sym, ap, _∙_}
 use Rattle.accounts.specs.declared.Lookup.{Lookup}
+use Rattle.verify.specs.declared.ChangeFault.the-variants.{NoFault}
 use Rattle.authenticator.specs.Judge.{judge, judgeIn}
 use Rattle.authenticator.specs.declared.Judgement.{Judgement}
 use Rattle.authenticator.specs.declared.Phase.{Phase}
@@ -31,7 +32,12 @@ unfolding judge
 returns-3 c =
     let m = c .before in
     let s = m .before .before .before in
-    ap (λ (l : Lookup). record { reply = Success; next = s .args .self; updated = l })
+    ap (λ (l : Lookup). record {
+      reply = Success;
+      fault = NoFault;
+      next = s .args .self;
+      updated = l;
+    })
     (c .not-found .ensures)
     ∙ ap (judged s) (sym (m .enum-told3 .given .1))
 

@@ -5,6 +5,7 @@ use mathlib.Core.Path.{_≡_, ap₂, _∙_, ap}
 use Prim.Native.Nat.{ℕ}
 use lib.ListN.{length}
 use Rattle.accounts.specs.declared.Lookup.{Lookup}
+use Rattle.verify.specs.declared.ChangeFault.the-variants.{NoFault}
 use Rattle.authenticator.specs.Encode.{replyPacket}
 use Rattle.authenticator.specs.Judge.{reasonOf}
 use Rattle.authenticator.specs.declared.Answer.{Answer}
@@ -22,7 +23,13 @@ returns c =
     let last = a .self .last in
     let reply = replyPacket (last .id) (last .reply) in
     let answer : ℕ → ℕ → Lookup → Answer =
-    λ reason n l. record { kind = Repeated reason; next = a .self; written = n; updated = l } in
+    λ reason n l. record {
+      kind = Repeated reason;
+      fault = NoFault;
+      next = a .self;
+      written = n;
+      updated = l;
+    } in
     let written : w .write-reply .result ≡ length reply =
     w .write-reply .ensures .0
     ∙ written-whole reply (a .reply .now) (reply-fits (last .id) (last .reply)) (s .pre) in (

@@ -10,6 +10,7 @@ use Prim.Native.Nat.{ℕ}
 use lib.ListN.{length}
 use Rattle.accounts.specs.declared.Lookup.{Lookup}
 use Rattle.packets.specs.Frame.{writtenOver}
+use Rattle.verify.specs.declared.ChangeFault.the-variants.{NoFault}
 use Rattle.authenticator.specs.Conversation.{answerWith, withLast}
 use Rattle.authenticator.specs.Admit.{isRepeat, refusalFor, stepRefusal}
 use Rattle.authenticator.specs.Judge.{reasonOf, judge}
@@ -59,6 +60,7 @@ returns c =
     let whole = refused-step (a .self) (a .packet .now) (a .lookup) b some in
     let same = ap₂ (λ (n : ℕ) (l : Lookup). record {
       kind = Refused n;
+      fault = NoFault;
       next = a .self;
       written = 0;
       updated = l;
@@ -66,7 +68,7 @@ returns c =
     (refusal-told k) (c .not-found .ensures)
     ∙ sym (ap (λ (o : Outcome). o .answer) whole) in
     let t = told (a .self) (a .packet .now) (a .lookup) b same in
-    (same, sym (ap (λ (o : Outcome). o .buffer) whole), t .0, t .1, t .2)
+    (same, sym (ap (λ (o : Outcome). o .buffer) whole), t .0, t .1, t .2, t .3)
 
 -- ---- the last answer again
 
@@ -91,13 +93,15 @@ returns-2 c =
       facts .0,
       facts .1,
       facts .2,
+      facts .3,
     )
 
 -- ---- judged
 
 -- an answer by a judgement, the next conversation, the number of octets written and the reason
 abbrev answer : Judgement → Conversation → ℕ → ℕ → Answer
-answer j c n e = record { kind = Judged e; next = c; written = n; updated = j .updated }
+answer j c n e =
+    record { kind = Judged e; fault = j .fault; next = c; written = n; updated = j .updated }
 
 returns-3 : tie.Need-returns-3
 returns-3 c =
@@ -142,6 +146,7 @@ returns-3 c =
       facts .0,
       facts .1,
       facts .2,
+      facts .3,
     )
 
 pub step-spec : {M : Type 1} → statement M

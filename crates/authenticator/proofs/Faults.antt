@@ -1,0 +1,131 @@
+-- What a step's answer says of a change that it does not accept (document 02, request 2026-04): it
+-- is the first fault that holds, it stands "beside the 709" and nowhere else, and "Replies on the
+-- wire do not change": nothing of it is in the reply.
+-- Assumes nothing.
+use mathlib.Core.Bool.{Bool, true, false, cond}
+use mathlib.Core.List.{List}
+use mathlib.Core.Logic.{_≢_}
+use mathlib.Core.Path.{_≡_, refl, sym, ap, _∙_, subst}
+use Prim.Native.Nat.{ℕ}
+use native.Mathlib.Omega.{arith}
+use borrow.Author.Tests.{eq-eqb, eqb-true}
+use Rattle.accounts.specs.declared.Lookup.{Lookup}
+use Rattle.message.specs.Message.{textOf}
+use Rattle.message.specs.Reasons.{changingPassword}
+use Rattle.packets.specs.Frame.{writtenOver}
+use Rattle.packets.specs.Response.{readResponse}
+use Rattle.packets.specs.Change.{readChange}
+use Rattle.packets.specs.Reply.{failurePacket}
+use Rattle.verify.specs.Faults.{faultNumber, isFaultless}
+use Rattle.verify.specs.Response.{responseReason}
+use Rattle.verify.specs.Change.{checkedChange}
+use Rattle.verify.specs.FirstFault.{IsFirst}
+use Rattle.verify.specs.declared.ChangeFault.{ChangeFault}
+use Rattle.verify.proofs.FirstFault.{first-fault}
+use Rattle.verify.proofs.Reasons.{response-not-changing}
+use Rattle.authenticator.specs.Judge.{reasonOf, judgeResponse, judgeChange, judgeIn, judge}
+use Rattle.authenticator.specs.Encode.{version, replyPacket}
+use Rattle.authenticator.specs.Step.{Outcome, stepFault, step}
+use Rattle.authenticator.specs.declared.Conversation.{Conversation}
+use Rattle.authenticator.specs.declared.Kind.the-variants.{Judged}
+use Rattle.authenticator.specs.declared.Phase.{Phase}
+use Rattle.authenticator.specs.declared.Phase.the-variants.{Response, Change, Ended}
+use Rattle.authenticator.specs.declared.Reply.{Reply}
+use Rattle.authenticator.specs.declared.Reply.the-variants.{Success, Failure}
+use Rattle.authenticator.proofs.Admitted.{Passes}
+use Rattle.authenticator.proofs.Replies.{reason-of-reply}
+use Rattle.authenticator.proofs.Steps.{Case, refused, repeated, judged, case-of, judged-step}
+use Rattle.authenticator.proofs.Steps.{fault-step}
+
+-- a change's reply, by whether it is accepted
+abbrev replyIf : Bool → Reply
+replyIf accepted = cond accepted Success (Failure changingPassword false)
+
+module _ (c : Conversation) (p : List ℕ) (l : Lookup) where
+  -- ---- a judgement
+
+  fault-reply : (ph : Phase) → faultNumber (judgeIn ph c p l .fault) ≢ 0
+      → judgeIn ph c p l .reply ≡ Failure changingPassword false
+  unfolding judgeResponse judgeChange
+  fault-reply Response n = absurd (n refl)
+  fault-reply Change n = which (isFaultless fault) refl
+    where
+      fault : ChangeFault
+      fault = checkedChange (c .kept) (c .challenge) (readChange p) .fault
+
+      which : (t : Bool) → isFaultless fault ≡ t → replyIf t ≡ Failure changingPassword false
+      which true e = absurd (n (eqb-true (faultNumber fault) 0 e))
+      which false e = refl
+  fault-reply Ended n = absurd (n refl)
+
+  reply-fault : (ph : Phase) → reasonOf (judgeIn ph c p l .reply) ≡ changingPassword
+      → faultNumber (judgeIn ph c p l .fault) ≢ 0
+  unfolding judgeResponse judgeChange
+  reply-fault Response e z =
+      let reason = responseReason (c .terms) (c .challenge) l (readResponse p) in
+      response-not-changing (c .terms) (c .challenge) (readResponse p) l
+      (sym (reason-of-reply c reason) ∙ e)
+  reply-fault Change e z =
+      let fault = checkedChange (c .kept) (c .challenge) (readChange p) .fault in
+      let success = ap (λ (t : Bool). reasonOf (replyIf t)) (eq-eqb (faultNumber fault) 0 z) in
+      omega (arith, e, success)
+  reply-fault Ended e z = omega (arith, e)
+
+module _ (c : Conversation) (p : List ℕ) (l : Lookup) (b : List ℕ) where
+  -- ---- "beside the 709"
+
+  -- a step that tells a fault judged a change, and its reply is a 709 without a retry
+  pub told-beside-709 : stepFault c p b ≢ 0
+      → (step c p l b .answer .kind ≡ Judged changingPassword)
+      × (step c p l b .buffer
+      ≡ writtenOver (failurePacket (c .id) (textOf changingPassword 0 version)) b)
+  unfolding judge
+  told-beside-709 n = which (case-of c p l b)
+    where
+      fault : Outcome → ℕ
+      fault o = faultNumber (o .answer .fault)
+
+      told : {o : Outcome} → step c p l b ≡ o → fault o ≢ 0
+      told e z = n (sym (fault-step c p l b) ∙ ap fault e ∙ z)
+
+      which : Case c p l b
+          → (step c p l b .answer .kind ≡ Judged changingPassword)
+          × (step c p l b .buffer
+          ≡ writtenOver (failurePacket (c .id) (textOf changingPassword 0 version)) b)
+      which (refused m e) = absurd (told e refl)
+      which (repeated z r e) = absurd (told e refl)
+      which (judged h e) =
+          let reply = fault-reply c p l (c .phase) (told e) in (
+            ap (λ (o : Outcome). o .answer .kind) e
+                ∙ ap (λ (r : Reply). Judged (reasonOf r)) reply,
+            ap (λ (o : Outcome). o .buffer) e
+                ∙ ap (λ (r : Reply). writtenOver (replyPacket (c .id) r) b) reply,
+          )
+
+  -- and every 709 that is no repeat has one
+  pub every-709-tells : step c p l b .answer .kind ≡ Judged changingPassword → stepFault c p b ≢ 0
+  unfolding judge
+  every-709-tells k = which (case-of c p l b)
+    where
+      other : {o : Outcome} → step c p l b ≡ o → o .answer .kind ≡ Judged changingPassword
+      other e = sym (ap (λ (o : Outcome). o .answer .kind) e) ∙ k
+
+      which : Case c p l b → stepFault c p b ≢ 0
+      which (refused n e) = absurd (let x = other e in let z : _≡_ {A = ℕ} 0 1 = cc in omega arith)
+      which (repeated z r e) =
+          absurd (let x = other e in let z : _≡_ {A = ℕ} 0 1 = cc in omega arith)
+      which (judged h e) =
+          let reason : reasonOf (judge c p l .reply) ≡ changingPassword = (let x = other e in cc) in
+          λ z. reply-fault c p l (c .phase) reason
+          (sym (ap (λ (o : Outcome). faultNumber (o .answer .fault)) e) ∙ fault-step c p l b ∙ z)
+
+  -- ---- "the first that holds"
+
+  pub told-first : Passes c p b → c .phase ≡ Change
+      → IsFirst (c .kept) (c .challenge) (readChange p) (step c p l b .answer .fault)
+  unfolding judge judgeChange checkedChange
+  told-first ok ph =
+      subst (IsFirst (c .kept) (c .challenge) (readChange p))
+      (sym (ap (λ (o : Outcome). o .answer .fault) (judged-step c p l b ok)
+      ∙ ap (λ (x : Phase). judgeIn x c p l .fault) ph))
+      (first-fault (c .kept) (c .challenge) (readChange p))
