@@ -1,5 +1,6 @@
 -- The layout of what C keeps of a step's answer: whether the reply is the last one again, its
--- reason (0 is Success), and the record that an accepted change updates, or none.
+-- reason (0 is Success), what is wrong with a change that was judged (document 02, request
+-- 2026-04), and the record that an accepted change updates, or none.
 -- Assumes nothing: these are definitions.
 use mathlib.Core.Bool.{Bool}
 use mathlib.Core.List.{List, [], _∷_, _++_}
@@ -7,16 +8,17 @@ use Prim.Native.Nat.{ℕ}
 use Rattle.octets.specs.Parts.{part}
 use Rattle.octets.specs.Numbers.{toBe, fromBe}
 use Rattle.packets.specs.Frame.{octet}
+use Rattle.verify.specs.Faults.{faultNumber, faultWith}
 use Rattle.layouts.specs.Values.{answerKind, tagged, bodyIn, isEncoding}
 use Rattle.layouts.specs.Records.{flag, isFlag, lookupSize, encodeLookup, decodeLookup}
 use Rattle.layouts.specs.declared.StepResult.{StepResult}
 
 -- the sizes, in bytes
 abbrev pub resultSize : ℕ
-resultSize = 42
+resultSize = 43
 
 abbrev pub answerSize : ℕ
-answerSize = 44
+answerSize = 45
 
 abbrev pub repeatedAt : ℕ
 repeatedAt = 0
@@ -24,17 +26,23 @@ repeatedAt = 0
 abbrev pub reasonAt : ℕ
 reasonAt = 1
 
+abbrev pub faultAt : ℕ
+faultAt = 3
+
 abbrev pub updatedAt : ℕ
-updatedAt = 3
+updatedAt = 4
 
 unfoldable pub encodeResult : StepResult → List ℕ
-encodeResult v = flag (v .repeated) ∷ (toBe 2 (v .reason) ++ encodeLookup (v .updated))
+encodeResult v =
+    flag (v .repeated)
+    ∷ (toBe 2 (v .reason) ++ (faultNumber (v .fault) ∷ encodeLookup (v .updated)))
 
 unfoldable pub decodeResult : List ℕ → StepResult
 decodeResult bytes =
     record {
       repeated = isFlag (octet repeatedAt bytes);
       reason = fromBe (octet reasonAt bytes ∷ octet 2 bytes ∷ []);
+      fault = faultWith (octet faultAt bytes);
       updated = decodeLookup (part updatedAt lookupSize bytes);
     }
 

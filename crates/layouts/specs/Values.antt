@@ -36,9 +36,10 @@ listKind = 76
 -- ---- the version of each kind's layout
 
 -- Each kind has its own, so that what was stored of one stays valid when another one grows. Since
--- 0.3.0 a conversation has its last answer, and an answer tells a repeat.
+-- 0.3.0 a conversation has its last answer, and an answer tells a repeat; since 0.4.0 an answer
+-- tells what is wrong with a change.
 abbrev pub layoutVersion : ℕ → ℕ
-layoutVersion kind = cond (eqb kind conversationKind) 2 (cond (eqb kind answerKind) 2 1)
+layoutVersion kind = cond (eqb kind conversationKind) 2 (cond (eqb kind answerKind) 3 1)
 
 -- ---- a value's bytes
 

@@ -8,9 +8,12 @@ use crate::room::Room;
 use crate::room::TAG_SIZE;
 use crate::room::empty_room;
 use crate::room::is_value;
+use crate::room::put_byte;
 use crate::room::put_flag;
 use crate::room::put_two;
 use crate::room::put_value;
+use verify::fault_number;
+use verify::fault_with;
 ghost use mathlib.Core.Path.{_≡_};
 ghost use Rattle.layouts.specs.Call.{Fills, sized};
 ghost use Rattle.layouts.specs.Answers.{encodeResult, decodeResult};
@@ -18,9 +21,9 @@ ghost use Rattle.layouts.specs.Answers.{encodeAnswer, decodeAnswer};
 ghost use Rattle.layouts.specs.Answers.{isEncodedAnswer, answerSize};
 ghost use Rattle.layouts.specs.Inner.{inRoom};
 
-const RESULT_SIZE: usize = 42;
+const RESULT_SIZE: usize = 43;
 
-pub const ANSWER_SIZE: usize = 44;
+pub const ANSWER_SIZE: usize = 45;
 
 // A
 pub(crate) const ANSWER_KIND: u8 = 65;
@@ -29,14 +32,18 @@ const REPEATED_AT: usize = 0;
 
 const REASON_AT: usize = 1;
 
-const UPDATED_AT: usize = 3;
+const FAULT_AT: usize = 3;
+
+const UPDATED_AT: usize = 4;
 
 fn encode_result(result: StepResult) -> Room
     ensures { λ r. ⌜ r .bytes ≡ inRoom (encodeResult result) ⌝ }
 {
+    let fault = result.fault;
     let updated = result.updated;
     let mut room = put_flag(empty_room(), REPEATED_AT, result.repeated);
     room = put_two(room, REASON_AT, octets::u16_to_be(result.reason));
+    room = put_byte(room, FAULT_AT, fault_number(fault));
     encode_lookup(room, UPDATED_AT, updated)
 }
 
@@ -45,10 +52,12 @@ fn decode_result(bytes: &[u8]) -> StepResult
 {
     let repeated = is_flag(packets::octet(bytes, REPEATED_AT));
     let reason = octets::u16_from_be(packets::octet(bytes, REASON_AT), packets::octet(bytes, 2));
+    let fault = fault_with(packets::octet(bytes, FAULT_AT));
     let updated = decode_lookup(octets::part_of(bytes, UPDATED_AT, LOOKUP_SIZE));
     StepResult {
         repeated,
         reason,
+        fault,
         updated,
     }
 }

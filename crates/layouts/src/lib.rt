@@ -40,11 +40,14 @@ pub use records::RECORD_SIZE;
 pub use records::decode_record;
 pub use records::is_encoded_record;
 pub use records::put_record;
+use verify::ChangeFault;
 
 // What C keeps of a step's answer: whether the reply is the last one again, its reason (0 is
-// Success), and the record that an accepted change updates, or none.
+// Success), what is wrong with a change that was judged, and the record that an accepted change
+// updates, or none.
 pub struct StepResult {
     pub repeated: bool,
     pub reason: u16,
+    pub fault: ChangeFault,
     pub updated: Lookup,
 }

@@ -83,7 +83,7 @@ pub(crate) fn layout_version(kind: u8) -> u8
         return 2;
     }
     if kind == ANSWER_KIND {
-        return 2;
+        return 3;
     }
     1
 }

@@ -1,36 +1,35 @@
 -- What an opening and a step write is valid for the next step: the library never refuses an
 -- encoding of its own as a bad argument.
 -- Assumes nothing.
-use mathlib.Core.Bool.{Bool, true, false, cond, _&&_}
+use mathlib.Core.Bool.{Bool, true, false, cond}
 use mathlib.Core.List.{List}
-use mathlib.Core.Option.{Option, none, some}
-use mathlib.Core.Path.{_≡_, refl, sym, subst}
-use Prim.Native.Nat.{ℕ, _%_, _<_}
+use mathlib.Core.Path.{_≡_, refl, sym, ap, _∙_, subst}
+use Prim.Native.Nat.{ℕ, _<_}
 use native.Mathlib.Omega.{arith}
 use lib.Dec.{eqb}
-use lib.ListN.{length}
+use lib.ListN.{length, replicate}
 use Rattle.credentials.specs.Credentials.{unsealedAs, passwordIn}
-use Rattle.credentials.specs.declared.Content.{Content}
-use Rattle.credentials.specs.declared.Content.the-variants.{Over, Odd, Password}
-use Rattle.credentials.specs.declared.Unsealed as blocks
 use Rattle.credentials.proofs.Laws.{length-nt}
-use Rattle.message.specs.Reasons.{passwordExpired}
+use Rattle.message.specs.Reasons.{passwordExpired, changingPassword}
 use Rattle.packets.specs.Response.{readResponse}
 use Rattle.packets.specs.Change.{readChange}
 use Rattle.packets.specs.declared.Change as changes
 use Rattle.authenticator.proofs.Spends.{length-incremented}
-use Rattle.accounts.specs.Account.{blankAccount}
+use Rattle.accounts.specs.Account.{blankAccount, notFound, found, changed}
 use Rattle.authenticator.specs.Conversation.{ended, retried, closed}
 use Rattle.authenticator.specs.Opening.{Opening, openRefusal, openedIssued, firstConversation}
 use Rattle.authenticator.specs.Opening.{openingPacket, opened}
-use Rattle.authenticator.proofs.Steps.{Case, refused, repeated, judged, case-of}
+use Rattle.authenticator.proofs.Steps.{Case, refused, repeated, judged, case-of, told}
 use Rattle.authenticator.specs.declared.Judgement.{Judgement}
 use Rattle.authenticator.specs.Judge.{reasonOf, mayRetry, replyFor, afterReason}
-use Rattle.authenticator.specs.Judge.{judgeResponse, changeJudgement, newHashIn, judgeChange}
+use Rattle.authenticator.specs.Judge.{judgeResponse, changeJudgement, judgeChange}
 use Rattle.authenticator.specs.Judge.{judgeIn, judge}
 use Rattle.verify.specs.Response.{responseReason}
-use Rattle.verify.specs.Change.{contentHash, unsealedHash, proves, proven, newHash}
-use Rattle.authenticator.specs.Step.{Outcome, step, reasonIn}
+use Rattle.verify.specs.Accepted.{lengthFor, hashFor}
+use Rattle.verify.specs.Faults.{faultNumber, isFaultless}
+use Rattle.verify.specs.Change.{changeFault, checkedChange}
+use Rattle.verify.specs.declared.CheckedChange.{CheckedChange}
+use Rattle.authenticator.specs.Step.{Outcome, step, refusalIn, reasonIn, stepFault}
 use Rattle.authenticator.specs.declared.Answer.{Answer}
 use Rattle.authenticator.specs.declared.Reply.{Reply}
 use Rattle.authenticator.specs.declared.Reply.the-variants.{Success, Failure}
@@ -45,9 +44,13 @@ use Rattle.layouts.specs.Conversations.{encodeConversation, decodeConversation}
 use Rattle.layouts.specs.Conversations.{isEncodedConversation}
 use Rattle.layouts.specs.Answers.{encodeAnswer, decodeAnswer, isEncodedAnswer}
 use Rattle.layouts.specs.Records.{encodeRecord, decodeRecord, isEncodedRecord, lookupSize}
+use Rattle.layouts.specs.Call.{numbered}
 use Rattle.layouts.specs.Values.{bodyIn}
+use Rattle.layouts.proofs.Filling.{both}
+use Rattle.layouts.specs.declared.StepResult.{StepResult}
 use Rattle.numbers.specs.Results.{resultOf}
-use Rattle.mschap.specs.Step.{stepOf}
+use Rattle.mschap.specs.Sizes.{valueOr}
+use Rattle.mschap.specs.Step.{stepOf, stepArguments, StepCall, answerFault}
 use Rattle.layouts.proofs.RecordLaws.{SizedAccount, decoded-lookup-sized, record-fits}
 use Rattle.layouts.proofs.AnswerLaws.{decoded-answer-sized, answer-fits, answer-back}
 use Rattle.layouts.proofs.ConversationLaws.{SizedConversation, conversation-fits}
@@ -99,43 +102,37 @@ module _ (c : Conversation) (s : SizedConversation c) where
       (choice-sized (eqb e passwordExpired) (record { challenge = s .challenge; kept = t })
       ended-sized)
 
-  -- ---- the hash of an accepted change has sixteen bytes
+  -- ---- the hash of a checked change has sixteen bytes
 
-  abbrev Whole : Option (List ℕ) → Type 0
-  Whole none = Unit {0}
-  Whole (some h) = length h ≡ 16
+  checked-whole : (f : changes.Change)
+      → length (checkedChange (c .kept) (c .challenge) f .hash) ≡ 16
+  unfolding checkedChange
+  checked-whole f = by (isFaultless (changeFault (c .kept) (c .challenge) f))
+    where
+      by : (t : Bool) → length (cond t (hashFor (c .kept) f) (replicate 16 0)) ≡ 16
+      by true =
+          let o = unsealedAs (c .kept .nt .octets) (f .block) in
+          length-nt (passwordIn o (lengthFor (c .kept) f))
+      by false = refl
 
-  inside-whole : (k : Content) (o : blocks.Unsealed) → Whole (contentHash k o)
-  inside-whole Over o = tt
-  inside-whole Odd o = tt
-  inside-whole (Password n) o = length-nt (passwordIn o n)
-
-  choice-whole : (b : Bool) (x : Option (List ℕ)) → Whole x → Whole (cond b x none)
-  choice-whole true x h = h
-  choice-whole false x h = tt
-
-  proven-whole : (f : changes.Change) (x : Option (List ℕ)) → Whole x
-      → Whole (proven (c .kept) (c .challenge) f x)
-  proven-whole f none h = tt
-  proven-whole f (some v) h = choice-whole (proves (c .kept) (c .challenge) f v) (some v) h
-
-  new-whole : (f : changes.Change) → Whole (newHashIn c f)
-  unfolding newHash
-  new-whole f =
-      let o = unsealedAs (c .kept .nt .octets) (f .block) in
-      choice-whole (c .kept .nt .present && eqb (f .flags % 2) 1)
-      (proven (c .kept) (c .challenge) f (unsealedHash o))
-      (proven-whole f (unsealedHash o) (inside-whole (o .content) o))
-
-  change-sized : (x : Option (List ℕ)) → Whole x → SizedJudgement (changeJudgement c x)
-  change-sized none h =
-      record { next = ended-sized; updated = blank-sized; reason = omega arith }
-  change-sized (some v) h =
+  change-sized : (v : CheckedChange) → length (v .hash) ≡ 16
+      → SizedJudgement (changeJudgement c v)
+  change-sized v h =
       record {
         next = ended-sized;
-        updated = record { nt = h; lm = refl };
-        reason = omega arith;
+        updated = updated (isFaultless (v .fault));
+        reason = reason (isFaultless (v .fault));
       }
+    where
+      updated : (t : Bool)
+          → SizedAccount (cond t (found (changed (c .kept) (v .hash))) notFound .account)
+      updated true = record { nt = h; lm = refl }
+      updated false = blank-sized
+
+      reason : (t : Bool)
+          → reasonOf (cond {A = Reply} t Success (Failure changingPassword false)) < 65536
+      reason true = omega arith
+      reason false = omega arith
 
   -- ---- the step
 
@@ -151,7 +148,9 @@ module _ (c : Conversation) (s : SizedConversation c) where
         reason =
             reason-small c e (three-digits (response-reason (c .terms) (c .challenge) f l));
       }
-  judge-in-sized Change p l t = change-sized (newHashIn c (readChange p)) (new-whole (readChange p))
+  judge-in-sized Change p l t =
+      let f = readChange p in
+      change-sized (checkedChange (c .kept) (c .challenge) f) (checked-whole f)
   judge-in-sized Ended p l t = record { next = s; updated = blank-sized; reason = omega arith }
 
   -- a refusal and a repeat leave the conversation as it was, and a judgement keeps its own reply
@@ -203,9 +202,40 @@ module _ (conversation packet account buffer : List ℕ)
       ≡ done .answer .next
   step-carries = conversation-back (done .answer .next) (sizes .next) (sizes .last)
 
-  -- whether it is a repeat, the reason and the record that a step's answer tells are the step's own
+  -- whether it is a repeat, the reason, the fault and the record that a step's answer tells are the
+  -- step's own
   pub answer-tells : decodeAnswer (encodeAnswer (resultOf (done .answer))) ≡ resultOf (done .answer)
   answer-tells = answer-back (resultOf (done .answer)) (sizes .updated) (sizes .reason)
+
+  fault-encoded : answerFault (encodeAnswer (resultOf (done .answer)))
+      ≡ stepFault (decodeConversation conversation) packet buffer
+  unfolding answerFault
+  fault-encoded =
+      ap
+      (λ (t : Bool). valueOr t
+      (faultNumber (decodeAnswer (encodeAnswer (resultOf (done .answer))) .fault)))
+      (step-fits .1)
+      ∙ ap (λ (v : StepResult). faultNumber (v .fault)) answer-tells
+      ∙ told (decodeConversation conversation) packet (decodeRecord account) buffer refl .3
+
+-- a call that returned 0 had valid arguments
+valid-call : (b : Bool) (n : ℕ) → 0 ≡ numbered b n → b ≡ true
+valid-call true n e = refl
+valid-call false n e = absurd (omega (arith, e))
+
+-- so what C gets by mschap_answer_fault, after a call of mschap_step that returned 0, is what is
+-- wrong with the change that this step judged
+pub fault-tells : (conversation packet account buffer out : List ℕ)
+    {conversationAfter bufferAfter outAfter : List ℕ}
+    → StepCall conversation packet account buffer out 0 conversationAfter bufferAfter outAfter
+    → answerFault outAfter ≡ stepFault (decodeConversation conversation) packet buffer
+unfolding stepArguments
+fault-tells conversation packet account buffer out call =
+    let valid = valid-call (stepArguments conversation account out)
+    (refusalIn (stepOf conversation packet account buffer .answer .kind)) (call .number) in
+    ap answerFault (call .found)
+    ∙ fault-encoded conversation packet account buffer
+    (both (isEncodedConversation conversation) _ valid .0)
 
 -- the record that an answer gives is valid for the next step
 pub answer-record-fits : (answer : List ℕ)

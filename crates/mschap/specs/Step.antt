@@ -6,6 +6,7 @@ use mathlib.Core.Path.{_≡_}
 use Prim.Native.Nat.{ℕ}
 use Rattle.authenticator.specs.Conversation.{awaitedCode}
 use Rattle.authenticator.specs.Step.{Outcome, step, refusalIn}
+use Rattle.verify.specs.Faults.{faultNumber}
 use Rattle.layouts.specs.Call.{Fills, sized, numbered, afterCall}
 use Rattle.layouts.specs.Records.{flag, recordSize, encodeRecord, decodeRecord, isEncodedRecord}
 use Rattle.layouts.specs.Answers.{answerSize, encodeAnswer, decodeAnswer, isEncodedAnswer}
@@ -47,6 +48,12 @@ answerReason answer = valueOr (isEncodedAnswer answer) (decodeAnswer answer .rea
 -- 1: the reply is the last one again, and nothing was judged
 unfoldable pub answerRepeated : List ℕ → ℕ
 answerRepeated answer = valueOr (isEncodedAnswer answer) (flag (decodeAnswer answer .repeated))
+
+-- what is wrong with a change that was judged, by its number; 0 is none (document 02, request
+-- 2026-04)
+unfoldable pub answerFault : List ℕ → ℕ
+answerFault answer =
+    valueOr (isEncodedAnswer answer) (faultNumber (decodeAnswer answer .fault))
 
 unfoldable pub answerRecordArguments : List ℕ → List ℕ → Bool
 answerRecordArguments answer out = isEncodedAnswer answer && sized recordSize out

@@ -13,16 +13,18 @@ use layouts::is_encoded_record;
 use layouts::put_answer;
 use layouts::put_conversation;
 use layouts::put_record;
+use layouts::wide;
 use numbers::no_record_refusal;
 use numbers::number_of;
 use numbers::result_of;
 use refusals::both;
+use verify::fault_number;
 ghost use mathlib.Core.Path.{_≡_};
 ghost use lib.ListN.{length};
 ghost use Rattle.layouts.specs.Answers.{answerSize};
 ghost use Rattle.layouts.specs.Conversations.{conversationSize};
 ghost use Rattle.mschap.specs.Step.{stepArguments, StepCall, answerReason, answerRepeated};
-ghost use Rattle.mschap.specs.Step.{answerRecordArguments, AnswerRecordCall};
+ghost use Rattle.mschap.specs.Step.{answerFault, answerRecordArguments, AnswerRecordCall};
 ghost use Rattle.mschap.specs.Inner.{AnswerPut};
 
 fn are_step_arguments(conversation: &[u8], account: &[u8], out: &[u8]) -> bool
@@ -52,8 +54,8 @@ fn put_stepped(answer: Answer, conversation: &mut [u8], out: &mut [u8]) -> u32
 
 // One step of a conversation: a packet, the record of the named account or none, and a reply
 // buffer. The next conversation takes the place of this one, and answer has whether the reply is
-// the last one again, its reason, and the record that an accepted change updates, or none. 1 to 7:
-// the packet is refused.
+// the last one again, its reason, what is wrong with a change, and the record that an accepted
+// change updates, or none. 1 to 7: the packet is refused.
 #[no_mangle]
 pub extern "C" fn mschap_step(
     conversation: &mut [u8],
@@ -97,6 +99,19 @@ pub extern "C" fn mschap_answer_repeated(answer: &[u8]) -> u32
         return INVALID;
     }
     decode_answer(answer).repeated as u32
+}
+
+// What is wrong with a change that was judged and not accepted; 0 is none, and beside every other
+// answer. Not for the peer.
+#[no_mangle]
+pub extern "C" fn mschap_answer_fault(answer: &[u8]) -> u32
+    ensures { λ r. ⌜ r ≡ answerFault (now (answer .entry)) ⌝ }
+{
+    if !is_encoded_answer(answer) {
+        return INVALID;
+    }
+    let fault = decode_answer(answer).fault;
+    wide(fault_number(fault))
 }
 
 fn are_answer_record_arguments(answer: &[u8], out: &[u8]) -> bool

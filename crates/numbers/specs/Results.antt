@@ -19,6 +19,7 @@ resultOf a =
     record {
       repeated = isRepeated (a .kind);
       reason = reasonIn (a .kind);
+      fault = a .fault;
       updated = a .updated;
     }
 

@@ -50,12 +50,14 @@ pub fn result_of(answer: Answer) -> StepResult
     ensures { λ r. ⌜ r ≡ resultOf answer ⌝ }
 {
     let kind = answer.kind;
+    let fault = answer.fault;
     let updated = answer.updated;
     let repeated = is_repeated(kind);
     let reason = reason_of(kind);
     StepResult {
         repeated,
         reason,
+        fault,
         updated,
     }
 }

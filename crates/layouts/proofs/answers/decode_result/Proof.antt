@@ -4,6 +4,7 @@ use mathlib.Core.Path.{ap, ap₂, _∙_}
 use mathlib.Core.List.{[], _∷_}
 use Prim.Native.Nat.{ℕ}
 use Rattle.octets.specs.Numbers.{fromBe}
+use Rattle.verify.specs.Faults.{faultWith}
 use Rattle.layouts.specs.Records.{isFlag, decodeLookup}
 use Rattle.layouts.specs.Answers.{decodeResult}
 use Rattle.layouts.proofs.AnswerLaws.{result-same}
@@ -15,13 +16,16 @@ returns : tie.Need-returns
 unfolding decodeResult
 returns c =
     let part = c .before in
-    let reason = part .before in
+    let fault = part .before in
+    let number = fault .before in
+    let reason = number .before in
     let second = reason .before in
     let first = second .before in
     let repeated = first .before in
     result-same (repeated .is-flag .ensures ∙ ap isFlag (repeated .before .octet .ensures))
     (reason .u16-from-be .ensures
     ∙ ap₂ (λ (a b : ℕ). fromBe (a ∷ b ∷ [])) (first .octet2 .ensures) (second .octet3 .ensures))
+    (fault .fault-with .ensures ∙ ap faultWith (number .octet4 .ensures))
     (c .decode-lookup .ensures ∙ ap decodeLookup (part .part-of .ensures))
 
 pub decode-result-spec : {M : Type 1} → statement M
@@ -29,4 +33,5 @@ decode-result-spec =
     tie.close
     (tie.spec
     (λ c κs. search needs) (λ c κs. search needs) (λ c κs. search needs) (λ c κs. search needs)
-    (λ c κs. search needs) (λ c κs. search needs) (λ c κs. search needs) returns)
+    (λ c κs. search needs) (λ c κs. search needs) (λ c κs. search needs) (λ c κs. search needs)
+    (λ c κs. search needs) returns)

@@ -7,7 +7,7 @@ use Rattle.numbers.proofs.results.result_of.Tie as tie
 use borrow.Author.Needs.{needs}
 
 returns : tie.Need-returns
-returns c = result-same (c .before .is-repeated .ensures) (c .reason-of .ensures) refl
+returns c = result-same (c .before .is-repeated .ensures) (c .reason-of .ensures) refl refl
 
 pub result-of-spec : {M : Type 1} → statement M
 result-of-spec =
