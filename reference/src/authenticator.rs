@@ -126,6 +126,32 @@ pub struct Opening {
     pub conversation: Conversation,
 }
 
+/// What is wrong with a change that draws 709 (request 2026-04): "the first that holds of: no NT
+/// hash, bit 0 clear, over 512, odd, old hash wrong, response wrong". The numbers are the places in
+/// that sentence.
+#[derive(Clone, Copy, Debug, PartialEq, Eq)]
+pub enum Fault {
+    /// The kept record has no NT hash.
+    NoNtHash = 1,
+    /// Bit 0 of the flags is clear.
+    BitClear = 2,
+    /// The length in the opened block is over 512.
+    Over = 3,
+    /// It is odd.
+    Odd = 4,
+    /// The old hash under the new one is another than the one sent.
+    OldHash = 5,
+    /// The new hash's response to the challenge in force is another than the one sent.
+    Response = 6,
+}
+
+impl Fault {
+    /// The number of a fault; 0 where there is none.
+    pub fn number(fault: Option<Fault>) -> u8 {
+        fault.map_or(0, |fault| fault as u8)
+    }
+}
+
 /// What a step gives.
 #[derive(Clone, Copy, Debug, PartialEq, Eq)]
 pub struct Answer {
@@ -135,6 +161,9 @@ pub struct Answer {
     pub reason: u16,
     /// Whether the reply is the last one again, the packet not being judged.
     pub repeated: bool,
+    /// What is wrong with a change that was judged and draws 709; none with every other answer. The
+    /// reply does not tell it.
+    pub fault: Option<Fault>,
     /// The octets written: 4, 17, or 0 on refusal.
     pub written: usize,
     /// The next conversation; on refusal and for a repeat the one given.
@@ -197,6 +226,7 @@ struct Judgement {
     /// 0 for Success.
     reason: u16,
     retry: bool,
+    fault: Option<Fault>,
     conversation: Conversation,
     record: Option<Account>,
 }
@@ -221,6 +251,7 @@ pub fn step(
             refusal,
             reason: 0,
             repeated: false,
+            fault: None,
             written: 0,
             conversation: *conversation,
             record: None,
@@ -229,6 +260,7 @@ pub fn step(
             refusal: 0,
             reason: last.reply.failed().map_or(0, |(reason, _)| reason),
             repeated: true,
+            fault: None,
             written: packet::put(last.reply.octets(), buffer),
             conversation: *conversation,
             record: None,
@@ -249,6 +281,7 @@ pub fn step(
                 refusal: 0,
                 reason: judgement.reason,
                 repeated: false,
+                fault: judgement.fault,
                 written: packet::put(reply.octets(), buffer),
                 conversation: Conversation {
                     last,
@@ -350,6 +383,7 @@ fn judge_response(
     Judgement {
         reason,
         retry,
+        fault: None,
         conversation: next,
         record: None,
     }
@@ -383,38 +417,51 @@ fn valid(conversation: &Conversation, fields: &ResponseFields<'_>, account: &Acc
 }
 
 fn judge_change(conversation: &Conversation, fields: &ChangeFields, kept: &Account) -> Judgement {
-    let record = accepted(conversation, fields, kept).map(|hash| Account {
-        nt: Some(hash),
-        lm: None,
-        expired: false,
-        ..*kept
-    });
-    let reason = if record.is_some() { 0 } else { 709 };
+    let (reason, fault, record) = match checked(conversation, fields, kept) {
+        Err(fault) => (709, Some(fault), None),
+        Ok(hash) => {
+            let record = Account {
+                nt: Some(hash),
+                lm: None,
+                expired: false,
+                ..*kept
+            };
+            (0, None, Some(record))
+        }
+    };
     Judgement {
         reason,
         retry: false,
+        fault,
         conversation: ended(conversation),
         record,
     }
 }
 
-/// The new NT hash of a change that is accepted.
-fn accepted(
+/// The new NT hash of a change that is accepted, or what is wrong with it: each is asked in the
+/// order of [`Fault`], so that the first is told.
+fn checked(
     conversation: &Conversation,
     fields: &ChangeFields,
     kept: &Account,
-) -> Option<[u8; 16]> {
-    let old_hash = kept.nt?;
+) -> Result<[u8; 16], Fault> {
+    let old_hash = kept.nt.ok_or(Fault::NoNtHash)?;
     if fields.flags & 1 == 0 {
-        return None;
+        return Err(Fault::BitClear);
     }
     let password = match hashes::open(&old_hash, &fields.nt_block) {
+        OpenedBlock::Over => return Err(Fault::Over),
+        OpenedBlock::Odd => return Err(Fault::Odd),
         OpenedBlock::Password(password) => password,
-        OpenedBlock::Over | OpenedBlock::Odd => return None,
     };
-    let new_hash = hashes::nt_hash(&password).ok()?;
-    let hash_agrees = fields.nt_old_under_new == hashes::old_under_new(&old_hash, &new_hash);
-    let response_agrees =
-        fields.nt_response == hashes::challenge_response(&new_hash, &conversation.challenge);
-    (hash_agrees && response_agrees).then_some(new_hash)
+    let Ok(new_hash) = hashes::nt_hash(&password) else {
+        unreachable!("an even number of at most 512 octets is never refused");
+    };
+    if fields.nt_old_under_new != hashes::old_under_new(&old_hash, &new_hash) {
+        return Err(Fault::OldHash);
+    }
+    if fields.nt_response != hashes::challenge_response(&new_hash, &conversation.challenge) {
+        return Err(Fault::Response);
+    }
+    Ok(new_hash)
 }

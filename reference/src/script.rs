@@ -1,6 +1,6 @@
 //! The command interpreter. Each line of the input gives one line of the output.
 
-use crate::authenticator::{self, Account, Conversation, Last, Phase};
+use crate::authenticator::{self, Account, Conversation, Fault, Last, Phase};
 use crate::hashes;
 use crate::issued::{self, Issued};
 use crate::message::{self, Call, Fields};
@@ -305,10 +305,11 @@ impl Session {
         self.conversation = answer.conversation;
         self.handed_out = answer.record;
         Some(format!(
-            "{} {} {} {} {} {} {}",
+            "{} {} {} {} {} {} {} {}",
             answer.refusal,
             answer.reason,
             u8::from(answer.repeated),
+            Fault::number(answer.fault),
             answer.written,
             hex(&buffer),
             show_conversation(&self.conversation),
@@ -578,7 +579,7 @@ mod tests {
         let mut session = Session::new();
         assert_eq!(
             session.run("step - -\n"),
-            "step - - = 2 0 0 0 - 0 0000000000000000 0 no ended - - -\n"
+            "step - - = 2 0 0 0 0 - 0 0000000000000000 0 no ended - - -\n"
         );
         session.run("account 00*16 - 0001\nopen 3 00*8 5 no AA*17\n");
         assert_eq!(session.conversation().retries, 5);

@@ -2,9 +2,9 @@
 //! print. The text is compared with the stored file, which both programs run;
 //! `WRITE_CASES=1 cargo test --release --offline --test cases` writes that file anew.
 
-use reference::authenticator::{Account, Phase};
+use reference::authenticator::{Account, Fault, Phase};
 use reference::hashes;
-use reference::packet;
+use reference::packet::{self, ChangeFields};
 use reference::peer::{self, Turn};
 use reference::rc4::rc4;
 use reference::script::{hex, Session};
@@ -73,6 +73,14 @@ fn change(id: u8, challenge: &[u8; 8], old: &[u8], new: &[u8]) -> Vec<u8> {
     out
 }
 
+/// Octets 20, and behind them any length, sealed.
+fn block_with_length(hash: &[u8; 16], length: u32) -> [u8; 516] {
+    let mut block = [0x20u8; 516];
+    block[512..].copy_from_slice(&length.to_le_bytes());
+    rc4(hash, &mut block).unwrap();
+    block
+}
+
 /// A change whose opened block has any length, the other fields being those of `new`.
 fn change_with_length(length: u32, new: &[u8]) -> Vec<u8> {
     let h = hashes::nt_hash(P).unwrap();
@@ -117,6 +125,7 @@ struct Stepped {
     refusal: String,
     reason: String,
     repeated: String,
+    fault: String,
     written: usize,
     buffer: Vec<u8>,
     /// Without its last word, which is `last`.
@@ -228,28 +237,32 @@ impl Sheet {
     fn step(&mut self, packet: &[u8], buffer: &str) -> Stepped {
         let result = self.ask(&format!("step {} {buffer}", hex(packet)));
         let words: Vec<&str> = result.split(' ').collect();
-        assert_eq!(words.len(), 13, "{result}");
+        assert_eq!(words.len(), 14, "{result}");
         // What is awaited is never what was answered last, so that no repeat is taken for a try.
-        let awaited = match words[9] {
-            "response" => format!("2:{}:", words[5]),
-            "change" => format!("6:{}:", words[5]),
+        let awaited = match words[10] {
+            "response" => format!("2:{}:", words[6]),
+            "change" => format!("6:{}:", words[6]),
             _ => String::from("none"),
         };
-        assert!(!words[11].starts_with(&awaited), "{result}");
+        assert!(!words[12].starts_with(&awaited), "{result}");
         self.judged += usize::from(words[0] == "0" && words[2] == "0");
+        // CR04-2, -5, -6: a fault beside each 709 that is no repeat, and beside nothing else.
+        let faulty = words[..3] == ["0", "709", "0"];
+        assert_eq!(words[3] != "0", faulty, "{result}");
         Stepped {
             refusal: words[0].to_string(),
             reason: words[1].to_string(),
             repeated: words[2].to_string(),
-            written: words[3].parse().unwrap(),
-            buffer: if words[4] == "-" {
+            fault: words[3].to_string(),
+            written: words[4].parse().unwrap(),
+            buffer: if words[5] == "-" {
                 Vec::new()
             } else {
-                bytes(words[4])
+                bytes(words[5])
             },
-            conversation: words[5..11].join(" "),
-            last: words[11].to_string(),
-            record: words[12].to_string(),
+            conversation: words[6..12].join(" "),
+            last: words[12].to_string(),
+            record: words[13].to_string(),
         }
     }
 
@@ -293,6 +306,19 @@ impl Sheet {
             (answer.repeated.as_str(), answer.last.as_str()),
             ("0", &*last)
         );
+        answer
+    }
+
+    /// A change that draws 709, and what is wrong with it. CR04-7: the reply has the same 17 octets
+    /// whatever that is.
+    fn bad_change(&mut self, packet: &[u8], fault: Fault) -> Stepped {
+        let answer = self.failure(packet, "709", 0);
+        assert_eq!(answer.fault, (fault as u8).to_string(), "{}", hex(packet));
+        assert_eq!(
+            hex(answer.reply()),
+            format!("04{:02X}0011{E709}", packet[1])
+        );
+        assert!(answer.conversation.ends_with(" ended -"));
         answer
     }
 
@@ -365,11 +391,14 @@ fn cases() {
     octet_strings(&mut sheet);
     repeats(&mut sheet);
     issued_challenges(&mut sheet);
+    faults(&mut sheet);
+    faulty_handsets(&mut sheet);
 
     // The whole file, run afresh, gives the lines that were checked.
     let again = reference::script::run(&sheet.text);
     assert_eq!(again.lines().count(), sheet.text.lines().count());
-    assert!(sheet.text.len() < 400_000, "{}", sheet.text.len());
+    // The program `vectors` reads no more than 524,288 octets.
+    assert!(sheet.text.len() < 500_000, "{}", sheet.text.len());
     let stored = concat!(
         env!("CARGO_MANIFEST_DIR"),
         "/../crates/vectors/data/cases.txt"
@@ -893,9 +922,7 @@ fn ciphers(s: &mut Sheet) {
         (u32::MAX, "over"),
         (2, "2 2020"),
     ] {
-        let mut block = [0x20u8; 516];
-        block[512..].copy_from_slice(&length.to_le_bytes());
-        rc4(&h, &mut block).unwrap();
+        let block = block_with_length(&h, length);
         s.is(&format!("unseal {H} {}", hex(&block)), expected);
     }
     s.note("a block of zeros, and a block opened with another hash");
@@ -1175,7 +1202,7 @@ fn changes(s: &mut Sheet) {
     let renewed = format!("{HQ}/-/0000");
     s.title("R-CHANGE-1: the kept record has no NT hash");
     s.expire("-", L);
-    s.failure(&chg, "709", 0);
+    s.bad_change(&chg, Fault::NoNtHash);
     s.title("R-CHANGE-2: flags 0, 2, 3");
     for (flags, accepted) in [([0, 0], false), ([0, 2], false), ([0, 3], true)] {
         s.expire(H, L);
@@ -1183,8 +1210,7 @@ fn changes(s: &mut Sheet) {
         if accepted {
             assert_eq!(s.success(&packet).record, renewed);
         } else {
-            let answer = s.failure(&packet, "709", 0);
-            assert_eq!(hex(answer.reply()), format!("04080011{E709}"));
+            s.bad_change(&packet, Fault::BitClear);
         }
     }
     s.title("R-CHANGE-3, R-PROG-1: block lengths 0 and 512 accepted, other fields right");
@@ -1201,21 +1227,27 @@ fn changes(s: &mut Sheet) {
         "71AD0EBE8DB92F0DECA36C233E1AC4CB/-/0000"
     );
     s.note("block lengths 513, 514, 7, 65550");
-    for length in [513, 514, 7, 65_550] {
+    for (length, fault) in [
+        (513, Fault::Over),
+        (514, Fault::Over),
+        (7, Fault::Odd),
+        (65_550, Fault::Over),
+    ] {
         s.expire(H, L);
-        s.failure(&change_with_length(length, Q), "709", 0);
+        s.bad_change(&change_with_length(length, Q), fault);
     }
     s.note("a shorter even length: another password, 709");
     s.expire(H, L);
-    s.failure(&change_with_length(12, Q), "709", 0);
+    s.bad_change(&change_with_length(12, Q), Fault::OldHash);
     s.title("R-CHANGE-4: the old hash under the new");
     s.expire(H, L);
-    s.failure(&with(&chg, &[(528, &bytes("D14243A8B2D2B1BE"))]), "709", 0);
+    let second = bytes("D14243A8B2D2B1BE");
+    s.bad_change(&with(&chg, &[(528, &second)]), Fault::OldHash);
     s.title("R-CHANGE-5: the NT response of the old hash, and to the grown challenge");
     s.expire(H, L);
-    s.failure(&with(&chg, &[(1092, &bytes(NR))]), "709", 0);
+    s.bad_change(&with(&chg, &[(1092, &bytes(NR))]), Fault::Response);
     s.expire(H, L);
-    s.failure(&with(&chg, &[(1092, &bytes(NQ23))]), "709", 0);
+    s.bad_change(&with(&chg, &[(1092, &bytes(NQ23))]), Fault::Response);
     s.title("R-CHANGE-6: LM fields and bit 1 ignored");
     s.expire(H, L);
     let filled = with(&chg, &[(536, &[0xFF; 556]), (1116, &[0, 3])]);
@@ -1229,7 +1261,7 @@ fn changes(s: &mut Sheet) {
     s.title("R-CHANGE-8 to -10: 709 ends; nothing more is answered but a repeat");
     s.expire(H, L);
     let wrong_old = change(8, &CH, BADPW, Q);
-    let answer = s.failure(&wrong_old, "709", 0);
+    let answer = s.bad_change(&wrong_old, Fault::Over);
     assert_eq!(answer.conversation, format!("8 {CHX} 2 yes ended -"));
     s.repeats(&chg, B, &format!("04080011{E709}"), "709");
     s.refused(&with(&chg, &[(1, &[9])]), B, "1");
@@ -1718,16 +1750,16 @@ fn slips(s: &mut Sheet) {
     let second = reference::des::encrypt(&key, &h[8..].try_into().unwrap());
     assert_eq!(hex(&second), "D14243A8B2D2B1BE");
     s.expire(H, L);
-    s.failure(&with(&chg, &[(528, &second)]), "709", 0);
+    s.bad_change(&with(&chg, &[(528, &second)]), Fault::OldHash);
     s.title("R-SLIP-2: a change whose response is made from the old hash");
     s.expire(H, L);
-    s.failure(&with(&chg, &[(1092, &bytes(NR))]), "709", 0);
+    s.bad_change(&with(&chg, &[(1092, &bytes(NR))]), Fault::Response);
     s.title("R-SLIP-3: RC4 started anew for the length");
     let mut length = 14u32.to_le_bytes();
     rc4(&h, &mut length).unwrap();
     assert_eq!(hex(&length), "CE5A8EBA");
     s.expire(H, L);
-    s.failure(&with(&chg, &[(516, &length)]), "709", 0);
+    s.bad_change(&with(&chg, &[(516, &length)]), Fault::Over);
     let sealed = s.ask(&format!("seal {H} {} {f}", hex(Q)));
     assert!(sealed.ends_with("AE36AB02"));
     s.title("R-SLIP-4: LM right, NT wrong, flag 1");
@@ -1905,7 +1937,7 @@ fn exchanges(s: &mut Sheet) {
     let mut peer = Peer::meet(s, 7, "7");
     peer.respond(s, P, renew);
     let answer = peer.change(s, BADPW, Q, "failure 709 0 - 2 end");
-    assert_eq!(answer.record, "-");
+    assert_eq!((answer.fault.as_str(), answer.record.as_str()), ("3", "-"));
     s.is("relend", "");
     let mut peer = Peer::meet(s, 7, "0");
     peer.respond(s, P, renew);
@@ -1948,27 +1980,27 @@ fn damaged(s: &mut Sheet) {
     }
     s.title("a change with one bit changed, field by field");
     let chg = change(8, &CH, P, Q);
-    for (place, reason) in [
-        (4, "0"),
-        (501, "0"),
-        (502, "709"),
-        (515, "709"),
-        (516, "709"),
-        (519, "709"),
-        (520, "709"),
-        (535, "709"),
-        (536, "0"),
-        (1091, "0"),
-        (1092, "709"),
-        (1115, "709"),
+    for (place, fault) in [
+        (4, None),
+        (501, None),
+        (502, Some(Fault::OldHash)),
+        (515, Some(Fault::OldHash)),
+        // the length 0E 00 00 00 becomes 1E 00 00 00, which is 30, and then 0E 00 00 10
+        (516, Some(Fault::OldHash)),
+        (519, Some(Fault::Over)),
+        (520, Some(Fault::OldHash)),
+        (535, Some(Fault::OldHash)),
+        (536, None),
+        (1091, None),
+        (1092, Some(Fault::Response)),
+        (1115, Some(Fault::Response)),
     ] {
         s.expire(H, L);
-        let answer = s.step(&with(&chg, &[(place, &[chg[place] ^ 0x10])]), B);
-        assert_eq!(
-            (answer.refusal.as_str(), answer.reason.as_str()),
-            ("0", reason),
-            "{place}"
-        );
+        let packet = with(&chg, &[(place, &[chg[place] ^ 0x10])]);
+        match fault {
+            None => s.success(&packet),
+            Some(fault) => s.bad_change(&packet, fault),
+        };
     }
     s.title("a whole packet cut short at each of its first octets, for each reader");
     s.open7();
@@ -2094,7 +2126,7 @@ fn repeats(s: &mut Sheet) {
     s.failure(&good, "648", 0);
     s.note("after 709: the right change, and one of another password, draw 709 again");
     s.expire(H, L);
-    s.failure(&change(8, &CH, BADPW, Q), "709", 0);
+    s.bad_change(&change(8, &CH, BADPW, Q), Fault::Over);
     for packet in [&chg, &change(8, &CH, P, P), &bytes("06080004")] {
         s.repeats(packet, B, &format!("04080011{E709}"), "709");
     }
@@ -2653,6 +2685,398 @@ fn issued_challenges(s: &mut Sheet) {
     );
 }
 
+/// Request 2026-04: what is wrong with a change that draws 709.
+fn faults(s: &mut Sheet) {
+    let chg = change(8, &CH, P, Q);
+    let h: [u8; 16] = array(H);
+
+    s.title("CR04-1: opened lengths 514, 7, 515 (over, not odd), 512, 0, 80000000 hexadecimal");
+    let longest = format!("512 {}", "20".repeat(512));
+    for (length, held) in [
+        (514, "over"),
+        (7, "odd"),
+        (515, "over"),
+        (512, longest.as_str()),
+        (0, "0 -"),
+        (1 << 31, "over"),
+    ] {
+        let block = block_with_length(&h, length);
+        s.is(&format!("unseal {H} {}", hex(&block)), held);
+    }
+    s.title("CR04-1, -4: the same in a change; 512 and 0 octets are a password, though another");
+    for (length, fault) in [
+        (514, Fault::Over),
+        (7, Fault::Odd),
+        (515, Fault::Over),
+        (512, Fault::OldHash),
+        (0, Fault::OldHash),
+        (1 << 31, Fault::Over),
+    ] {
+        s.expire(H, L);
+        s.bad_change(&change_with_length(length, Q), fault);
+    }
+
+    s.title(
+        "CR04-2: no NT hash before bit 0 clear; the block opens as odd under a hash of octets 0",
+    );
+    let odd = block_with_length(&[0; 16], 7);
+    for flags in [[0, 0], [0, 1]] {
+        s.expire("-", L);
+        s.bad_change(&with(&chg, &[(4, &odd), (1116, &flags)]), Fault::NoNtHash);
+    }
+    s.note("bit 0 clear before over and before odd; bit 1 set makes no difference");
+    for (length, flags) in [(514, [0, 0]), (7, [0, 2])] {
+        s.expire(H, L);
+        let packet = change_with_length(length, Q);
+        s.bad_change(&with(&packet, &[(1116, &flags)]), Fault::BitClear);
+    }
+
+    s.title(
+        "CR04-3, -7: one bit of octet 520 and one of 1092 changed, then only the latter: one reply",
+    );
+    let (old, response) = ([chg[520] ^ 1], [chg[1092] ^ 1]);
+    s.expire(H, L);
+    s.bad_change(
+        &with(&chg, &[(520, &old), (1092, &response)]),
+        Fault::OldHash,
+    );
+    s.expire(H, L);
+    let wrong = with(&chg, &[(1092, &response)]);
+    s.bad_change(&wrong, Fault::Response);
+
+    s.title("CR04-5: the same change again: 709 again, and no fault; nor with other contents");
+    let e709 = format!("04080011{E709}");
+    for packet in [
+        &wrong,
+        &wrong,
+        &change_with_length(7, Q),
+        &bytes("06080004"),
+    ] {
+        s.repeats(packet, B, &e709, "709");
+    }
+
+    s.title(
+        "CR04-6, -8: no fault is left from before; r + 2 packets are judged, and the user is in",
+    );
+    s.refused(&with(&chg, &[(1, &[9])]), B, "1");
+    s.account(H, L, "0001");
+    s.open(7, CHX, "1", "-");
+    let before = s.judged;
+    s.failure(&resp(7, Z24, BAD, 1, b"u"), "691", 1);
+    s.failure(&resp(8, Z24, NR23, 1, b"u"), "648", 0);
+    s.note("while a change is awaited: 2 to 7, each with a change that is wrong in all else");
+    let bad = with(&change(9, &CH, P, Q), &[(4, &[0; 516]), (1116, &[0, 0])]);
+    s.refused(&bad, "AA*16", "2");
+    s.refused(&bad[..1117], B, "3");
+    s.refused(&with(&bad, &[(0, &[5])]), B, "4");
+    s.refused(&with(&bad, &[(1, &[10])]), B, "5");
+    s.refused(&with(&bad, &[(2, &[4, 0x5D])]), B, "6");
+    s.refused(&with(&bad, &[(1116, &[0, 4])]), B, "7");
+    let answer = s.success(&change(9, &array(CH23), P, Q));
+    assert_eq!(answer.record, format!("{HQ}/-/0000"));
+    assert_eq!(s.judged - before, 3);
+    s.note("647, 646, 649, and 691 with no retry left");
+    for (marks, nt, reason) in [
+        ("1000", NR, "647"),
+        ("0100", NR, "646"),
+        ("0010", NR, "649"),
+        ("0000", BAD, "691"),
+    ] {
+        s.account(H, L, marks);
+        s.open(7, CHX, "0", "-");
+        s.failure(&resp(7, Z24, nt, 1, b"u"), reason, 0);
+    }
+}
+
+/// The parts of a change's block that a handset may make wrongly (RFC 2433 A.11, A.12).
+struct Block<'a> {
+    /// The key of RC4.
+    key: &'a [u8; 16],
+    /// What stands for the password, and where it begins in the 512 octets.
+    octets: &'a [u8],
+    place: usize,
+    /// The last four octets.
+    length: [u8; 4],
+}
+
+impl Block<'_> {
+    /// The filler with the password over it, and the length, not sealed yet.
+    fn clear(&self) -> [u8; 516] {
+        let mut block = [0; 516];
+        block[..512].copy_from_slice(&filler());
+        block[self.place..self.place + self.octets.len()].copy_from_slice(self.octets);
+        block[512..].copy_from_slice(&self.length);
+        block
+    }
+
+    fn sealed(&self) -> [u8; 516] {
+        let mut block = self.clear();
+        rc4(self.key, &mut block).unwrap();
+        block
+    }
+}
+
+/// The change of such a handset, and what it draws. The last four octets of the block tell that it
+/// was made by the rule: by noise of any kind the length is over 512.
+fn draw(s: &mut Sheet, rule: &str, why: &str, fields: ChangeFields, fault: Fault) {
+    let (_, ends) = BLOCK_ENDS
+        .iter()
+        .find(|(name, _)| rule.starts_with(name))
+        .unwrap_or(&("", "AE36AB02"));
+    assert_eq!(hex(&fields.nt_block[512..]), *ends, "{rule}");
+    s.title(&format!("2026-04, handset {rule}"));
+    s.note(why);
+    s.expire(H, L);
+    s.bad_change(&packet::change(8, &fields), fault);
+}
+
+/// The octets 516 to 519 of each handset's change where they are not those of the right one: the
+/// length, encrypted. They were computed by a program apart from this one.
+const BLOCK_ENDS: [(&str, &str); 11] = [
+    ("a", "F3CDB3F8"),
+    ("b", "F3CDB3F8"),
+    ("c, odd", "A736AB02"),
+    ("c, even", "A436AB02"),
+    ("d", "A036AB0C"),
+    ("e", "CE5A8EBA"),
+    ("f", "0D30DB05"),
+    ("h", "B036AB02"),
+    ("i, odd", "A736AB02"),
+    ("i, even", "A436AB02"),
+    ("p", "00000000"),
+];
+
+/// Changes of a password `MyPw` that an expired account has, by handsets which follow RFC 2433 but
+/// for one rule each. Each fault is said here, and the program asked.
+fn faulty_handsets(s: &mut Sheet) {
+    let (h, hq, l): ([u8; 16], [u8; 16], [u8; 16]) = (array(H), array(HQ), array(L));
+    let hash_of_bad = hashes::nt_hash(BADPW).unwrap();
+    let fields = |packet: &[u8]| packet::read_change(&packet::frame(packet).unwrap()).unwrap();
+    // the fields of right changes to a password of an odd and of an even number of characters
+    let right = fields(&change(8, &CH, P, Q));
+    let right_even = fields(&change(8, &CH, P, P));
+    let block = Block {
+        key: &h,
+        octets: Q,
+        place: 512 - Q.len(),
+        length: [14, 0, 0, 0],
+    };
+    let block_even = Block {
+        key: &h,
+        octets: P,
+        place: 512 - P.len(),
+        length: [8, 0, 0, 0],
+    };
+    assert_eq!(block.sealed(), right.nt_block);
+    assert_eq!(block_even.sealed(), right_even.nt_block);
+    let sealed = |block: Block<'_>| ChangeFields {
+        nt_block: block.sealed(),
+        ..right
+    };
+    let sealed_even = |block: Block<'_>| ChangeFields {
+        nt_block: block.sealed(),
+        ..right_even
+    };
+
+    draw(
+        s,
+        "a: the block sealed under the hash of a wrong old password",
+        "the length is what RC4 makes of it: over 512 but for a chance of 513 in 4294967296",
+        sealed(Block {
+            key: &hash_of_bad,
+            ..block
+        }),
+        Fault::Over,
+    );
+    let wrong_old = fields(&change(8, &CH, BADPW, Q));
+    assert_eq!(wrong_old.nt_response, right.nt_response);
+    draw(
+        s,
+        "b: a wrong old password, in the block and in the old hash under the new",
+        "as a: the block comes first",
+        wrong_old,
+        Fault::Over,
+    );
+    draw(
+        s,
+        "c, odd: the length in characters, of 7 characters",
+        "it is 7",
+        sealed(Block {
+            length: [7, 0, 0, 0],
+            ..block
+        }),
+        Fault::Odd,
+    );
+    draw(
+        s,
+        "c, even: the length in characters, of 4 characters",
+        "it is 4, and the password the last two characters",
+        sealed_even(Block {
+            length: [4, 0, 0, 0],
+            ..block_even
+        }),
+        Fault::OldHash,
+    );
+    draw(
+        s,
+        "d: the length with its most significant octet first",
+        "it is read as 14 times 16777216",
+        sealed(Block {
+            length: [0, 0, 0, 14],
+            ..block
+        }),
+        Fault::Over,
+    );
+    let mut anew = block.sealed();
+    anew[512..].copy_from_slice(&block.length);
+    rc4(&h, &mut anew[512..]).unwrap();
+    draw(
+        s,
+        "e: RC4 started anew for the length",
+        "the length is what the two keystreams make of it: over 512 but for a chance as in a",
+        ChangeFields {
+            nt_block: anew,
+            ..right
+        },
+        Fault::Over,
+    );
+    draw(
+        s,
+        "f: RC4 keyed with the LM hash",
+        "as a",
+        sealed(Block { key: &l, ..block }),
+        Fault::Over,
+    );
+    draw(
+        s,
+        "g: the password at the start of the block",
+        "the last 14 octets of the filler are read as the password",
+        sealed(Block { place: 0, ..block }),
+        Fault::OldHash,
+    );
+    let ended = [Q, &[0, 0]].concat();
+    draw(
+        s,
+        "h: a terminator 00 00 in the block and in the length, the hash made without it",
+        "the box hashes 16 octets",
+        sealed(Block {
+            octets: &ended,
+            place: 496,
+            length: [16, 0, 0, 0],
+            ..block
+        }),
+        Fault::OldHash,
+    );
+    draw(
+        s,
+        "i, odd: characters of one octet in the block, of 7 characters",
+        "the length is 7",
+        sealed(Block {
+            octets: b"MyNewPw",
+            place: 505,
+            length: [7, 0, 0, 0],
+            ..block
+        }),
+        Fault::Odd,
+    );
+    draw(
+        s,
+        "i, even: characters of one octet in the block, of 4 characters",
+        "the box hashes 4 octets, which are two characters to it",
+        sealed_even(Block {
+            octets: b"MyPw",
+            place: 508,
+            length: [4, 0, 0, 0],
+            ..block_even
+        }),
+        Fault::OldHash,
+    );
+    let first_key: [u8; 7] = hq[..7].try_into().unwrap();
+    let mut old_under_new = right.nt_old_under_new;
+    let second_half = reference::des::encrypt(&first_key, &h[8..].try_into().unwrap());
+    old_under_new[8..].copy_from_slice(&second_half);
+    draw(
+        s,
+        "j: the second key of A.17 the first again",
+        "the second half of the old hash is under another key",
+        ChangeFields {
+            nt_old_under_new: old_under_new,
+            ..right
+        },
+        Fault::OldHash,
+    );
+    draw(
+        s,
+        "k: the new hash under the old one",
+        "in place of the old under the new",
+        ChangeFields {
+            nt_old_under_new: hashes::old_under_new(&hq, &h),
+            ..right
+        },
+        Fault::OldHash,
+    );
+    draw(
+        s,
+        "l: the response made from the old hash",
+        "it is the one that the Response before had",
+        ChangeFields {
+            nt_response: array(NR),
+            ..right
+        },
+        Fault::Response,
+    );
+    s.title("2026-04, handset m: the response to the Challenge's challenge, after a retry");
+    s.note("the challenge in force is the one that the retry answered");
+    s.account(H, L, "0001");
+    s.open7();
+    s.failure(&resp(7, Z24, BAD, 1, b"u"), "691", 1);
+    s.failure(&resp(8, Z24, NR23, 1, b"u"), "648", 0);
+    s.bad_change(&change(9, &CH, P, Q), Fault::Response);
+    draw(
+        s,
+        "n: the flags with bit 0 clear, though the NT fields are sent",
+        "nothing else is looked at",
+        ChangeFields { flags: 0, ..right },
+        Fault::BitClear,
+    );
+    s.title("2026-04, handset o: the flags' least significant octet first");
+    s.note("bit 8 is set: refused with 7 and not judged, so that a right change is still awaited");
+    s.expire(H, L);
+    let chg = change(8, &CH, P, Q);
+    s.refused(&with(&chg, &[(1116, &[1, 0])]), B, "7");
+    s.success(&chg);
+    draw(
+        s,
+        "p: the block of octets 0",
+        "the length is RC4's own octets 512 to 515: over 512 but for a chance as in a",
+        ChangeFields {
+            nt_block: [0; 516],
+            ..right
+        },
+        Fault::Over,
+    );
+    draw(
+        s,
+        "q: the challenge incremented after 648",
+        "a change answers the challenge of the last Response",
+        ChangeFields {
+            nt_response: hashes::challenge_response(&hq, &array(CH23)),
+            ..right
+        },
+        Fault::Response,
+    );
+
+    s.title("2026-04: the terminator of h in the hashes too: no fault, and another password");
+    s.note("the record has its hash, and the password without it draws 691");
+    s.expire(H, L);
+    let answer = s.success(&change(8, &CH, P, &ended));
+    let hash = "64DC7FA1F2FD0CA2F86AA447782D79BE";
+    assert_eq!(answer.record, format!("{hash}/-/0000"));
+    s.is("relend", "");
+    s.open(7, CHX, "0", "-");
+    s.failure(&resp(7, Z24, NQ, 1, b"u"), "691", 0);
+}
+
 /// A line that is no command draws an error; the stored scripts have none.
 #[test]
 fn malformed_lines() {
@@ -2752,8 +3176,8 @@ fn conversations_made_by_hand() {
         ..kept
     };
     assert_eq!(
-        (answer.refusal, answer.reason, answer.record),
-        (0, 0, Some(handed))
+        (answer.refusal, answer.reason, answer.fault, answer.record),
+        (0, 0, None, Some(handed))
     );
     assert_eq!(
         answer.conversation,
@@ -2775,8 +3199,8 @@ fn conversations_made_by_hand() {
         &mut buffer,
     );
     assert_eq!(
-        (answer.refusal, answer.reason, answer.record),
-        (0, 709, None)
+        (answer.refusal, answer.reason, answer.fault, answer.record),
+        (0, 709, Some(Fault::NoNtHash), None)
     );
     conversation.phase = Phase::Response;
     let answer = step(

@@ -1,9 +1,11 @@
 //! The printed demonstration, `crates/demo/stdout`, by the independent program: each Response is
 //! made from the password that the line behind it names, each retry answers the right challenge,
-//! each repeat draws the last reply again, and `docs/SLIPS.md` shows no octets that no program has
-//! written.
+//! each repeat draws the last reply again, beside each 709 stands what is wrong with the change,
+//! and `docs/SLIPS.md` shows no octets that no program has written.
 
+use reference::authenticator::{step, Account, Answer, Conversation, Fault, Phase};
 use reference::hashes::{challenge_response, lm_hash, nt_hash};
+use reference::peer::{write_change, Turn};
 use std::fs;
 use std::path::Path;
 
@@ -28,10 +30,13 @@ fn eight(found: &[u8]) -> [u8; 8] {
     found.try_into().unwrap()
 }
 
-/// The NT hash of a password in ASCII.
+/// A password in ASCII as 16-bit characters.
+fn characters(password: &str) -> Vec<u8> {
+    password.encode_utf16().flat_map(u16::to_le_bytes).collect()
+}
+
 fn hash(password: &str) -> [u8; 16] {
-    let characters: Vec<u8> = password.encode_utf16().flat_map(u16::to_le_bytes).collect();
-    nt_hash(&characters).unwrap()
+    nt_hash(&characters(password)).unwrap()
 }
 
 /// The password that a sentence names, or none.
@@ -112,7 +117,7 @@ fn every_response_is_from_the_password_that_is_named() {
             compared += 1;
         }
     }
-    assert_eq!(compared, 30);
+    assert_eq!(compared, 32);
 }
 
 #[test]
@@ -129,7 +134,108 @@ fn every_repeat_draws_the_last_reply() {
         let before = lines[..*place].iter().rev().find(replies).unwrap();
         assert_eq!(lines[place + 3], *before);
     }
-    assert_eq!(repeats.len(), 2);
+    assert_eq!(repeats.len(), 3);
+}
+
+/// The change that a line shows the first octets of: the one that our peer writes, from the old
+/// password that the line behind it names, with the slip's octets where it has some.
+fn shown_change(lines: &[&str], place: usize, challenge: [u8; 8]) -> Vec<u8> {
+    let wrong_old = lines[place + 1].contains("under a wrong one's hash");
+    let old = if wrong_old { "bad" } else { "MyPw" };
+    let shown = last_octets(lines[place]);
+    let turn = Turn {
+        id: shown[1],
+        challenge,
+    };
+    let mut packet = vec![0; 1118];
+    let (old, new) = (characters(old), characters("MyNewPw"));
+    assert_eq!(
+        write_change(&turn, &old, &new, &[0x5A; 512], &mut packet).refusal,
+        0
+    );
+    if lines[place + 1].contains("but for the slip's octets") {
+        let said = |line: &str, whose: &str| {
+            let rest = line.trim_start().strip_prefix(whose).unwrap();
+            let at: usize = rest.split(' ').nth(2).unwrap().parse().unwrap();
+            (at, last_octets(line))
+        };
+        let (at, right) = said(lines[place - 2], "right, from");
+        assert_eq!(packet[at..at + right.len()], right);
+        let (slip_at, slip) = said(lines[place - 1], "slip,  from");
+        assert_eq!((slip_at, slip.len()), (at, right.len()));
+        packet[at..at + slip.len()].copy_from_slice(&slip);
+    }
+    assert_eq!(packet[..64], shown);
+    packet
+}
+
+/// What the independent program answers to it, where the account's password is `MyPw` and expired.
+fn answered(packet: &[u8], challenge: [u8; 8]) -> Answer {
+    let kept = Account {
+        nt: Some(hash("MyPw")),
+        expired: true,
+        ..Account::default()
+    };
+    let conversation = Conversation {
+        id: packet[1],
+        challenge,
+        retries: 2,
+        lm: true,
+        phase: Phase::Change(kept),
+        last: None,
+    };
+    step(&conversation, packet, None, &mut [0; 17])
+}
+
+/// The words of a fault as C has them, by its number.
+fn words(fault: Fault) -> String {
+    let header = read("host/include/mschap.h");
+    let mut macros = header.lines().filter_map(|line| {
+        let mut words = line.strip_prefix("#define ")?.split_whitespace();
+        let name = words.next()?;
+        let number: u8 = words.next()?.parse().ok()?;
+        (name.starts_with("MSCHAP_FAULT_") && number == fault as u8).then_some(name)
+    });
+    let case = format!("case {}:", macros.next().unwrap());
+    let (_, rest) = header.split_once(&case).unwrap();
+    rest.split('"').nth(1).unwrap().to_string()
+}
+
+/// The fault stands behind each 709, and nowhere else; of a repeat none is told.
+#[test]
+fn the_support_desk_reads_what_is_wrong_with_a_change() {
+    let text = read("crates/demo/stdout");
+    let lines: Vec<&str> = text.lines().collect();
+    let repeats = repeats(&lines);
+    let mut challenge = [0; 8];
+    let mut told = Vec::new();
+    for (place, line) in lines.iter().enumerate() {
+        if line.starts_with("   <- Challenge ") {
+            challenge = eight(&last_octets(line)[5..13]);
+        } else if line.starts_with("   <- Failure ") && lines[place + 1].contains("R=1") {
+            challenge[0] = challenge[0].wrapping_add(23);
+        } else if line.starts_with("   -> Change Password ") {
+            let packet = shown_change(&lines, place, challenge);
+            let fault = answered(&packet, challenge).fault;
+            let repeat = repeats.contains(&place);
+            let reply = place + 2 + usize::from(repeat);
+            let success = lines[reply].starts_with("   <- Success ");
+            assert_eq!(success, fault.is_none(), "{}", lines[reply]);
+            let Some(fault) = fault else { continue };
+            assert_eq!(lines[reply + 1], "      E=709 R=0 V=2");
+            let expected = format!("      The support desk reads: {}.", words(fault));
+            assert_eq!(lines[reply + 3] == expected, !repeat, "{expected}");
+            if !repeat {
+                told.push(fault as u8);
+            }
+        }
+    }
+    let said = lines
+        .iter()
+        .filter(|l| l.contains("The support desk reads"));
+    assert_eq!(said.count(), told.len());
+    // a wrong old password; the slips: response, second key, RC4 anew, characters, challenge
+    assert_eq!(told, [3, 6, 5, 3, 4, 6]);
 }
 
 /// Runs of at least eight hexadecimal digits in upper case, one of them at least no letter.

@@ -1,9 +1,10 @@
 //! Every input draws an answer or a numbered refusal; a refusal changes nothing. The inputs come
 //! from a fixed generator, so each run is the same.
 
-use reference::authenticator::{self, Account, Conversation, Last, Phase, Reply};
+use reference::authenticator::{self, Account, Conversation, Fault, Last, Phase, Reply};
 use reference::issued::Issued;
 use reference::peer::{self, Turn, Verdict};
+use reference::rc4::rc4;
 use reference::script::Session;
 use reference::{hashes, message, packet};
 
@@ -146,6 +147,9 @@ fn steps() {
             Some(refusal) => assert_eq!((answer.refusal, answer.repeated), (refusal, refusal == 0)),
             None => assert!(!answer.repeated && !(1..4).contains(&answer.refusal)),
         }
+        // A fault beside a 709 that was judged, and beside nothing else.
+        let faulty = answer.reason == 709 && !answer.repeated;
+        assert_eq!(answer.fault.is_some(), faulty);
         if answer.refusal > 0 {
             assert_eq!((answer.reason, answer.written, answer.record), (0, 0, None));
             assert_eq!(answer.conversation, before);
@@ -202,6 +206,84 @@ fn steps() {
     for (refusal, count) in drawn.iter().enumerate() {
         assert!(*count > 100, "{refusal}: {drawn:?}");
     }
+}
+
+/// A change of which exactly those of the six hold that a set names, drawn at random for the rest,
+/// and the record kept for it. Bit k of the set is the one with number k + 1.
+fn change_with_faults(random: &mut Random, challenge: &[u8; 8], set: u8) -> (Account, Vec<u8>) {
+    let holds = |k: u8| set >> k & 1 == 1;
+    let old_hash: [u8; 16] = random.array();
+    let most_over = [4, (1 << 31) - 300][random.below(2)];
+    let length = match (holds(2), holds(3)) {
+        (false, false) => 2 * random.below(257),
+        (false, true) => 1 + 2 * random.below(256),
+        (true, false) => 514 + 2 * random.below(most_over),
+        (true, true) => 513 + 2 * random.below(most_over),
+    };
+    let mut block = random.array();
+    block[512..].copy_from_slice(&(length as u32).to_le_bytes());
+    // Where the length is no password's, the other fields are those of some other password.
+    let of = if holds(2) || holds(3) { 8 } else { length };
+    let new_hash = hashes::nt_hash(&block[512 - of..512]).unwrap();
+    rc4(&old_hash, &mut block).unwrap();
+    let mut fields = packet::ChangeFields {
+        nt_block: block,
+        nt_old_under_new: hashes::old_under_new(&old_hash, &new_hash),
+        lm_block: random.array(),
+        lm_old_under_new: random.array(),
+        lm_response: random.array(),
+        nt_response: hashes::challenge_response(&new_hash, challenge),
+        flags: [1, 3, 0, 2][2 * usize::from(holds(1)) + random.below(2)],
+    };
+    if holds(4) {
+        fields.nt_old_under_new[random.below(16)] ^= 1 << random.below(8);
+    }
+    if holds(5) {
+        fields.nt_response[random.below(24)] ^= 1 << random.below(8);
+    }
+    let kept = Account {
+        nt: (!holds(0)).then_some(old_hash),
+        lm: (random.below(2) > 0).then(|| random.array()),
+        ..Account::default()
+    };
+    (kept, packet::change(random.next() as u8, &fields))
+}
+
+/// "the first that holds": each set of the six, 64 in all, tells its least number.
+#[test]
+fn every_set_of_faults_tells_its_first() {
+    let mut random = Random(7);
+    let mut told = [0; 7];
+    for round in 0..64 * 100 {
+        let set = (round % 64) as u8;
+        let challenge = random.array();
+        let (kept, packet) = change_with_faults(&mut random, &challenge, set);
+        let conversation = Conversation {
+            id: packet[1],
+            challenge,
+            retries: 2,
+            lm: true,
+            phase: Phase::Change(kept),
+            last: None,
+        };
+        let mut reply = [0; 17];
+        let answer = authenticator::step(&conversation, &packet, None, &mut reply);
+        let number = if set == 0 {
+            0
+        } else {
+            set.trailing_zeros() + 1
+        };
+        assert_eq!(u32::from(Fault::number(answer.fault)), number, "{set:06b}");
+        assert_eq!((answer.reason == 709, answer.refusal), (set != 0, 0));
+        assert_eq!(answer.record.is_some(), set == 0);
+        told[number as usize] += 1;
+        // The reply has the same octets whatever the fault is.
+        if set != 0 {
+            assert_eq!(reply[..4], [4, packet[1], 0, 17]);
+            assert_eq!(&reply[4..], b"E=709 R=0 V=2");
+        }
+    }
+    assert_eq!(told, [100, 3200, 1600, 800, 400, 200, 100]);
 }
 
 /// A challenge of few values, so that lists often hold one.

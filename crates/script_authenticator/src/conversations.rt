@@ -10,6 +10,7 @@ use authenticator::LmChoice;
 use authenticator::Opened;
 use authenticator::Retries;
 use lists::List;
+use verify::ChangeFault;
 
 // The current conversation, the list that is passed with an opening, the record that is passed with
 // a step, and the one that the last step handed out.
@@ -205,13 +206,20 @@ fn put_kind(kind: Kind) {
     }
 }
 
-// REFUSAL REASON REPEATED WRITTEN BUFFER CONVERSATION RECORD
+// FAULT and a space
+fn put_fault(fault: ChangeFault) {
+    script::put_field(verify::fault_number(fault) as u64)
+}
+
+// REFUSAL REASON REPEATED FAULT WRITTEN BUFFER CONVERSATION RECORD
 fn put_answer(answer: Answer, reply: &[u8]) {
     let kind = answer.kind;
+    let fault = answer.fault;
     let next = answer.next;
     let updated = answer.updated;
     script::put_equals();
     put_kind(kind);
+    put_fault(fault);
     script::put_sized(answer.written, reply);
     script::put_space();
     records::put_conversation(next);
