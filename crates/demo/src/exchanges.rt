@@ -1,10 +1,13 @@
-// The six exchanges of RFC 2433, B.1, and a Success that did not arrive.
+// The six exchanges of RFC 2433, B.1, a Success that did not arrive, and a change that is not
+// accepted.
 use accounts::Lookup;
 use authenticator::Retries;
+use loopback::Loopback;
 use loopback::again;
 use loopback::another_challenge;
 use loopback::challenge;
 use loopback::change;
+use loopback::change_of;
 use loopback::new_one;
 use loopback::opening;
 use loopback::response;
@@ -12,6 +15,7 @@ use loopback::rightly;
 use loopback::say;
 use loopback::title;
 use loopback::usual_opening;
+use loopback::wrong;
 use loopback::wrongly;
 
 fn successful() {
@@ -73,6 +77,25 @@ fn missed() {
     again(loopback, peer);
 }
 
+// A change from a wrong old password.
+fn wrongly_changed(loopback: Loopback) -> Loopback {
+    let old = wrong();
+    let made = b"The peer sends the new password sealed under a wrong one's hash.";
+    change_of(loopback, &old, made)
+}
+
+// The change is sent twice: a repeat is not judged, and only the first answer says why.
+fn refused_change() {
+    title(b"A change from a wrong old password");
+    let mut loopback = rightly(usual_opening(), true);
+    let peer = loopback.peer;
+    loopback = wrongly_changed(loopback);
+    say(b"   The peer does not hear it, and sends its change again. The box judges it once, and");
+    say(b"   says once what is wrong:");
+    loopback.peer = peer;
+    wrongly_changed(loopback);
+}
+
 pub(crate) fn all() {
     successful();
     failed();
@@ -81,4 +104,5 @@ pub(crate) fn all() {
     changed();
     retried_and_changed();
     missed();
+    refused_change();
 }

@@ -242,6 +242,17 @@ fn anew() {
     slipped(516, &length);
 }
 
+fn in_characters() {
+    title(b"Slip: the length of the new password counted in characters.");
+    say(b"   'MyNewPw' has 14 octets, and 7 characters. Look at the length: an odd one is no");
+    say(b"   password's, and the support desk knows that it is the handset.");
+    let old = old_hash();
+    let mut block = [0u8; 516];
+    block[512] = 7;
+    rc4::rc4(&old, &mut block);
+    slipped(516, octets::part_of(&block, 512, 4));
+}
+
 fn incremented() {
     title(b"Slip: the challenge incremented after 648.");
     say(b"   A change answers the challenge of the last Response. Look at the change's response.");
@@ -260,5 +271,6 @@ pub(crate) fn all() {
     by_old_hash();
     second_key();
     anew();
+    in_characters();
     incremented();
 }

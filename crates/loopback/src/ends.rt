@@ -153,11 +153,13 @@ pub fn answered(
     lines::from_peer(packet, made);
     let answer = before.step(packet, lookup, &mut reply);
     let kind = answer.kind;
+    let fault = answer.fault;
     lines::repeated(kind);
     let conversation = answer.next;
     let updated = answer.updated;
     let waiting = wrote.peer;
     let peer = read(waiting, octets::part_of(&reply, 0, answer.written));
+    lines::support(fault);
     loopback.conversation = conversation;
     loopback.peer = peer;
     loopback.updated = updated;
@@ -212,19 +214,31 @@ pub fn again(mut loopback: Loopback, peer: Peer) -> Loopback {
 
 // ---- the change
 
-// Writes the change of the right password to the new one.
-pub fn write_change(loopback: Loopback, out: &mut [u8]) -> PacketWritten {
-    let old = right();
+// Writes the change of a password to the new one.
+fn write_change_of(loopback: Loopback, old: &[u8], out: &mut [u8]) -> PacketWritten {
     let new = new_one();
     let filler = [0x5au8; 512];
     let peer = loopback.peer;
-    peer.write_change(&old, &new, &filler, out)
+    peer.write_change(old, &new, &filler, out)
 }
 
-// The box decides by the record that it kept, so that none is passed.
-pub fn change(loopback: Loopback) -> Loopback {
+// The same of the right one.
+pub fn write_change(loopback: Loopback, out: &mut [u8]) -> PacketWritten {
+    let old = right();
+    write_change_of(loopback, &old, out)
+}
+
+// The change of a password, and in words what it was made from. The box decides by the record that
+// it kept, so that none is passed.
+pub fn change_of(loopback: Loopback, old: &[u8], made: &[u8]) -> Loopback {
     let mut out = [0u8; 1118];
-    let wrote = write_change(loopback, &mut out);
-    let made = b"The peer sends the new password sealed under the old one's hash: it knows both.";
+    let wrote = write_change_of(loopback, old, &mut out);
     answered(loopback, wrote, &out, made, accounts::not_found())
+}
+
+// The change of the right one.
+pub fn change(loopback: Loopback) -> Loopback {
+    let old = right();
+    let made = b"The peer sends the new password sealed under the old one's hash: it knows both.";
+    change_of(loopback, &old, made)
 }

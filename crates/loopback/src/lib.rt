@@ -11,6 +11,7 @@ pub use ends::another_challenge;
 pub use ends::answered;
 pub use ends::challenge;
 pub use ends::change;
+pub use ends::change_of;
 pub use ends::new_one;
 pub use ends::old_hash;
 pub use ends::opening;

@@ -4,6 +4,7 @@ use libc::STDOUT_FILENO;
 use message::Call;
 use message::Failed;
 use message::Verdict;
+use verify::ChangeFault;
 
 fn put(text: &[u8]) {
     io::write_all(STDOUT_FILENO, text);
@@ -139,6 +140,33 @@ pub(crate) fn repeated(kind: Kind) {
             b"      A repeat: the box does not judge it, and gives its last reply again.",
         ),
         _ => {}
+    }
+}
+
+fn desk(text: &[u8]) {
+    put(b"      The support desk reads: ");
+    say(text);
+}
+
+// Beside a 709, what the box's own answer says of the change. No packet has it, and a repeat tells
+// nothing.
+pub(crate) fn support(fault: ChangeFault) {
+    match fault {
+        ChangeFault::NoFault => {}
+        ChangeFault::NoNtHash => desk(b"the account has no NT hash."),
+        ChangeFault::NoNtResponse => desk(
+            b"the packet does not ask for its NT response (flag bit 0 is clear).",
+        ),
+        ChangeFault::LengthOver => desk(
+            b"the length in the password block is over 512 (mostly a wrong old password).",
+        ),
+        ChangeFault::LengthOdd => desk(b"the length in the password block is odd."),
+        ChangeFault::OldHashWrong => desk(
+            b"the password block opened, but the old hash under the new one is not the one sent.",
+        ),
+        ChangeFault::ResponseWrong => desk(
+            b"the response to the challenge is not the new password's.",
+        ),
     }
 }
 
