@@ -102,6 +102,7 @@ static size_t step(struct argument *r)
 }
 static size_t answer_reason(struct argument *r) { return mschap_answer_reason(BUFFER(0)); }
 static size_t answer_repeated(struct argument *r) { return mschap_answer_repeated(BUFFER(0)); }
+static size_t answer_fault(struct argument *r) { return mschap_answer_fault(BUFFER(0)); }
 static size_t answer_record(struct argument *r)
 {
     return mschap_answer_record(BUFFER(0), BUFFER(1));
@@ -156,9 +157,11 @@ static const uint8_t one_used[37] = {'L', 1, 0, 1}; /* by the challenge of bytes
 static const uint8_t opened[59] = {'C', 2, 2, 1, 7, 2}; /* it awaits a Response, identifier 7 */
 /* it has ended, and answered a Response, identifier 7, with a Failure, R=0 */
 static const uint8_t ended[59] = {'C', 2, 0, 1, 7, [52] = 1, 2, 7, 1, 691 >> 8, 691 & 255};
-static const uint8_t failed[45] = {'A', 2, 0, 691 >> 8, 691 & 255};
-static const uint8_t repeated[45] = {'A', 2, 1, 691 >> 8, 691 & 255};
-static const uint8_t changed[45] = {'A', 2, 0, 0, 0, 1};
+static const uint8_t failed[46] = {'A', 3, 0, 691 >> 8, 691 & 255};
+static const uint8_t repeated[46] = {'A', 3, 1, 691 >> 8, 691 & 255};
+static const uint8_t changed[46] = {'A', 3, 0, 0, 0, 0, 1};
+/* a change with another old hash under its new one */
+static const uint8_t spoiled[46] = {'A', 3, 0, 709 >> 8, 709 & 255, 5};
 static const uint8_t peer[22] = {'P', 1, 1, 7, [12] = 8}; /* it sent a packet, identifier 7 */
 static const uint8_t response[63] = {2, 7, 0, 62, 49, [53] = 1, 'D', 'O', 'M', '\\', 'U', 's', 'e',
                                      'r'};
@@ -217,20 +220,22 @@ static const struct function {
      {{zeros, 8, FIXED}, {none_used, 28, FIXED}, {NULL, 58, FIXED}, {NULL, 17, FIXED}}},
     {"step", step, 0, BAD,
      {{opened, 58, FIXED}, {response, 62, 3, 3, 0}, {nobody, 41, FIXED}, {NULL, 17, 2, 2, 0},
-     {NULL, 44, FIXED}}},
+     {NULL, 45, FIXED}}},
     {"step, a repeat", step, 0, BAD,
      {{ended, 58, FIXED}, {response, 62, 3, 3, 0}, {nobody, 41, FIXED}, {NULL, 17, 2, 2, 0},
-     {NULL, 44, FIXED}}},
+     {NULL, 45, FIXED}}},
     {"step, ended", step, 1, BAD,
      {{ended, 58, FIXED}, {challenge, 13, 3, 3, 1}, {nobody, 41, FIXED}, {NULL, 17, 2, 2, 1},
-     {NULL, 44, FIXED}}},
-    {"answer_reason", answer_reason, 691, NOT, {{failed, 44, TOLD}}},
-    {"answer_repeated", answer_repeated, 1, NOT, {{repeated, 44, TOLD}}},
-    {"answer_repeated, judged", answer_repeated, 0, NOT, {{failed, 44, TOLD}}},
-    {"answer_record", answer_record, 0, BAD, {{changed, 44, FIXED}, {NULL, 41, FIXED}}},
-    {"answer_record, none", answer_record, 102, BAD, {{failed, 44, FIXED}, {NULL, 41, FIXED}}},
+     {NULL, 45, FIXED}}},
+    {"answer_reason", answer_reason, 691, NOT, {{failed, 45, TOLD}}},
+    {"answer_repeated", answer_repeated, 1, NOT, {{repeated, 45, TOLD}}},
+    {"answer_repeated, judged", answer_repeated, 0, NOT, {{failed, 45, TOLD}}},
+    {"answer_fault", answer_fault, MSCHAP_FAULT_OLD_HASH_WRONG, NOT, {{spoiled, 45, TOLD}}},
+    {"answer_fault, none", answer_fault, 0, NOT, {{changed, 45, TOLD}}},
+    {"answer_record", answer_record, 0, BAD, {{changed, 45, FIXED}, {NULL, 41, FIXED}}},
+    {"answer_record, none", answer_record, 102, BAD, {{failed, 45, FIXED}, {NULL, 41, FIXED}}},
     {"answer_record, a repeat", answer_record, 102, BAD,
-     {{repeated, 44, FIXED}, {NULL, 41, FIXED}}},
+     {{repeated, 45, FIXED}, {NULL, 41, FIXED}}},
     {"conversation_awaits", awaits, 2, NOT, {{opened, 58, TOLD}}},
     {"conversation_awaits, ended", awaits, 0, NOT, {{ended, 58, TOLD}}},
     {"conversation_identifier", identifier, 7, NOT, {{opened, 58, TOLD}}},

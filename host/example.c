@@ -1,9 +1,11 @@
 /*
  * A conversation over libmschap.a in one program: an authenticator opens it, a peer answers with a
  * mistyped password and then with the right one, which has expired, and changes it. Twice it misses
- * the reply and sends the same packet again. At the end a second authenticator tries to open with
- * the same challenge, and is refused. The challenge is fixed, so that it prints the same each time;
- * examples/ has the two ends as programs of their own, which draw it.
+ * the reply and sends the same packet again. In a second conversation the new password has expired
+ * too, and the change is made with a mistyped old one: the peer is told 709 alone, and the
+ * authenticator what is wrong. At the end another authenticator tries to open with the first
+ * challenge again, and is refused. The challenges are fixed, so that it prints the same each time;
+ * examples/ has the two ends as programs of their own, which draw them.
  *
  *     cc host/example.c $(pkg-config --cflags --libs mschap)
  */
@@ -39,10 +41,11 @@ static mschap_answer answer;
 static mschap_peer peer;
 static uint8_t packet[MSCHAP_CHANGE_PACKET], reply[MSCHAP_REPLY_SIZE];
 
-/* The authenticator answers the packet, and the peer reads the reply. Returns what it calls for. */
+/* The authenticator answers the packet, and the peer reads the reply. Returns what it calls for.
+   What is wrong with a change is for the authenticator's log: the reply does not tell it. */
 static uint32_t step(const char *what)
 {
-    uint32_t call;
+    uint32_t call, fault;
     uint64_t reason;
     size_t size = mschap_packet_length(packet, sizeof packet);
     if (size > MSCHAP_RESPONSE_PACKET)
@@ -58,6 +61,10 @@ static uint32_t step(const char *what)
            (unsigned)mschap_conversation_awaits(&talk, sizeof talk),
            (unsigned)mschap_conversation_retries(&talk, sizeof talk),
            mschap_answer_repeated(&answer, sizeof answer) ? ", again" : "");
+    fault = mschap_answer_fault(&answer, sizeof answer);
+    if (fault != MSCHAP_FAULT_NONE)
+        printf("%-28s%u, %s\n", "the authenticator: fault", (unsigned)fault,
+               mschap_fault_text(fault));
     check("read_reply", mschap_read_reply(&peer, sizeof peer, reply, size, &call, &reason));
     printf("%-28s%u, calls for %u\n", "the peer: reason", (unsigned)reason, (unsigned)call);
     return call;
@@ -68,6 +75,8 @@ int main(void)
     /* an example only: a real one is unpredictable, from a CSPRNG, and so is a filler */
     static const uint8_t challenge[MSCHAP_CHALLENGE_SIZE] = {0x10, 0x2d, 0xb5, 0xdf,
                                                              0x08, 0x5d, 0x30, 0x41};
+    static const uint8_t another[MSCHAP_CHALLENGE_SIZE] = {0x21, 0x02, 0x99, 0x01,
+                                                           0x44, 0x6a, 0xf3, 0x70};
     static const uint8_t filler[MSCHAP_FILLER_SIZE];
     static const uint8_t stray[] = {6, 200, 0, 4}; /* a change with another identifier */
     static const uint8_t name[] = {'D', 'O', 'M', '\\', 'U', 's', 'e', 'r'};
@@ -132,7 +141,30 @@ int main(void)
     printf("%-28s%u\n", "its record",
            (unsigned)mschap_answer_record(&answer, sizeof answer, &record, sizeof record));
 
-    /* a second authenticator, which shares the same list */
+    /* the new password has expired too, and its change is made with a mistyped old one */
+    check("make_record", mschap_make_record(flags | MSCHAP_EXPIRED, &hash, sizeof hash, NULL, 0,
+                                            &record, sizeof record));
+    check("open", mschap_open(8, MSCHAP_TERMS | MSCHAP_LM_REFUSED, another, sizeof another,
+                              list, sizeof list, &talk, sizeof talk, reply, sizeof reply));
+    size = mschap_packet_length(reply, sizeof reply);
+    show("Challenge", reply, size);
+    check("read_challenge", mschap_read_challenge(reply, size, &peer, sizeof peer));
+    check("write_response",
+          mschap_write_response(&peer, sizeof peer, &renewed.password, sizeof renewed.password,
+                                name, sizeof name, packet, sizeof packet));
+    if (step("Response, expired") != MSCHAP_CALL_CHANGE)
+        return 1;
+    check("write_change",
+          mschap_write_change(&peer, sizeof peer, &mistyped, sizeof mistyped,
+                              &renewed, sizeof renewed, filler, sizeof filler,
+                              packet, sizeof packet));
+    if (step("change, mistyped") != MSCHAP_CALL_END)
+        return 1;
+    /* of a repeat nothing is told: it is not judged */
+    if (step("the same change again") != MSCHAP_CALL_END)
+        return 1;
+
+    /* another authenticator, which shares the same list */
     printf("%-28s%u\n", "the same challenge again",
            (unsigned)mschap_open(9, MSCHAP_TERMS, challenge, sizeof challenge, list, sizeof list,
                                  &talk, sizeof talk, reply, sizeof reply));

@@ -399,6 +399,7 @@ static void try_openings(void)
 CALL(mschap_step, BUFFER(0), BUFFER(1), BUFFER(2), BUFFER(3), BUFFER(4))
 CALL(mschap_answer_reason, BUFFER(0))
 CALL(mschap_answer_repeated, BUFFER(0))
+CALL(mschap_answer_fault, BUFFER(0))
 CALL(mschap_answer_record, BUFFER(0), BUFFER(1))
 CALL(mschap_conversation_awaits, BUFFER(0))
 CALL(mschap_conversation_identifier, BUFFER(0))
@@ -573,6 +574,10 @@ static void try_repeated(void)
             }
 }
 
+/* In an answer, behind its kind and version: whether it is a repeat, the reason in two bytes, the
+   fault, and the record. */
+#define FAULT 5
+
 /* What tells something of a conversation or an answer, in the place of the first buffer. */
 static void try_told(const struct buffer *value, int valid)
 {
@@ -581,6 +586,7 @@ static void try_told(const struct buffer *value, int valid)
     if (value->size == MSCHAP_ANSWER_SIZE) {
         TRY(mschap_answer_reason, valid ? ANY : MSCHAP_INVALID);
         TRY(mschap_answer_repeated, valid ? ANY : MSCHAP_INVALID);
+        TRY(mschap_answer_fault, valid ? value->octets[FAULT] : MSCHAP_INVALID);
         TRY(mschap_answer_record, valid ? ANY : MSCHAP_BAD_ARGUMENT);
         return;
     }
@@ -589,8 +595,9 @@ static void try_told(const struct buffer *value, int valid)
     TRY(mschap_conversation_retries, valid ? ANY : MSCHAP_INVALID);
 }
 
-/* The answers of a judged Response and of an accepted change, and both conversations; and these
-   with a byte that no value has: the version of another layout. */
+/* The answers of a judged Response and of an accepted change, with each fault, and both
+   conversations; and these with a byte that no value has: another fault, the version of another
+   layout. */
 static void try_values(void)
 {
     static struct buffer values[4];
@@ -606,6 +613,12 @@ static void try_values(void)
     }
     for (size_t v = 0; v < LENGTH(values); v++) {
         try_told(&values[v], 1);
+        for (uint8_t fault = 0; fault < 8 && values[v].octets[0] == 'A'; fault++) {
+            values[v].octets[FAULT] = fault;
+            try_told(&values[v], fault <= MSCHAP_FAULT_RESPONSE_WRONG);
+        }
+        if (values[v].octets[0] == 'A')
+            values[v].octets[FAULT] = MSCHAP_FAULT_NONE;
         values[v].octets[1] ^= 1;
         try_told(&values[v], 0);
         values[v].octets[0] = 0;

@@ -1,8 +1,8 @@
 /*
  * Calls mschap_step once for each way in which a Response is not valid, at the first, the second
- * and the last try, and prints a line for each call: R of the reply, and the way. The time is not
- * to tell which way it was, so tests/timing.sh counts the instructions of each call. Exit status 1
- * where a call does not draw its reply.
+ * and the last try, and for each fault of a change, and prints a line for each call: R of the
+ * reply or its reason, and the way. The time is not to tell which way it was, so tests/timing.sh
+ * counts the instructions of each call. Exit status 1 where a call does not draw its reply.
  */
 #include <mschap.h>
 #include <stdio.h>
@@ -27,12 +27,19 @@
 #define IDENTIFIER 4
 #define RETRIES 5
 #define CHALLENGE 6
+#define KEPT 14 /* the account, as a record has it from NT on */
+
+/* and a change: the last four octets of the block, the old hash under the new one, and so on */
+#define LENGTH 516
+#define OLD_UNDER_NEW 520
+#define CHANGE_NT_RESPONSE 1092
+#define CHANGE_FLAGS 1116
 
 /* Every call works on these same bytes, so that no call differs from another by alignment. */
 static mschap_conversation talk;
 static mschap_record found;
 static uint8_t *const conversation = talk.bytes, *const record = found.bytes;
-static uint8_t packet[PACKET];
+static uint8_t packet[PACKET], right_change[MSCHAP_CHANGE_PACKET], change[MSCHAP_CHANGE_PACKET];
 static uint8_t reply[MSCHAP_REPLY_SIZE];
 static mschap_answer answer;
 
@@ -49,6 +56,8 @@ static int failed;
 static const uint8_t success[] = {3, 7, 0, 4};
 static const uint8_t again[] = "\4\7\0\21E=691 R=1 V=2";
 static const uint8_t no_more[] = "\4\7\0\21E=691 R=0 V=2";
+static const uint8_t expired[] = "\4\7\0\21E=648 R=0 V=2";
+static const uint8_t not_changed[] = "\4\10\0\21E=709 R=0 V=2";
 
 /* The record of no account, of bytes 0 behind its kind and version. */
 static void nobody(void)
@@ -191,6 +200,81 @@ static void all_ways(void)
     invalid("LM off, flag 1 and no NT hash");
 }
 
+/* A conversation that has kept the user's record, and the right change. */
+static void awaiting_change(void)
+{
+    rightful();
+    conversation[AWAITED] = MSCHAP_AWAITS_CHANGE;
+    conversation[IDENTIFIER] = 8;
+    memcpy(conversation + KEPT, record + NT, ACCOUNT_SIZE);
+    nobody();
+    memcpy(change, right_change, sizeof change);
+}
+
+static void not_accepted(uint32_t fault)
+{
+    uint32_t number = mschap_step(&talk, sizeof talk, change, sizeof change,
+                                  &found, sizeof found, reply, sizeof reply,
+                                  &answer, sizeof answer);
+    if (number != MSCHAP_OK || memcmp(reply, not_changed, MSCHAP_REPLY_SIZE) != 0
+        || mschap_answer_fault(&answer, sizeof answer) != fault) {
+        fprintf(stderr, "timing: another answer than 709 and fault %u\n", (unsigned)fault);
+        failed = 1;
+    }
+    printf("709 %s\n", mschap_fault_text(fault));
+    awaiting_change();
+}
+
+/* The new password is empty, since the time of its hash tells its length: where the block holds
+   none, that of an empty one is made in its place. */
+static void all_faults(void)
+{
+    awaiting_change();
+    conversation[KEPT] = 0;
+    not_accepted(MSCHAP_FAULT_NO_NT_HASH);
+    memset(conversation + KEPT, 0, ACCOUNT_SIZE);
+    not_accepted(MSCHAP_FAULT_NO_NT_HASH);
+    change[CHANGE_FLAGS + 1] = 0;
+    not_accepted(MSCHAP_FAULT_NO_NT_RESPONSE);
+    change[LENGTH] ^= 2; /* 514 */
+    change[LENGTH + 1] ^= 2;
+    not_accepted(MSCHAP_FAULT_LENGTH_OVER);
+    change[LENGTH + 3] ^= 0x80;
+    not_accepted(MSCHAP_FAULT_LENGTH_OVER);
+    change[LENGTH] ^= 7;
+    not_accepted(MSCHAP_FAULT_LENGTH_ODD);
+    change[OLD_UNDER_NEW] ^= 1;
+    not_accepted(MSCHAP_FAULT_OLD_HASH_WRONG);
+    change[OLD_UNDER_NEW + 15] ^= 0x80;
+    change[CHANGE_NT_RESPONSE] ^= 1;
+    not_accepted(MSCHAP_FAULT_OLD_HASH_WRONG);
+    change[CHANGE_NT_RESPONSE] ^= 1;
+    not_accepted(MSCHAP_FAULT_RESPONSE_WRONG);
+    change[CHANGE_NT_RESPONSE + 23] ^= 0x80;
+    not_accepted(MSCHAP_FAULT_RESPONSE_WRONG);
+}
+
+/* The change from the password to an empty one, as our peer writes it. */
+static void write_right_change(const mschap_password *password)
+{
+    static const uint8_t filler[MSCHAP_FILLER_SIZE];
+    uint8_t asked[13] = {1, 7, 0, 13, MSCHAP_CHALLENGE_SIZE};
+    mschap_peer peer;
+    mschap_new_password empty;
+    uint32_t call;
+    uint64_t reason;
+    memcpy(asked + 5, challenge, sizeof challenge);
+    failed |= mschap_make_password(NULL, 0, &empty.password, sizeof empty.password) != MSCHAP_OK;
+    failed |= mschap_read_challenge(asked, sizeof asked, &peer, sizeof peer) != MSCHAP_OK;
+    failed |= mschap_write_response(&peer, sizeof peer, password, sizeof *password, asked, 1,
+                                    packet, sizeof packet) != MSCHAP_OK;
+    failed |= mschap_read_reply(&peer, sizeof peer, expired, MSCHAP_REPLY_SIZE, &call, &reason)
+              != MSCHAP_OK;
+    failed |= mschap_write_change(&peer, sizeof peer, password, sizeof *password,
+                                  &empty, sizeof empty, filler, sizeof filler,
+                                  right_change, sizeof right_change) != MSCHAP_OK;
+}
+
 int main(void)
 {
     static const uint8_t text[] = {'M', 'y', 'P', 'w'};
@@ -209,5 +293,7 @@ int main(void)
         retries = tries[i];
         all_ways();
     }
+    write_right_change(&password);
+    all_faults();
     return failed;
 }

@@ -37,9 +37,14 @@ for program in authenticator peer; do
 done
 mkfifo "$scratch/to" "$scratch/from"
 
+# what the log has of a mistyped old password
+over='the length in the password block is over 512 (mostly a wrong old password)'
+
 # One conversation: how many places are used then, the exit status of both, the reasons that the
 # authenticator gives and the words of the peer, and the peer's arguments. Where its first one is
-# --lossy, each reply is lost once, and the authenticator gives it again.
+# --lossy, each reply is lost once, and the authenticator gives it again. A 709 is that of a
+# mistyped old password: the authenticator notes the fault when it judges and not again, and the
+# peer hears nothing of it.
 converse() {
     used=$1 status=$2 reasons=$3 words=$4
     shift 4
@@ -61,7 +66,8 @@ converse() {
     else
         given=$(printf '%s\n' $reasons | sed 's/^/reason: /')
     fi
-    { echo "places used: $used" && echo "$given"; } > "$scratch/expected"
+    { echo "places used: $used" && echo "$given"; } \
+        | sed "s/^reason: 709\$/&\nfault: 3, $over/" > "$scratch/expected"
     diff "$scratch/expected" "$scratch/authenticator.log" || fail 'the authenticator says otherwise'
     { printf '%s\n' $reasons | sed 's/^/reason: /' && echo "$words"; } > "$scratch/expected"
     grep -v -e 'the password has expired, and is changed' -e '^no reply: sent again$' \
@@ -75,19 +81,21 @@ grep -q 'is changed' "$scratch/peer.log" || fail 'the password was not changed'
 converse 6 0 0 in 'Jürgen' unused 'Blaugrün 🔑'
 converse 9 1 '691 691 691' 'not let in' 'DOM\Jürgen' unused 'Grün 1' 'Grün 1' 'Grün 1'
 converse 12 1 '691 691 691' 'not let in' 'nobody' unused 'Grün 1' 'Grün 1' 'Grün 1'
-# The phone that missed each reply, Success too; then one whose password has expired.
+# The phone that missed each reply, Success too; then one whose password has expired, first with the
+# old password mistyped in the change, which leaves the account as it was.
 converse 15 0 '691 0' in --lossy 'Jürgen' unused 'Grün 1' 'Blaugrün 🔑'
 "$scratch/authenticator" "$scratch/accounts" 'Jürgen' 'Grün 1'
-converse 18 0 '691 648 0' in --lossy 'Jürgen' 'Blaugrün 🔑' 'grün 1' 'Grün 1'
+converse 18 1 '648 709' 'not let in' --lossy --old 'grün 1' 'Jürgen' 'Blaugrün 🔑' 'Grün 1'
+converse 21 0 '691 648 0' in --lossy 'Jürgen' 'Blaugrün 🔑' 'grün 1' 'Grün 1'
 [ "$(grep -c '^no reply: sent again$' "$scratch/peer.log")" = 3 ] || fail 'no packet was sent again'
-converse 21 0 0 in 'Jürgen' unused 'Blaugrün 🔑'
+converse 24 0 0 in 'Jürgen' unused 'Blaugrün 🔑'
 
 # The list is stored before the Challenge is sent: where nothing can be sent, it has grown.
 status=0
 "$scratch/authenticator" "$scratch/accounts" < /dev/null > /dev/full 2> "$scratch/full.log" \
     || status=$?
 [ $status -eq 2 ] || fail "exit status $status where nothing can be sent"
-converse 27 0 0 in 'Jürgen' unused 'Blaugrün 🔑'
+converse 30 0 0 in 'Jürgen' unused 'Blaugrün 🔑'
 
 [ ! -e "$scratch/accounts/new" ] || fail 'a temporary file is left'
 stored=$(find "$scratch/accounts" -type f | wc -l)
@@ -136,14 +144,19 @@ for line in \
     'authenticator  has judged nothing: this is its last reply again' \
     'change of the password, identifier [0-9]*, 1118 bytes' \
     'authenticator  stores the account with its new password' \
+    'Failure, identifier [0-9]*, 17 bytes: "E=709 R=0 V=2"' \
+    "authenticator  notes for its log alone: $over\$" \
     'Failure, identifier [0-9]*, 17 bytes: "E=691 R=0 V=2"' \
-    'places used in the list of issued challenges: 9'; do
+    'places used in the list of issued challenges: 12'; do
     grep -q "$line" "$scratch/bench.log" || fail "$script does not print: $line"
 done
 [ "$(grep -c '^peer *is in$' "$scratch/bench.log")" = 2 ] || fail "$script: not let in twice"
-[ "$(grep -c 'its last reply again$' "$scratch/bench.log")" = 3 ] \
+[ "$(grep -c 'its last reply again$' "$scratch/bench.log")" = 4 ] \
     || fail "$script: not each last reply is given again"
 [ "$(grep -c 'stores the account' "$scratch/bench.log")" = 1 ] || fail "$script stores it twice"
+[ "$(grep -c 'notes for its log' "$scratch/bench.log")" = 1 ] || fail "$script notes it twice"
+[ "$(grep 'E=709' "$scratch/bench.log" | uniq -d | wc -l)" -eq 1 ] \
+    || fail "$script: the failed change again draws another reply"
 cp "$script" "$folder/lib/libmschap.so" "$scratch"
 (cd / && python3 "$scratch/bench.py" > /dev/null) || fail "$script: no library found beside it"
 echo "examples: $script plays both ends"

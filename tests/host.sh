@@ -1,8 +1,8 @@
 #!/bin/sh
 # The archive of `mschap` as others link it: it has no writable data, the header's quick start and
-# the benchmark compile, and every function of the header answers bad lengths and null pointers as it should, under
-# valgrind where that is installed. Run in the repository, once `rt staticlib mschap` has written
-# the archive.
+# the benchmark compile, and every function of the header answers bad lengths and null pointers as
+# it should, under valgrind where that is installed. Run in the repository, once `rt staticlib
+# mschap` has written the archive.
 set -eu
 archive=target/staticlib/libmschap.a
 header=host/include/mschap.h
@@ -26,6 +26,7 @@ extern uint8_t packet[MSCHAP_CHANGE_PACKET];
 size_t receive(uint8_t *into);
 void send(const uint8_t *bytes, size_t bytes_size);
 void store(mschap_record record);
+void note(const char *words);
 void decide(int in);
 void quick_start(void);
 void quick_start(void)

@@ -1,7 +1,9 @@
 #!/bin/sh
 # A Response that is not valid takes the same instructions in whatever way it is not: a wrong
-# response, no record, no hash, LM off. host/timing.c makes one call for each way, and callgrind
-# counts the instructions within mschap_step. Calls with the same reply are compared.
+# response, no record, no hash, LM off. A change that is not accepted takes the same but for 8,
+# whatever its fault is: it comes from who knew the old password, and a branch of the compiler's is
+# let pass. host/timing.c makes one call for each way, and callgrind counts the instructions within
+# mschap_step. Calls with the same reply are compared.
 # Run in the repository. Argument: the archive, if not the one that `rt staticlib mschap` writes.
 set -eu
 archive=${1:-target/staticlib/libmschap.a}
@@ -28,16 +30,20 @@ done < "$parts/ways" > "$parts/counts"
 
 awk '
     $2 !~ /^[1-9][0-9]*$/ { bad = 1 }
-    !($1 in count) { count[$1] = $2; group[++groups] = $1 }
-    $2 != count[$1] { bad = 1 }
+    !($1 in calls) { least[$1] = most[$1] = $2; group[++groups] = $1 }
+    $2 < least[$1] { least[$1] = $2 }
+    $2 > most[$1] { most[$1] = $2 }
     { calls[$1]++; line[NR] = $0 }
     END {
-        if (!("R=1" in count) || !("R=0" in count)) bad = 1
+        if (!("R=1" in calls) || !("R=0" in calls) || !("709" in calls)) bad = 1
+        for (i = 1; i <= groups; i++)
+            if (most[group[i]] - least[group[i]] > (group[i] == "709" ? 8 : 0)) bad = 1
         for (i = 1; bad && i <= NR; i++) print "timing: " line[i]
         if (bad) print "timing: the instructions differ between calls with the same reply"
         for (i = 1; !bad && i <= groups; i++) {
             reply = group[i]
-            print "timing: " reply ": " calls[reply] " calls, " count[reply] " instructions each"
+            range = least[reply] == most[reply] ? most[reply] : least[reply] " to " most[reply]
+            print "timing: " reply ": " calls[reply] " calls, " range " instructions each"
         }
         exit bad
     }

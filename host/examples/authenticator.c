@@ -115,7 +115,7 @@ int main(int argc, char **argv)
     mschap_record record;
     mschap_answer answer;
     uint8_t packet[MSCHAP_CHANGE_PACKET], reply[MSCHAP_REPLY_SIZE];
-    uint32_t number;
+    uint32_t number, fault;
     size_t size;
 
     if ((argc != 2 && argc != 4) || chdir(argv[1]) != 0)
@@ -145,6 +145,10 @@ int main(int argc, char **argv)
         send_packet(reply, sizeof reply);
         fprintf(stderr, "reason: %u%s\n", (unsigned)mschap_answer_reason(&answer, sizeof answer),
                 mschap_answer_repeated(&answer, sizeof answer) ? ", again" : "");
+        /* What is wrong with a change is for the log alone: the peer is told no more than 709. */
+        fault = mschap_answer_fault(&answer, sizeof answer);
+        if (fault != MSCHAP_FAULT_NONE)
+            fprintf(stderr, "fault: %u, %s\n", (unsigned)fault, mschap_fault_text(fault));
     }
     /* A real program lets the peer in as soon as nothing is awaited. This one tells it in the end:
        after the last judgement there are only repeats of it, so the reason is still the same. */

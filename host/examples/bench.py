@@ -4,8 +4,9 @@
     bench.py [LIBRARY]
 
 An authenticator challenges, and a peer answers with a mistyped password, then with the right one,
-which has expired, and changes it; then both talk again with the new password. The peer misses the
-last reply of each conversation, and gets it again. Each packet is printed with what it means.
+which has expired. In the change its owner mistypes the old password, so that all is done again;
+then both talk with the new password. The peer misses the last reply of each conversation, and gets
+it again. Each packet is printed with what it means.
 LIBRARY is libmschap.so; without it, the one beside this script or in ../lib. Nothing but the
 standard library of Python 3 is needed.
 
@@ -20,6 +21,7 @@ import sys
 # From mschap.h; the sizes are bytes.
 MSCHAP_OK = 0
 MSCHAP_SUCCESS = 0
+MSCHAP_FAULT_NONE = 0
 MSCHAP_AWAITS_NOTHING = 0
 MSCHAP_CALL_NONE = 0
 MSCHAP_CALL_RESPONSE = 1
@@ -34,7 +36,7 @@ MSCHAP_CHALLENGE_SIZE = 8
 MSCHAP_FILLER_SIZE = 512
 MSCHAP_RECORD_SIZE = 41
 MSCHAP_CONVERSATION_SIZE = 58
-MSCHAP_ANSWER_SIZE = 44
+MSCHAP_ANSWER_SIZE = 45
 MSCHAP_PEER_SIZE = 21
 MSCHAP_PASSWORD_SIZE = 516
 MSCHAP_REPLY_SIZE = 17
@@ -51,6 +53,17 @@ REASONS = {
     649: 'no permission to dial in',
     691: 'wrong name or password',
     709: 'the change of the password is not accepted',
+}
+
+# What is wrong with such a change: the words of mschap_fault_text, which is in the header alone.
+FAULTS = {
+    0: 'no fault',
+    1: 'the account has no NT hash',
+    2: 'the packet does not ask for its NT response (flag bit 0 is clear)',
+    3: 'the length in the password block is over 512 (mostly a wrong old password)',
+    4: 'the length in the password block is odd',
+    5: 'the password block opened, but the old hash under the new one is not the one sent',
+    6: "the response to the challenge is not the new password's",
 }
 
 
@@ -160,6 +173,9 @@ class Authenticator:
             print(f'authenticator  refuses the packet with {number}: no reply, nothing has changed')
             return None
         show('authenticator', packet_in(reply))
+        fault = call('answer_fault', answer)  # none in a repeat
+        if fault != MSCHAP_FAULT_NONE:
+            print(f'authenticator  notes for its log alone: {FAULTS.get(fault, "unknown fault")}')
         if call('answer_repeated', answer):
             print('authenticator  has judged nothing: this is its last reply again')
             return packet_in(reply)
@@ -193,21 +209,21 @@ class Peer:
         return calls_for.value
 
 
-def converse(authenticator, tries, new):
-    """A peer answers with each password in turn, and changes one that has expired."""
+def converse(authenticator, tries, old, new):
+    """A peer answers with each password in turn. Where it has expired, it changes it from old to
+    new."""
     peer = Peer(authenticator.open())
     sent = []
     for text in tries:
         print(f'peer           answers with the password "{text}"')
-        old = password_of(text)
-        sent.append(peer.respond(old))
+        sent.append(peer.respond(password_of(text)))
         calls_for = peer.read(authenticator.judge(sent[-1]))
         if calls_for != MSCHAP_CALL_RESPONSE:
             break
     if calls_for == MSCHAP_CALL_CHANGE:
         authenticator.judge(sent[0])  # not the last one: refused
-        print(f'peer           changes the password to "{new}"')
-        sent.append(peer.change(old, password_of(new)))
+        print(f'peer           changes the password from "{old}" to "{new}"')
+        sent.append(peer.change(password_of(old), password_of(new)))
         calls_for = peer.read(authenticator.judge(sent[-1]))
     print('peer           has missed the reply, and sends the same packet again')
     calls_for = peer.read(authenticator.judge(sent[-1]))
@@ -219,15 +235,17 @@ def main():
     version = call('version')
     print(f'libmschap {version >> 16}.{version >> 8 & 255}.{version & 255}')
     authenticator = Authenticator(password_of('Grün 1'))
-    print('\n-- a mistyped password, then the right one, which has expired')
-    first = converse(authenticator, ['grün 1', 'Grün 1'], 'Blau 🔑')
+    print('\n-- a mistyped password, then the right one, which has expired; mistyped in the change')
+    typo = converse(authenticator, ['grün 1', 'Grün 1'], 'grün 1', 'Blau 🔑')
+    print('\n-- all of it again, with the right one in the change')
+    first = converse(authenticator, ['grün 1', 'Grün 1'], 'Grün 1', 'Blau 🔑')
     print('\n-- again, with the new password')
-    second = converse(authenticator, ['Blau 🔑'], None)
+    second = converse(authenticator, ['Blau 🔑'], None, None)
     print('\n-- and with the old one, until there is no retry left')
-    third = converse(authenticator, ['Grün 1'] * (RETRIES + 1), None)
+    third = converse(authenticator, ['Grün 1'] * (RETRIES + 1), None, None)
     used = call('list_used', authenticator.issued)
     print(f'\nplaces used in the list of issued challenges: {used}')
-    sys.exit(0 if first and second and not third else 1)
+    sys.exit(0 if not typo and first and second and not third else 1)
 
 
 LIBRARY = load()

@@ -6,6 +6,8 @@
  *                                  where it has expired, changes it to NEW
  *     peer --lossy NAME NEW ..     the same on a bad line, which loses the first reply to each
  *                                  packet: the packet is sent again
+ *     peer --old OLD NAME NEW ..   the same by a user who types OLD for the old password in the
+ *                                  change; behind --lossy, if both are given
  *
  * A real program does not take a password from the command line, where others can see it.
  */
@@ -76,6 +78,7 @@ int main(int argc, char **argv)
     uint8_t packet[MSCHAP_REPLY_SIZE];
     mschap_password password;
     uint32_t call = MSCHAP_CALL_RESPONSE;
+    const char *old = NULL;
     size_t size;
     int next = 3;
 
@@ -84,8 +87,13 @@ int main(int argc, char **argv)
         argc--;
         argv++;
     }
+    if (argc > 2 && strcmp(argv[1], "--old") == 0) {
+        old = argv[2];
+        argc -= 2;
+        argv += 2;
+    }
     if (argc < 4)
-        die("usage: peer [--lossy] NAME NEW PASSWORD ..");
+        die("usage: peer [--lossy] [--old OLD] NAME NEW PASSWORD ..");
     size = receive_packet(packet, sizeof packet);
     if (mschap_read_challenge(packet, size, &peer, sizeof peer) != MSCHAP_OK)
         die("no Challenge");
@@ -95,6 +103,8 @@ int main(int argc, char **argv)
     }
     if (call == MSCHAP_CALL_CHANGE) {
         fprintf(stderr, "the password has expired, and is changed\n");
+        if (old != NULL)
+            make_password(old, &password);
         call = change(&password, argv[2]);
     }
     fprintf(stderr, call == MSCHAP_CALL_NONE ? "in\n" : "not let in\n");

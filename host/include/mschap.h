@@ -6,7 +6,7 @@
  *
  *     static uint8_t list[MSCHAP_LIST_SIZE(300)];         // for 100 conversations, see mschap_open
  *     mschap_conversation talk;  mschap_record record;  mschap_answer answer;
- *     mschap_password password;  mschap_nthash hash;
+ *     mschap_password password;  mschap_nthash hash;  uint32_t fault;
  *     uint8_t reply[MSCHAP_REPLY_SIZE], challenge[MSCHAP_CHALLENGE_SIZE];
  *
  *     mschap_make_list(list, sizeof list);                // once
@@ -28,6 +28,8 @@
  *         send(reply, mschap_packet_length(reply, sizeof reply));
  *         if (mschap_answer_repeated(&answer, sizeof answer))
  *             continue;                                   // the peer had missed the last reply
+ *         if ((fault = mschap_answer_fault(&answer, sizeof answer)) != MSCHAP_FAULT_NONE)
+ *             note(mschap_fault_text(fault));             // why a change failed: for the log alone
  *         if (mschap_conversation_awaits(&talk, sizeof talk) == MSCHAP_AWAITS_NOTHING)
  *             decide(mschap_answer_reason(&answer, sizeof answer) == MSCHAP_SUCCESS); // in or not
  *     }
@@ -53,8 +55,8 @@
  *   library makes and reads. They hold no pointer, so they may be copied, stored and read again.
  *   Each begins with its kind and the version of that kind's layout, MSCHAP_RECORD_LAYOUT and so
  *   on; one of another kind or version, of another size or with bytes that no value has is refused
- *   with MSCHAP_BAD_ARGUMENT. 0.3.0 has new layouts of conversations and answers: those that 0.2.0
- *   stored are refused, and its records, peers, passwords and lists stay valid.
+ *   with MSCHAP_BAD_ARGUMENT. Answers have a new layout since 0.4.0 and conversations since 0.3.0:
+ *   those that were stored before are refused. The others are as 0.2.0 stored them.
  *   Bytes are not signed: store values where nobody else writes.
  *   Arguments that are exchanged by mistake are refused, or are no C: GCC 14 says so by default,
  *   and other compilers with -Werror=incompatible-pointer-types.
@@ -94,13 +96,13 @@ extern "C" {
 
 /* ---- versions */
 
-#define MSCHAP_VERSION 0x000300      /* of this interface: major, minor, patch, a byte each */
-#define MSCHAP_VERSION_TEXT "0.3.0"
+#define MSCHAP_VERSION 0x000400      /* of this interface: major, minor, patch, a byte each */
+#define MSCHAP_VERSION_TEXT "0.4.0"
 
 /* of the layout of each kind of value */
 #define MSCHAP_RECORD_LAYOUT 1
 #define MSCHAP_CONVERSATION_LAYOUT 2 /* since 0.3.0, with the last answer */
-#define MSCHAP_ANSWER_LAYOUT 2       /* since 0.3.0, with whether it is a repeat */
+#define MSCHAP_ANSWER_LAYOUT 3       /* since 0.4.0, with what is wrong with a change */
 #define MSCHAP_PEER_LAYOUT 1
 #define MSCHAP_PASSWORD_LAYOUT 1
 #define MSCHAP_LIST_LAYOUT 1
@@ -142,6 +144,21 @@ extern "C" {
 #define MSCHAP_E_NO_DIALIN_PERMISSION 649
 #define MSCHAP_E_AUTHENTICATION_FAILURE 691
 #define MSCHAP_E_CHANGING_PASSWORD 709
+
+/* ---- what is wrong with a change of the password that drew MSCHAP_E_CHANGING_PASSWORD: the first
+        that holds, in this order. For the log, and never for the peer (see mschap_answer_fault).
+        Later versions may have further numbers: take one that is not here for an unknown fault. */
+
+#define MSCHAP_FAULT_NONE 0            /* with every other answer, a repeat of that Failure too */
+#define MSCHAP_FAULT_NO_NT_HASH 1      /* the account has no NT hash: it accepts no change */
+#define MSCHAP_FAULT_NO_NT_RESPONSE 2  /* bit 0 of the packet's flags is clear: the peer does not
+                                          ask for its NT response (RFC 2433, section 10) */
+#define MSCHAP_FAULT_LENGTH_OVER 3     /* the block of the new password, opened by the old hash, has
+                                          a length over 512: mostly the old password is mistyped */
+#define MSCHAP_FAULT_LENGTH_ODD 4      /* that length is odd */
+#define MSCHAP_FAULT_OLD_HASH_WRONG 5  /* the old hash under the new one is not the one sent: not a
+                                          mistyped old password, since the block could be opened */
+#define MSCHAP_FAULT_RESPONSE_WRONG 6  /* the response to the challenge is not the new password's */
 
 /* ---- what a conversation awaits */
 
@@ -187,7 +204,7 @@ extern "C" {
 #define MSCHAP_FILLER_SIZE 512
 #define MSCHAP_RECORD_SIZE 41
 #define MSCHAP_CONVERSATION_SIZE 58
-#define MSCHAP_ANSWER_SIZE 44
+#define MSCHAP_ANSWER_SIZE 45
 #define MSCHAP_PEER_SIZE 21
 #define MSCHAP_PASSWORD_SIZE 516
 #define MSCHAP_LIST_PLACES 4096                        /* the most places of a list */
@@ -337,16 +354,17 @@ uint32_t mschap_open(uint32_t identifier, uint32_t terms,
 /* One step of a conversation: packet was received, and record is what the lookup of its name found
    (mschap_account_offset and the three functions below it tell where the parts of the name are).
    Writes the next conversation over this one; at the front of reply the Success or Failure to
-   send; and the answer, which tells the reason, whether the reply is a repeat, and whether there
-   is a record to be stored.
+   send; and the answer, which tells the reason, whether the reply is a repeat, what is wrong with
+   a change that is not accepted, and whether there is a record to be stored.
 
    A repeat is a packet with the code and the identifier of the packet that was answered last,
    whatever else is in it: the peer has missed the reply (RFC 1994). It draws the same reply
    again, between two tries and after the end alike. It is not judged: record is ignored (it must
    be valid, and any will do), the conversation stays as it was, and there is no record to be
-   stored. mschap_answer_repeated tells it. The conversation itself keeps the last reply, and no
-   earlier one, so a program needs no memory of its own for that: it keeps the conversation as long
-   as the link is up, and passes every CHAP packet to mschap_step, also when nothing is awaited.
+   stored and no fault. mschap_answer_repeated tells it. The conversation itself keeps the last
+   reply, and no earlier one, so a program needs no memory of its own for that: it keeps the
+   conversation as long as the link is up, and passes every CHAP packet to mschap_step, also when
+   nothing is awaited.
 
    A change of the password has no name. While one is awaited, record is ignored (it must be valid,
    and any will do): the account is the one whose Response drew MSCHAP_E_PASSWD_EXPIRED. So
@@ -358,7 +376,7 @@ uint32_t mschap_open(uint32_t identifier, uint32_t terms,
    come. Returns then the first of these that applies: MSCHAP_REPLY_ROOM; MSCHAP_FRAME; and, unless
    the packet is a repeat, MSCHAP_ENDED; MSCHAP_CODE; MSCHAP_IDENTIFIER; MSCHAP_SIZE; MSCHAP_FLAGS.
    Returns MSCHAP_BAD_ARGUMENT for an invalid conversation or record, or an answer of another size.
-   Stack: 5,064 bytes. */
+   Stack: 5,192 bytes. */
 uint32_t mschap_step(mschap_conversation *conversation, size_t conversation_size,
                      const uint8_t *packet, size_t packet_size,
                      const mschap_record *record, size_t record_size,
@@ -368,20 +386,35 @@ uint32_t mschap_step(mschap_conversation *conversation, size_t conversation_size
 /* Returns the reason that a step's reply gives: MSCHAP_SUCCESS, or the Failure's, one of
    MSCHAP_E_.. (a repeat has the reason of the reply that it repeats); MSCHAP_INVALID for an invalid
    answer.
-   Stack: 336 bytes. */
+   Stack: 352 bytes. */
 uint32_t mschap_answer_reason(const mschap_answer *answer, size_t answer_size);
 
 /* Returns whether a step's reply was the last one again: 1 for a repeat, which was not judged, so
    that nothing is to be stored or decided; 0 if the packet was judged; MSCHAP_INVALID for an
    invalid answer.
-   Stack: 336 bytes. */
+   Stack: 352 bytes. */
 uint32_t mschap_answer_repeated(const mschap_answer *answer, size_t answer_size);
+
+/* Returns what is wrong with a change of the password that was judged and drew
+   MSCHAP_E_CHANGING_PASSWORD, one of MSCHAP_FAULT_..; MSCHAP_FAULT_NONE with every other answer, a
+   repeat of that Failure too; MSCHAP_INVALID for an invalid answer.
+
+   Call it for each step that returned MSCHAP_OK, after the reply is sent. A step that refused its
+   packet has written no answer: what is there is still an earlier one. A repeat has none since it
+   was not judged: the fault is in the log already, with the Failure that it repeats.
+
+   It is for the log and the support desk: docs/SUPPORT.md says what each one points to, and
+   mschap_fault_text has its words. Never send it to the peer, nor let what is sent, or when, depend
+   on it: the Failure is the same for all of them, so that nobody learns by trying how near a guess
+   was.
+   Stack: 352 bytes. */
+uint32_t mschap_answer_fault(const mschap_answer *answer, size_t answer_size);
 
 /* The record after an accepted change of the password: store it in the place of the account's. A
    repeat of the change gives none: its record was given when it was judged.
    Returns MSCHAP_OK, with the record; MSCHAP_NO_RECORD if nothing is to be stored;
    MSCHAP_BAD_ARGUMENT for an invalid answer, or unless record is MSCHAP_RECORD_SIZE bytes.
-   Stack: 352 bytes. */
+   Stack: 368 bytes. */
 uint32_t mschap_answer_record(const mschap_answer *answer, size_t answer_size,
                               mschap_record *record, size_t record_size);
 
@@ -526,6 +559,33 @@ uint32_t mschap_des_decrypt(const uint8_t *key, size_t key_size,
 uint32_t mschap_challenge_response(const uint8_t *hash, size_t hash_size,
                                    const uint8_t *challenge, size_t challenge_size,
                                    uint8_t *response, size_t response_size);
+
+/* ---- words */
+
+/* Returns words for a log, by a number that mschap_answer_fault returned; "unknown fault" for one
+   that is not among MSCHAP_FAULT_.. above. They say what was found; what it points to is in
+   docs/SUPPORT.md. The function is in this header alone, and in neither library. */
+static inline const char *mschap_fault_text(uint32_t fault)
+{
+    switch (fault) {
+    case MSCHAP_FAULT_NONE:
+        return "no fault";
+    case MSCHAP_FAULT_NO_NT_HASH:
+        return "the account has no NT hash";
+    case MSCHAP_FAULT_NO_NT_RESPONSE:
+        return "the packet does not ask for its NT response (flag bit 0 is clear)";
+    case MSCHAP_FAULT_LENGTH_OVER:
+        return "the length in the password block is over 512 (mostly a wrong old password)";
+    case MSCHAP_FAULT_LENGTH_ODD:
+        return "the length in the password block is odd";
+    case MSCHAP_FAULT_OLD_HASH_WRONG:
+        return "the password block opened, but the old hash under the new one is not the one sent";
+    case MSCHAP_FAULT_RESPONSE_WRONG:
+        return "the response to the challenge is not the new password's";
+    default:
+        return "unknown fault";
+    }
+}
 
 #ifdef __cplusplus
 }

@@ -1,6 +1,6 @@
 //! The authenticator: a conversation, from its Challenge to its end.
 
-use crate::{sys, Account, Challenge, Issued, Reason, Refusal};
+use crate::{sys, Account, Challenge, ChangeFault, Issued, Reason, Refusal};
 
 /// What a conversation awaits.
 #[derive(Clone, Copy, Debug, PartialEq, Eq)]
@@ -49,6 +49,10 @@ pub struct Answer {
     pub repeated: bool,
     /// The reason that the reply gives: Success, or the Failure's.
     pub reason: Reason,
+    /// What is wrong with a change of the password that was judged and not accepted; else
+    /// [`ChangeFault::NoFault`], with a repeat too. Log it, and never tell the peer: the reply is
+    /// the same for all of them.
+    pub fault: ChangeFault,
     /// The size of the reply, which is at the front of the buffer.
     pub size: usize,
     /// The account after an accepted change of the password, to be stored.
@@ -107,6 +111,7 @@ impl Conversation {
         Ok(Answer {
             repeated: sys::answer_repeated(&answer) == 1,
             reason: Reason::of(number.into()).ok_or(Refusal::Unexpected(number))?,
+            fault: ChangeFault::of(sys::answer_fault(&answer)),
             size: sys::packet_length(reply),
             updated,
         })

@@ -60,7 +60,7 @@ pub use cipher::{des_decrypt, des_encrypt, md4, rc4};
 pub use issued::Issued;
 pub use password::{challenge_response, LmHash, NtHash, Password};
 pub use peer::{Call, Peer, Reading};
-pub use refusal::{Reason, Refusal};
+pub use refusal::{ChangeFault, Reason, Refusal};
 
 /// The bytes of a challenge.
 pub type Challenge = [u8; sys::CHALLENGE_SIZE];

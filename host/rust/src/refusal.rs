@@ -1,4 +1,4 @@
-//! Why a call is refused, and why a Failure was sent.
+//! Why a call is refused, why a Failure was sent, and what is wrong with a change of the password.
 
 use crate::sys;
 use std::fmt;
@@ -145,5 +145,84 @@ impl Reason {
         ]
         .into_iter()
         .find(|reason| u64::from(reason.number()) == number)
+    }
+}
+
+/// What is wrong with a change of the password that drew [`Reason::ChangingPassword`]: the first
+/// that holds, in this order. It is for the log and the support desk, and never for the peer.
+#[derive(Clone, Copy, Debug, PartialEq, Eq, Hash)]
+#[non_exhaustive]
+pub enum ChangeFault {
+    /// 0: nothing, or no change was judged.
+    NoFault,
+    /// 1: the account has no NT hash.
+    NoNtHash,
+    /// 2: bit 0 of the packet's flags is clear: the peer does not ask for its NT response.
+    NoNtResponse,
+    /// 3: the length in the opened block is over 512: mostly the old password is mistyped.
+    LengthOver,
+    /// 4: the length in the opened block is odd.
+    LengthOdd,
+    /// 5: the old hash under the new one is not the one sent, though the block opened.
+    OldHashWrong,
+    /// 6: the response to the challenge in force is not the new hash's.
+    ResponseWrong,
+    /// Any other number, which an archive of a later version may have.
+    Unknown(u32),
+}
+
+/// Each fault that has a number of its own, and its words.
+const FAULTS: [(u32, ChangeFault, &str); 7] = [
+    (0, ChangeFault::NoFault, "no fault"),
+    (1, ChangeFault::NoNtHash, "the account has no NT hash"),
+    (
+        2,
+        ChangeFault::NoNtResponse,
+        "the packet does not ask for its NT response (flag bit 0 is clear)",
+    ),
+    (
+        3,
+        ChangeFault::LengthOver,
+        "the length in the password block is over 512 (mostly a wrong old password)",
+    ),
+    (
+        4,
+        ChangeFault::LengthOdd,
+        "the length in the password block is odd",
+    ),
+    (
+        5,
+        ChangeFault::OldHashWrong,
+        "the password block opened, but the old hash under the new one is not the one sent",
+    ),
+    (
+        6,
+        ChangeFault::ResponseWrong,
+        "the response to the challenge is not the new password's",
+    ),
+];
+
+impl ChangeFault {
+    /// The number of this fault; 0 is none.
+    pub fn number(self) -> u32 {
+        if let ChangeFault::Unknown(number) = self {
+            return number;
+        }
+        let known = FAULTS.iter().find(|(_, fault, _)| *fault == self);
+        known.map_or(sys::INVALID, |(number, ..)| *number)
+    }
+
+    /// The fault with this number.
+    pub fn of(number: u32) -> ChangeFault {
+        let known = FAULTS.iter().find(|(other, ..)| *other == number);
+        known.map_or(ChangeFault::Unknown(number), |(_, fault, _)| *fault)
+    }
+}
+
+/// What was found, in words for a log: those of `mschap_fault_text` in C.
+impl fmt::Display for ChangeFault {
+    fn fmt(&self, to: &mut fmt::Formatter<'_>) -> fmt::Result {
+        let known = FAULTS.iter().find(|(_, fault, _)| fault == self);
+        to.write_str(known.map_or("unknown fault", |(_, _, text)| text))
     }
 }

@@ -6,14 +6,14 @@
 //! each one does. Here every value is bytes: the types around this module tell them apart.
 
 /// The version of the interface that is declared here: major, minor and patch, a byte each.
-pub const VERSION: u32 = 0x000300;
+pub const VERSION: u32 = 0x000400;
 
 /// The version of a record's layout.
 pub const RECORD_LAYOUT: u8 = 1;
 /// The version of a conversation's layout: with the last answer, since 0.3.0.
 pub const CONVERSATION_LAYOUT: u8 = 2;
-/// The version of an answer's layout: with whether it is a repeat, since 0.3.0.
-pub const ANSWER_LAYOUT: u8 = 2;
+/// The version of an answer's layout: with what is wrong with a change, since 0.4.0.
+pub const ANSWER_LAYOUT: u8 = 3;
 /// The version of a peer's layout.
 pub const PEER_LAYOUT: u8 = 1;
 /// The version of a password's layout.
@@ -97,7 +97,7 @@ pub const RECORD_SIZE: usize = 41;
 /// Bytes of a conversation.
 pub const CONVERSATION_SIZE: usize = 58;
 /// Bytes of a step's answer.
-pub const ANSWER_SIZE: usize = 44;
+pub const ANSWER_SIZE: usize = 45;
 /// Bytes of a peer.
 pub const PEER_SIZE: usize = 21;
 /// Bytes of a password.
@@ -227,6 +227,9 @@ pub mod raw {
         /// 1 if a step's reply was the last one again, else 0; [`INVALID`](super::INVALID) for an
         /// invalid answer.
         pub fn mschap_answer_repeated(answer: *const u8, answer_size: usize) -> u32;
+        /// What is wrong with a change that was judged, 0 if nothing; [`INVALID`](super::INVALID)
+        /// for an invalid answer.
+        pub fn mschap_answer_fault(answer: *const u8, answer_size: usize) -> u32;
         /// The record after an accepted change of the password.
         pub fn mschap_answer_record(
             answer: *const u8,
@@ -514,6 +517,12 @@ pub fn answer_reason(answer: &[u8]) -> u32 {
 pub fn answer_repeated(answer: &[u8]) -> u32 {
     // SAFETY: slices, as said above.
     unsafe { raw::mschap_answer_repeated(answer.as_ptr(), answer.len()) }
+}
+
+/// What is wrong with a change that was judged, 0 if nothing; [`INVALID`] for an invalid answer.
+pub fn answer_fault(answer: &[u8]) -> u32 {
+    // SAFETY: slices, as said above.
+    unsafe { raw::mschap_answer_fault(answer.as_ptr(), answer.len()) }
 }
 
 /// The record after an accepted change of the password.

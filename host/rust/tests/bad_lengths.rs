@@ -340,36 +340,36 @@ fn steps() {
         bytes
     };
     for size in others(58) {
-        bad_step(&resized(&conversation, size), &nobody, 44);
+        bad_step(&resized(&conversation, size), &nobody, 45);
     }
     for size in others(41) {
-        bad_step(&conversation, &resized(&nobody, size), 44);
+        bad_step(&conversation, &resized(&nobody, size), 45);
     }
-    for size in others(44) {
+    for size in others(45) {
         bad_step(&conversation, &nobody, size);
     }
     // the right buffers draw an answer: the account is not found
     let mut reply = [FILL; 17];
-    let mut answer = [FILL; 44];
+    let mut answer = [FILL; 45];
     let number = sys::step(&mut conversation, &packet, &nobody, &mut reply, &mut answer);
     assert_eq!(
         (number, answer),
-        (sys::OK, layout::answer(false, 691, None))
+        (sys::OK, layout::plain_answer(false, 691))
     );
     assert_eq!(&reply, b"\x04\x07\x00\x11E=691 R=1 V=2");
     // and the same packet again the same reply, and nothing else
-    let (mut same, mut again, mut repeated) = (conversation, [FILL; 17], [FILL; 44]);
+    let (mut same, mut again, mut repeated) = (conversation, [FILL; 17], [FILL; 45]);
     let number = sys::step(&mut same, &packet, &nobody, &mut again, &mut repeated);
     assert_eq!(
         (number, repeated),
-        (sys::OK, layout::answer(true, 691, None))
+        (sys::OK, layout::plain_answer(true, 691))
     );
     assert_eq!((same, again), (conversation, reply));
     // which wrong sizes do not get
     for size in others(58) {
-        bad_step(&resized(&conversation, size), &nobody, 44);
+        bad_step(&resized(&conversation, size), &nobody, 45);
     }
-    for size in others(44) {
+    for size in others(45) {
         bad_step(&conversation, &nobody, size);
     }
 
@@ -384,17 +384,29 @@ fn steps() {
         let bytes = resized(&conversation, size);
         assert_eq!(told.map(|tell| tell(&bytes)), [sys::INVALID; 3]);
     }
-    let told = [sys::answer_reason, sys::answer_repeated];
-    assert_eq!(told.map(|tell| tell(&answer)), [691, 0]);
-    assert_eq!(told.map(|tell| tell(&repeated)), [691, 1]);
-    for size in others(44) {
-        for answer in [&answer, &repeated] {
+    let told = [sys::answer_reason, sys::answer_repeated, sys::answer_fault];
+    let spoiled = layout::answer(&layout::Told {
+        repeated: false,
+        reason: 709,
+        fault: 6,
+        updated: None,
+    });
+    assert_eq!(told.map(|tell| tell(&answer)), [691, 0, 0]);
+    assert_eq!(told.map(|tell| tell(&repeated)), [691, 1, 0]);
+    assert_eq!(told.map(|tell| tell(&spoiled)), [709, 0, 6]);
+    for size in others(45) {
+        for answer in [&answer, &repeated, &spoiled] {
             let bytes = resized(answer, size);
-            assert_eq!(told.map(|tell| tell(&bytes)), [sys::INVALID; 2]);
+            assert_eq!(told.map(|tell| tell(&bytes)), [sys::INVALID; 3]);
         }
     }
     let account = Default::default();
-    let updated = layout::answer(false, 0, Some(&account));
+    let updated = layout::answer(&layout::Told {
+        repeated: false,
+        reason: 0,
+        fault: 0,
+        updated: Some(account),
+    });
     let mut record = [FILL; 41];
     for answer in [&answer, &updated] {
         bad_sizes(41, |record| sys::answer_record(answer, record));
@@ -538,12 +550,13 @@ fn null_with_no_bytes() {
         assert_eq!(mschap_step(m, 0, n, 0, n, 0, m, 0, m, 0), BAD);
         let (c, o) = (next.as_mut_ptr(), out.as_mut_ptr());
         let reply = buffer.as_mut_ptr();
-        assert_eq!(mschap_step(c, 58, n, 0, r, 41, reply, 17, o, 44), 3);
+        assert_eq!(mschap_step(c, 58, n, 0, r, 41, reply, 17, o, 45), 3);
         let packet = packet.as_ptr();
-        assert_eq!(mschap_step(c, 58, packet, 55, r, 41, m, 0, o, 44), 2);
+        assert_eq!(mschap_step(c, 58, packet, 55, r, 41, m, 0, o, 45), 2);
         assert_eq!((next, buffer, out), (conversation, [FILL; 58], [FILL; 64]));
         assert_eq!(mschap_answer_reason(n, 0), sys::INVALID);
         assert_eq!(mschap_answer_repeated(n, 0), sys::INVALID);
+        assert_eq!(mschap_answer_fault(n, 0), sys::INVALID);
         assert_eq!(mschap_answer_record(n, 0, m, 0), BAD);
         assert_eq!(mschap_conversation_awaits(n, 0), sys::INVALID);
         assert_eq!(mschap_conversation_identifier(n, 0), sys::INVALID);

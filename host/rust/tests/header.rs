@@ -1,7 +1,8 @@
-//! The numbers of the C header are those of `sys`, of `Refusal` and of `Reason`; its functions are
-//! declared, with as many arguments; and the archive that is linked is of its version.
+//! The numbers of the C header are those of `sys`, of `Refusal`, of `Reason` and of `ChangeFault`,
+//! whose words are the header's too; its functions are declared, with as many arguments; and the
+//! archive that is linked is of its version.
 
-use mschap::{sys, Reason, Refusal};
+use mschap::{sys, ChangeFault, Reason, Refusal};
 
 const HEADER: &str = include_str!("../../include/mschap.h");
 
@@ -125,6 +126,13 @@ fn numbers() {
             Reason::AuthenticationFailure.number(),
         ),
         ("E_CHANGING_PASSWORD", Reason::ChangingPassword.number()),
+        ("FAULT_NONE", ChangeFault::NoFault.number()),
+        ("FAULT_NO_NT_HASH", ChangeFault::NoNtHash.number()),
+        ("FAULT_NO_NT_RESPONSE", ChangeFault::NoNtResponse.number()),
+        ("FAULT_LENGTH_OVER", ChangeFault::LengthOver.number()),
+        ("FAULT_LENGTH_ODD", ChangeFault::LengthOdd.number()),
+        ("FAULT_OLD_HASH_WRONG", ChangeFault::OldHashWrong.number()),
+        ("FAULT_RESPONSE_WRONG", ChangeFault::ResponseWrong.number()),
     ]
     .map(|(name, number)| (name, u64::from(number)));
     let mut left: Vec<String> = all();
@@ -147,6 +155,48 @@ fn macros() {
         [0, 7, 253, 254, 300].map(sys::retries),
         [1, 8, 254, 255, 255]
     );
+}
+
+/// The words of each fault: those that the header's function returns, and those of the script.
+#[test]
+fn fault_texts() {
+    let quoted = |text: &str, quote: char| {
+        let mut parts = text.split(quote);
+        let words = parts.nth(1).zip(parts.next());
+        words.expect("quoted words").0.to_string()
+    };
+    let (_, body) = HEADER.split_once("*mschap_fault_text(").expect("there");
+    let (body, _) = body.split_once("\n}\n").expect("its end");
+    let (cases, default) = body.split_once("default:").expect("its default");
+    let theirs: Vec<(u64, String)> = cases
+        .split("case ")
+        .skip(1)
+        .map(|case| {
+            let (name, rest) = case.split_once(':').expect("a name");
+            (defined(name), quoted(rest, '"'))
+        })
+        .collect();
+    let ours = |number| ChangeFault::of(number).to_string();
+    let all: Vec<(u64, String)> = (0..7).map(|number| (number.into(), ours(number))).collect();
+    assert_eq!(theirs, all);
+    for unknown in [7, 8, 100, sys::INVALID] {
+        assert_eq!(ours(unknown), quoted(default, '"'));
+        assert_eq!(ChangeFault::of(unknown).number(), unknown);
+    }
+
+    let script = include_str!("../../examples/bench.py");
+    let (_, table) = script.split_once("\nFAULTS = {\n").expect("a table");
+    let (table, _) = table.split_once("\n}\n").expect("its end");
+    let lines: Vec<String> = all.iter().map(|(n, text)| format!("{n}: {text}")).collect();
+    let script: Vec<String> = table
+        .lines()
+        .map(|line| {
+            let line = line.trim().trim_end_matches(',');
+            let (number, text) = line.split_once(": ").expect("a number");
+            format!("{number}: {}", &text[1..text.len() - 1])
+        })
+        .collect();
+    assert_eq!(script, lines);
 }
 
 #[test]

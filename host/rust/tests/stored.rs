@@ -5,10 +5,10 @@
 
 mod layout;
 
-use layout::{KINDS, LIST_HEAD};
+use layout::{Told, KINDS, LIST_HEAD};
 use mschap::sys;
 use mschap::{Refusal, Terms};
-use reference::authenticator::{self as their, Account, Conversation, Last, Phase, Reply};
+use reference::authenticator::{self as their, Account, Conversation, Fault, Last, Phase, Reply};
 use reference::message::Call;
 use reference::peer::{self, Turn, Verdict};
 use reference::{hashes, issued, packet};
@@ -64,8 +64,8 @@ fn spoiled(value: &[u8], mut check: impl FnMut(&[u8])) -> usize {
     }
     // of another kind, with this one's size and with that one's
     for kind in KINDS {
-        for size in [value.len(), 21, 41, 43, 44, 52, 58, 516] {
-            for version in [0, 1, 2, 255] {
+        for size in [value.len(), 21, 41, 43, 44, 45, 52, 58, 516] {
+            for version in [0, 1, 2, 3, 255] {
                 let mut bytes = value.to_vec();
                 bytes.resize(size, 0);
                 bytes[..2].copy_from_slice(&[kind, version]);
@@ -150,13 +150,13 @@ fn packets() -> [Vec<u8>; 2] {
 
 /// A step with these bytes for conversation and record, against what they stand for.
 fn step(bytes: &[u8], record: &[u8], packet: &[u8], seen: &mut Seen) {
-    let (mut after, mut reply, mut answer) = (bytes.to_vec(), [FILL; 17], [FILL; 44]);
+    let (mut after, mut reply, mut answer) = (bytes.to_vec(), [FILL; 17], [FILL; 45]);
     let number = sys::step(&mut after, packet, record, &mut reply, &mut answer);
     let valid = layout::to_conversation(bytes).zip(layout::to_record(record));
     seen.note(valid.is_some());
     let Some((conversation, found)) = valid else {
         assert_eq!(number, sys::BAD_ARGUMENT, "{bytes:?} {record:?}");
-        let same = (bytes.to_vec(), [FILL; 17], [FILL; 44]);
+        let same = (bytes.to_vec(), [FILL; 17], [FILL; 45]);
         assert_eq!((after, reply, answer), same);
         return;
     };
@@ -178,10 +178,15 @@ fn step(bytes: &[u8], record: &[u8], packet: &[u8], seen: &mut Seen) {
     if number == sys::OK {
         let next = layout::to_conversation(&after);
         assert_eq!(next, Some(theirs.conversation));
-        let expected = (theirs.repeated, theirs.reason, theirs.record);
+        let expected = Told {
+            repeated: theirs.repeated,
+            reason: theirs.reason,
+            fault: Fault::number(theirs.fault),
+            updated: theirs.record,
+        };
         assert_eq!(layout::to_answer(&answer), Some(expected));
     } else {
-        assert_eq!((after, answer), (bytes.to_vec(), [FILL; 44]));
+        assert_eq!((after, answer), (bytes.to_vec(), [FILL; 45]));
     }
 }
 
@@ -328,7 +333,7 @@ fn a_repeated_change_gives_no_record() {
     let mut bytes = layout::conversation(&conversation(Phase::Change(account())));
     let nobody = layout::record(None);
     let mut reply = [FILL; 17];
-    let mut answer = [FILL; 44];
+    let mut answer = [FILL; 45];
     let step = |bytes: &mut [u8], reply: &mut [u8], answer: &mut [u8]| {
         sys::step(bytes, &change, &nobody, reply, answer)
     };
@@ -341,7 +346,7 @@ fn a_repeated_change_gives_no_record() {
         let mut reply = [FILL; 17];
         assert_eq!(step(&mut bytes, &mut reply, &mut answer), sys::OK);
         assert_eq!((&reply[..4], reply[4]), (&[3, 7, 0, 4][..], FILL));
-        assert_eq!(answer, layout::answer(true, 0, None));
+        assert_eq!(answer, layout::plain_answer(true, 0));
         let mut record = [FILL; 41];
         assert_eq!(sys::answer_record(&answer, &mut record), 102);
         assert_eq!((bytes, record), (after, [FILL; 41]));
@@ -368,7 +373,7 @@ fn what_version_0_2_0_stored() {
         assert_eq!(stored, Err(Refusal::BadArgument));
         assert_eq!(sys::conversation_awaits(&bytes), sys::INVALID);
     }
-    for size in [43, 44] {
+    for size in [43, 44, 45] {
         let mut bytes = answer.clone();
         bytes.resize(size, 0);
         assert_eq!(sys::answer_reason(&bytes), sys::INVALID);
@@ -392,6 +397,34 @@ fn what_version_0_2_0_stored() {
     assert_eq!(text.as_deref(), Ok("a"));
     let list = mschap::Issued::from_bytes(&stored(b'L', 28, &[0, 2]));
     assert_eq!(list.map(|list| list.used()), Ok(2));
+}
+
+/// What 0.3.0 stored: answers have another layout now and are refused, in its size and in this one;
+/// conversations are as they were.
+#[test]
+fn what_version_0_3_0_stored() {
+    // a Failure with the reason 691, no repeat, no record
+    for reason in [691_u16, 709] {
+        let mut stored = [&[b'A', 2, 0][..], &reason.to_be_bytes(), &[0; 39]].concat();
+        assert_eq!(stored.len(), 44);
+        for _ in 0..2 {
+            let told = [sys::answer_reason, sys::answer_repeated, sys::answer_fault];
+            assert_eq!(told.map(|tell| tell(&stored)), [sys::INVALID; 3]);
+            let mut record = [FILL; 41];
+            let number = sys::answer_record(&stored, &mut record);
+            assert_eq!((number, record), (sys::BAD_ARGUMENT, [FILL; 41]));
+            // in the size of an answer of this version, but by its own version still another's
+            stored.push(0);
+        }
+        stored.pop();
+        // and as version 3 it is what it is taken for
+        stored[1] = 3;
+        assert_eq!(sys::answer_reason(&stored), reason.into());
+        assert_eq!(sys::answer_fault(&stored), 0);
+    }
+    let mut conversation = [0; 58];
+    conversation[..6].copy_from_slice(&[b'C', 2, 2, 1, 7, 2]);
+    assert!(mschap::Conversation::from_bytes(&conversation).is_ok());
 }
 
 #[test]
@@ -428,26 +461,41 @@ fn records() {
 #[test]
 fn answers() {
     let mut seen = Seen::default();
+    let mut faults = [0; 256];
+    let told = |repeated, reason, fault, updated| {
+        layout::answer(&Told {
+            repeated,
+            reason,
+            fault,
+            updated,
+        })
+    };
     for answer in [
-        layout::answer(false, 0, Some(&account())),
-        layout::answer(false, 691, None),
-        layout::answer(true, 0, None),
+        told(false, 0, 0, Some(account())),
+        told(false, 691, 0, None),
+        told(true, 0, 0, None),
+        told(false, 709, 5, None),
     ] {
         spoiled(&answer, |bytes| {
             let value = layout::to_answer(bytes);
             seen.note(value.is_some());
-            let reason = value.map_or(sys::INVALID, |(_, reason, _)| reason.into());
+            let reason = value.map_or(sys::INVALID, |told| told.reason.into());
             assert_eq!(sys::answer_reason(bytes), reason, "{bytes:?}");
-            let repeated = value.map_or(sys::INVALID, |(repeated, ..)| repeated.into());
+            let repeated = value.map_or(sys::INVALID, |told| told.repeated.into());
             assert_eq!(sys::answer_repeated(bytes), repeated, "{bytes:?}");
+            let fault = value.map_or(sys::INVALID, |told| told.fault.into());
+            assert_eq!(sys::answer_fault(bytes), fault, "{bytes:?}");
+            if let (Some(number), true) = (bytes.get(5), fault != sys::INVALID) {
+                faults[usize::from(*number)] += 1;
+            }
             let mut record = [FILL; 41];
             let number = sys::answer_record(bytes, &mut record);
-            match value {
-                Some((_, _, Some(updated))) => {
+            match value.map(|told| told.updated) {
+                Some(Some(updated)) => {
                     assert_eq!(number, sys::OK);
                     assert_eq!(layout::to_record(&record), Some(Some(updated)));
                     // as it is stored, with what stands beside a flag that is not set
-                    assert_eq!(record[2..], bytes[5..]);
+                    assert_eq!(record[2..], bytes[6..]);
                 }
                 other => {
                     let expected = other.map_or(sys::BAD_ARGUMENT, |_| 102);
@@ -456,7 +504,10 @@ fn answers() {
             }
         });
     }
-    assert!(seen.answered > 10_000 && seen.refused > 3_000);
+    assert!(seen.answered > 10_000 && seen.refused > 4_000);
+    // each fault was told, and no other number taken for one
+    assert!(faults[..7].iter().all(|times| *times > 0), "{faults:?}");
+    assert_eq!(faults[7..], [0; 249]);
 }
 
 fn call_number(verdict: &Verdict) -> (u32, u64) {
@@ -728,7 +779,7 @@ fn lists() {
 /// Each kind was spoiled in each place to each value.
 #[test]
 fn all_that_is_spoiled() {
-    for size in [21, 41, 44, 58, 516] {
+    for size in [21, 41, 45, 58, 516] {
         let mut places = vec![0; size];
         let count = spoiled(&vec![0; size], |bytes| {
             if bytes.len() == size {

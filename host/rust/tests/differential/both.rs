@@ -5,7 +5,7 @@ use crate::layout;
 use crate::random::Random;
 use mschap::{sys, Awaited, Call, Challenge, Conversation, Issued, LmHash, NtHash, Password, Peer};
 use mschap::{Reading, Refusal, Terms};
-use reference::authenticator::{self as their, Phase};
+use reference::authenticator::{self as their, Fault, Phase};
 use reference::issued;
 use reference::message;
 use reference::packet;
@@ -222,6 +222,8 @@ pub struct Outcome {
     pub refusal: u8,
     pub reason: u16,
     pub repeated: bool,
+    /// The number of what is wrong with a change; 0 is none.
+    pub fault: u8,
     pub written: usize,
     pub changed: Option<their::Account>,
 }
@@ -256,6 +258,9 @@ impl Boxes {
                 let reason = judged.reason.number();
                 assert_eq!(reason, u32::from(theirs.reason), "the reason");
                 assert_eq!(judged.repeated, theirs.repeated, "whether it is a repeat");
+                let fault = u32::from(Fault::number(theirs.fault));
+                assert_eq!(judged.fault.number(), fault, "the fault");
+                assert!(fault == 0 || reason == 709, "a fault beside {reason}");
                 let updated = judged.updated.as_ref().map(their_account);
                 assert_eq!(updated, theirs.record, "the record");
             }
@@ -268,6 +273,7 @@ impl Boxes {
             refusal: theirs.refusal,
             reason: theirs.reason,
             repeated: theirs.repeated,
+            fault: Fault::number(theirs.fault),
             written: theirs.written,
             changed: theirs.record,
         }

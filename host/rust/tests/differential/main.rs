@@ -2,6 +2,7 @@
 //! implementation `reference`. Every case is drawn from a fixed seed and its own number.
 
 mod both;
+mod faults;
 mod functions;
 #[path = "../layout/mod.rs"]
 mod layout;

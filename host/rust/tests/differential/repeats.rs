@@ -147,6 +147,7 @@ pub fn some(
         seen.note(format!("{}, {}", KINDS[kind], time(boxes)));
         assert_eq!(boxes.ours, before, "the conversation stays");
         assert_eq!(outcome.changed, None, "no record");
+        assert_eq!(outcome.fault, 0, "no fault, of a repeated 709 neither");
         assert_eq!(outcome.refusal, refused, "{}", KINDS[kind]);
         assert_eq!(outcome.repeated, refused == 0, "{}", KINDS[kind]);
         if outcome.repeated {

@@ -1,6 +1,7 @@
 //! Whole series from opening to end: our peer against their box, their peer against our box.
 
 use crate::both::{plain, their_conversation, Boxes, Opening, Passed, Peers};
+use crate::faults;
 use crate::packets;
 use crate::random::Random;
 use crate::repeats::{self, Answered};
@@ -227,7 +228,11 @@ fn series(random: &mut Random, seen: &mut Seen) {
             // at times from another old password, which is refused by 709
             let other = random.chance(10).then(|| packets::password(random));
             let old = other.as_ref().unwrap_or(&user.password);
-            change(&mut peers, old, &new, random)
+            let mut packet = change(&mut peers, old, &new, random);
+            if random.chance(20) {
+                faults::spoil(random, &mut packet, new.len());
+            }
+            packet
         } else if user.account.lm.is_some() && random.chance(50) {
             let mut password = user.lm_password.clone();
             if random.chance(wrong) {
@@ -270,6 +275,9 @@ fn series(random: &mut Random, seen: &mut Seen) {
             break;
         }
         seen.note(format!("judged {}", outcome.reason));
+        if outcome.fault != 0 {
+            seen.note(format!("fault {}", outcome.fault));
+        }
         accepted = outcome.changed;
         judged.push(Answered {
             packet: packet.clone(),
@@ -332,6 +340,9 @@ fn series_agree() {
     let seen = run("series", 200_000, series);
     for reason in [0, 646, 647, 648, 649, 691, 709] {
         seen.expect(&[&format!("judged {reason}")]);
+    }
+    for fault in 1..=6 {
+        seen.at_least(200, &format!("fault {fault}"));
     }
     seen.expect(&["password changed", "later conversation"]);
     for kind in repeats::KINDS {

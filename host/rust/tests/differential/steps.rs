@@ -110,6 +110,10 @@ fn step(random: &mut Random, seen: &mut Seen) {
         (refusal, _) => format!("refused {refusal}"),
     });
 
+    if outcome.fault != 0 {
+        seen.note(format!("fault {}", outcome.fault));
+    }
+
     // The same by buffers, with drawn bytes wherever they have no effect.
     if random.chance(20) {
         let mut bytes = *before.as_bytes();
@@ -126,10 +130,16 @@ fn step(random: &mut Random, seen: &mut Seen) {
         assert_eq!(their_conversation(&next), boxes.theirs);
         assert_eq!(reply, our_reply);
         if number == sys::OK {
-            let expected = (outcome.repeated, outcome.reason, outcome.changed);
+            let expected = layout::Told {
+                repeated: outcome.repeated,
+                reason: outcome.reason,
+                fault: outcome.fault,
+                updated: outcome.changed,
+            };
             assert_eq!(layout::to_answer(&answer), Some(expected));
             assert_eq!(sys::answer_reason(&answer), outcome.reason.into());
             assert_eq!(sys::answer_repeated(&answer), outcome.repeated.into());
+            assert_eq!(sys::answer_fault(&answer), outcome.fault.into());
             if outcome.repeated {
                 assert_eq!(&bytes, before.as_bytes(), "a repeat changes nothing");
             }
@@ -151,6 +161,9 @@ fn steps_agree() {
         seen.at_least(1_000, &format!("repeated {reason}"));
     }
     seen.expect(&["judged: changed"]);
+    for fault in 1..=6 {
+        seen.expect(&[&format!("fault {fault}")]);
+    }
     for ended in [false, true] {
         seen.at_least(1_000, &format!("repeated, ended {ended}"));
     }

@@ -28,7 +28,8 @@ pub const LIST_HEAD: usize = 4;
 /// The version of a kind's layout.
 pub fn version(kind: u8) -> u8 {
     match kind {
-        CONVERSATION | ANSWER => 2,
+        ANSWER => 3,
+        CONVERSATION => 2,
         _ => 1,
     }
 }
@@ -121,19 +122,45 @@ pub fn record_parts(bytes: &[u8]) -> Option<(u32, [u8; 16], [u8; 16])> {
     Some((flags, part(bytes, 4), part(bytes, 21)))
 }
 
-pub fn answer(repeated: bool, reason: u16, updated: Option<&Account>) -> [u8; sys::ANSWER_SIZE] {
+/// What an answer tells.
+#[derive(Clone, Copy, Debug, PartialEq, Eq)]
+pub struct Told {
+    pub repeated: bool,
+    pub reason: u16,
+    /// The number of what is wrong with a change; 0 is none.
+    pub fault: u8,
+    /// The record to be stored.
+    pub updated: Option<Account>,
+}
+
+pub fn answer(told: &Told) -> [u8; sys::ANSWER_SIZE] {
     tagged(ANSWER, |to| {
-        to[0] = repeated.into();
-        to[1..3].copy_from_slice(&reason.to_be_bytes());
-        lookup(updated.map(account), &mut to[3..]);
+        to[0] = told.repeated.into();
+        to[1..3].copy_from_slice(&told.reason.to_be_bytes());
+        to[3] = told.fault;
+        lookup(told.updated.as_ref().map(account), &mut to[4..]);
     })
 }
 
-/// Whether it is a repeat, the reason, and the record to be stored.
-pub fn to_answer(bytes: &[u8]) -> Option<(bool, u16, Option<Account>)> {
+/// An answer with neither fault nor record.
+pub fn plain_answer(repeated: bool, reason: u16) -> [u8; sys::ANSWER_SIZE] {
+    answer(&Told {
+        repeated,
+        reason,
+        fault: 0,
+        updated: None,
+    })
+}
+
+/// There are six faults, and none: no answer has another number.
+pub fn to_answer(bytes: &[u8]) -> Option<Told> {
     let body = body(ANSWER, sys::ANSWER_SIZE, bytes)?;
-    let updated = to_lookup(&body[3..])?;
-    Some((flag(body[0])?, u16::from_be_bytes(part(body, 1)), updated))
+    Some(Told {
+        repeated: flag(body[0])?,
+        reason: u16::from_be_bytes(part(body, 1)),
+        fault: Some(body[3]).filter(|number| *number <= 6)?,
+        updated: to_lookup(&body[4..])?,
+    })
 }
 
 /// The last answer: that there is one, code and identifier, which reply, and its reason.
