@@ -24,7 +24,7 @@ judgement-same {r} {s} {f} {n} {m} {l} {k} e h g =
     ap₂ (λ (x : Reply) (y : Conversation). judgement x f y l) e h ∙ ap (judgement s f m) g
 
 -- a change that is accepted or not
-abbrev chosen : Conversation → CheckedChange → Bool → Judgement
+abbrev pub chosen : Conversation → CheckedChange → Bool → Judgement
 chosen c v t =
     judgement (cond t Success (Failure changingPassword false)) (v .fault) (ended c)
     (cond t (found (changed (c .kept) (v .hash))) notFound)

@@ -14,7 +14,7 @@ use Rattle.packets.specs.Frame.{octet}
 use Rattle.authenticator.specs.Admit.{isRepeat, stepRefusal}
 use Rattle.authenticator.specs.Judge.{judge}
 use Rattle.authenticator.specs.Encode.{replyPacket}
-use Rattle.authenticator.specs.Step.{Outcome, repeatedAs, stepRepeats}
+use Rattle.authenticator.specs.Step.{Outcome, repeatedAs}
 use Rattle.authenticator.specs.Steps.{StepInput, stepOn, replyOf, BoxState, nextAfter}
 use Rattle.authenticator.specs.Steps.{refusalAt, isJudged, nextState}
 use Rattle.authenticator.specs.Repeats.{Again, Drawn}

@@ -15,16 +15,7 @@ use Rattle.packets.specs.Frame.{octet}
 use Rattle.accounts.specs.declared.Lookup.{Lookup}
 use Rattle.verify.specs.Faults.{faultNumber}
 use Rattle.verify.specs.declared.ChangeFault.{ChangeFault}
-use Rattle.verify.specs.declared.ChangeFault.the-variants.{
-  NoFault,
-  NoNtHash,
-  NoNtResponse,
-  LengthOver,
-  LengthOdd,
-  OldHashWrong,
-  ResponseWrong,
-}
-use Rattle.verify.proofs.FirstFault.{fault-back}
+use Rattle.verify.proofs.FirstFault.{fault-back, fault-small}
 use Rattle.layouts.specs.Values.{answerKind, tagSize, bodyIn}
 use Rattle.layouts.specs.Records.{flag, encodeLookup, decodeLookup, lookupSize}
 use Rattle.layouts.specs.Answers as layout
@@ -88,15 +79,6 @@ module _ (v : StepResult) (s : SizedAccount (v .updated .account)) (fits : v .re
   answer-fits = encoding-fits layout.encodeAnswer layout.decodeAnswer v answer-back
 
 -- ---- the byte of the fault
-
-fault-small : (f : ChangeFault) → faultNumber f < 7
-fault-small NoFault = omega arith
-fault-small NoNtHash = omega arith
-fault-small NoNtResponse = omega arith
-fault-small LengthOver = omega arith
-fault-small LengthOdd = omega arith
-fault-small OldHashWrong = omega arith
-fault-small ResponseWrong = omega arith
 
 -- what is taken for an answer has the number of a fault there: 7 to 255 are none
 pub fault-byte : (bytes : List ℕ) → layout.isEncodedAnswer bytes ≡ true

@@ -39,6 +39,15 @@ fault-back LengthOdd = refl
 fault-back OldHashWrong = refl
 fault-back ResponseWrong = refl
 
+pub fault-small : (fault : ChangeFault) → faultNumber fault < 7
+fault-small NoFault = omega arith
+fault-small NoNtHash = omega arith
+fault-small NoNtResponse = omega arith
+fault-small LengthOver = omega arith
+fault-small LengthOdd = omega arith
+fault-small OldHashWrong = omega arith
+fault-small ResponseWrong = omega arith
+
 same-number : (x y : ChangeFault) → faultNumber x ≡ faultNumber y → x ≡ y
 same-number x y e = sym (fault-back x) ∙ ap faultWith e ∙ fault-back y
 

@@ -1,7 +1,7 @@
--- What is wrong with a change of the password, or its new hash, as the code finds it out: by the
--- record that was kept and the challenge in force. Document 01's sentence on an accepted change
--- stands in specs/Accepted and document 02's on the first fault in specs/FirstFault; that these
--- say the same is proved (proofs/Accepted, proofs/FirstFault).
+-- What is wrong with a change of the password, or its new hash, by the record that was kept and the
+-- challenge in force: six tests, and the first that holds. Document 01's sentence on an accepted
+-- change stands in specs/Accepted and document 02's on the first fault in specs/FirstFault; that
+-- these say the same is proved (proofs/Accepted, proofs/FirstFault).
 -- Assumes nothing: these are definitions.
 use mathlib.Core.Bool.{Bool, cond, not}
 use mathlib.Core.List.{List}
