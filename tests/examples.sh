@@ -147,10 +147,14 @@ for line in \
     'Failure, identifier [0-9]*, 17 bytes: "E=709 R=0 V=2"' \
     "authenticator  notes for its log alone: $over\$" \
     'Failure, identifier [0-9]*, 17 bytes: "E=691 R=0 V=2"' \
-    'places used in the list of issued challenges: 12'; do
+    'Response, identifier [0-9]*, [0-9]* bytes: by LM [0-9a-f]*, name DOM' \
+    'places used in the list of issued challenges: 18'; do
     grep -q "$line" "$scratch/bench.log" || fail "$script does not print: $line"
 done
 [ "$(grep -c '^peer *is in$' "$scratch/bench.log")" = 2 ] || fail "$script: not let in twice"
+# the phone that answers by LM alone: turned away, and let in where LM is asked for
+[ "$(grep '^old phone *is ' "$scratch/bench.log" | tr -s ' ' | tr '\n' ,)" \
+    = 'old phone is not let in,old phone is in,' ] || fail "$script: the old phone fares otherwise"
 [ "$(grep -c 'its last reply again$' "$scratch/bench.log")" = 4 ] \
     || fail "$script: not each last reply is given again"
 [ "$(grep -c 'stores the account' "$scratch/bench.log")" = 1 ] || fail "$script stores it twice"

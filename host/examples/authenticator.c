@@ -96,9 +96,10 @@ static void open_conversation(mschap_conversation *talk, uint8_t *reply, size_t 
     draw(&identifier, sizeof identifier);
     do {
         draw(challenge, sizeof challenge);
-        number = mschap_open(identifier, MSCHAP_TERMS | MSCHAP_LM_REFUSED,
-                             challenge, sizeof challenge, list, sizeof list,
-                             talk, sizeof *talk, reply, reply_size);
+        /* Phones that answer by LM alone would need MSCHAP_TERMS | MSCHAP_LM_ALLOWED, and accounts
+           with an LM hash, which these have not. */
+        number = mschap_open(identifier, MSCHAP_TERMS, challenge, sizeof challenge,
+                             list, sizeof list, talk, sizeof *talk, reply, reply_size);
     } while (number == MSCHAP_SPENT);
     if (number == MSCHAP_LIST_FULL)
         die("the list is full: change the passwords, and remove it");

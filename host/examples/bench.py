@@ -6,7 +6,8 @@
 An authenticator challenges, and a peer answers with a mistyped password, then with the right one,
 which has expired. In the change its owner mistypes the old password, so that all is done again;
 then both talk with the new password. The peer misses the last reply of each conversation, and gets
-it again. Each packet is printed with what it means.
+it again. At the end comes an old phone, which answers by LM alone: an authenticator that was not
+asked for LM turns it away, and one that was lets it in. Each packet is printed with what it means.
 LIBRARY is libmschap.so; without it, the one beside this script or in ../lib. Nothing but the
 standard library of Python 3 is needed.
 
@@ -28,11 +29,13 @@ MSCHAP_CALL_RESPONSE = 1
 MSCHAP_CALL_CHANGE = 2
 MSCHAP_FOUND = 0x01
 MSCHAP_HAS_NT_HASH = 0x02
+MSCHAP_HAS_LM_HASH = 0x04
 MSCHAP_EXPIRED = 0x40
 MSCHAP_TERMS = 0x10000
-MSCHAP_LM_REFUSED = 0x200
+MSCHAP_LM_ALLOWED = 0x100
 MSCHAP_HASH_SIZE = 16
 MSCHAP_CHALLENGE_SIZE = 8
+MSCHAP_RESPONSE_SIZE = 24
 MSCHAP_FILLER_SIZE = 512
 MSCHAP_RECORD_SIZE = 41
 MSCHAP_CONVERSATION_SIZE = 58
@@ -144,22 +147,33 @@ def show(who, packet):
         print(f'{"":14}   .. and {len(packet) - len(shown)} bytes more')
 
 
+def nt_hash_of(text):
+    digest = room(MSCHAP_HASH_SIZE)
+    must('nt_hash', password_of(text), digest)
+    return digest
+
+
+def lm_hash_of(text):
+    digest = room(MSCHAP_HASH_SIZE)
+    must('lm_hash', text.encode('ascii'), digest)
+    return digest
+
+
 class Authenticator:
     """It knows one account, and keeps the list of the challenges that it has issued."""
 
-    def __init__(self, password):
-        digest = room(MSCHAP_HASH_SIZE)
-        must('nt_hash', password, digest)
-        self.record = room(MSCHAP_RECORD_SIZE)
-        flags = MSCHAP_FOUND | MSCHAP_HAS_NT_HASH | MSCHAP_EXPIRED
-        must('make_record', flags, digest, b'', self.record)
+    def __init__(self):
         self.issued = room(4 + 8 * 300)  # MSCHAP_LIST_SIZE(300)
         must('make_list', self.issued)
 
-    def open(self):
+    def knows(self, flags, nt_hash, lm_hash):
+        self.record = room(MSCHAP_RECORD_SIZE)
+        must('make_record', MSCHAP_FOUND | flags, nt_hash, lm_hash, self.record)
+
+    def open(self, asks_for=0):
         self.talk = room(MSCHAP_CONVERSATION_SIZE)
         reply = room(MSCHAP_REPLY_SIZE)
-        terms = MSCHAP_TERMS | (RETRIES + 1) | MSCHAP_LM_REFUSED  # MSCHAP_RETRIES(RETRIES)
+        terms = MSCHAP_TERMS | (RETRIES + 1) | asks_for  # MSCHAP_RETRIES(RETRIES)
         identifier = secrets.randbelow(256)
         challenge = secrets.token_bytes(MSCHAP_CHALLENGE_SIZE)
         must('open', identifier, terms, challenge, self.issued, self.talk, reply)
@@ -231,10 +245,25 @@ def converse(authenticator, tries, old, new):
     return calls_for == MSCHAP_CALL_NONE
 
 
+def old_phone(authenticator, text, asks_for):
+    """It answers by LM alone, as our peer never does: so its Response is put together here."""
+    challenge = authenticator.open(asks_for)
+    response = room(MSCHAP_RESPONSE_SIZE)
+    must('challenge_response', lm_hash_of(text), challenge[5:], response)
+    head = (2, challenge[1], 54 + len(NAME), 49)  # code, identifier, Length, size
+    packet = struct.pack('>BBHB24s24sB', *head, response.raw, bytes(24), 0) + NAME
+    print(f'old phone      answers with the password "{text}", by LM alone')
+    show('old phone', packet)
+    success = authenticator.judge(packet)[0] == 3
+    print('old phone     ', 'is in' if success else 'is not let in')
+    return success
+
+
 def main():
     version = call('version')
     print(f'libmschap {version >> 16}.{version >> 8 & 255}.{version & 255}')
-    authenticator = Authenticator(password_of('Grün 1'))
+    authenticator = Authenticator()
+    authenticator.knows(MSCHAP_HAS_NT_HASH | MSCHAP_EXPIRED, nt_hash_of('Grün 1'), b'')
     print('\n-- a mistyped password, then the right one, which has expired; mistyped in the change')
     typo = converse(authenticator, ['grün 1', 'Grün 1'], 'grün 1', 'Blau 🔑')
     print('\n-- all of it again, with the right one in the change')
@@ -243,9 +272,15 @@ def main():
     second = converse(authenticator, ['Blau 🔑'], None, None)
     print('\n-- and with the old one, until there is no retry left')
     third = converse(authenticator, ['Grün 1'] * (RETRIES + 1), None, None)
+    print('\n-- an old phone with the right password, where nobody asked for LM')
+    authenticator.knows(MSCHAP_HAS_LM_HASH, b'', lm_hash_of('GREEN 1'))
+    unasked = old_phone(authenticator, 'Green 1', 0)
+    print('\n-- and on a bench that asks for it')
+    asked = old_phone(authenticator, 'Green 1', MSCHAP_LM_ALLOWED)
     used = call('list_used', authenticator.issued)
     print(f'\nplaces used in the list of issued challenges: {used}')
-    sys.exit(0 if not typo and first and second and not third else 1)
+    let_in = [typo, first, second, third, unasked, asked]
+    sys.exit(0 if let_in == [False, True, True, False, False, True] else 1)
 
 
 LIBRARY = load()

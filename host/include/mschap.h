@@ -16,7 +16,7 @@
  *                        &record, sizeof record);
  *     getrandom(challenge, sizeof challenge, 0);          // unpredictable: from a CSPRNG
  *     mschap_open(1, MSCHAP_TERMS, challenge, sizeof challenge, list, sizeof list,
- *                 &talk, sizeof talk, reply, sizeof reply);
+ *                 &talk, sizeof talk, reply, sizeof reply);   // old phones: see OLD PHONES
  *     send(reply, mschap_packet_length(reply, sizeof reply));
  *     while ((size = receive(packet)) != 0) {             // each packet, while the link is up
  *         // who it is: mschap_account_offset, mschap_account_length
@@ -35,6 +35,15 @@
  *     }
  *
  * Check each return value. examples/authenticator.c and examples/peer.c are whole programs.
+ *
+ * OLD PHONES
+ *   A phone that answers by LM alone is let in only by a conversation that asks for LM:
+ *       mschap_open(1, MSCHAP_TERMS | MSCHAP_LM_ALLOWED, challenge, sizeof challenge, ..
+ *   LM is off in every other. Up to 0.4.0 MSCHAP_TERMS alone allowed it, so that an upgrade without
+ *   MSCHAP_LM_ALLOWED locks such phones out: their right password draws
+ *   MSCHAP_E_AUTHENTICATION_FAILURE, as a wrong one does. Ask for it on the benches that have such
+ *   phones and nowhere else: RFC 2433 (section 6) deprecates LM, and where it is allowed an account
+ *   with both hashes is as weak as its LM hash.
  *
  * LINKING
  *   `make lib` writes libmschap.a, libmschap.so, this header and mschap.pc below target/mschap, for
@@ -96,8 +105,8 @@ extern "C" {
 
 /* ---- versions */
 
-#define MSCHAP_VERSION 0x000400      /* of this interface: major, minor, patch, a byte each */
-#define MSCHAP_VERSION_TEXT "0.4.0"
+#define MSCHAP_VERSION 0x000500      /* of this interface: major, minor, patch, a byte each */
+#define MSCHAP_VERSION_TEXT "0.5.0"
 
 /* of the layout of each kind of value */
 #define MSCHAP_RECORD_LAYOUT 1
@@ -190,8 +199,8 @@ extern "C" {
 #define MSCHAP_TERMS 0x10000u
 /* how often a wrong password may be tried again, 0 to 7; the default is 2 */
 #define MSCHAP_RETRIES(n) ((uint32_t)(n) < 254u ? (uint32_t)(n) + 1u : 255u)
-#define MSCHAP_LM_ALLOWED 0x100u  /* a response by LM is judged; the default */
-#define MSCHAP_LM_REFUSED 0x200u  /* it is never valid */
+#define MSCHAP_LM_ALLOWED 0x100u  /* a response by LM is judged (see OLD PHONES) */
+#define MSCHAP_LM_REFUSED 0x200u  /* it is never valid; the default since 0.5.0 */
 
 /* ---- sizes, in bytes */
 
@@ -284,6 +293,8 @@ uint32_t mschap_nt_hash(const mschap_password *password, size_t password_size,
    convert the text to that code page first, to upper case where it has letters beyond a to z, and
    make no LM hash of a password that has a character outside it. Here a to z count as A to Z, and
    no other byte is changed. For a password of ASCII alone its bytes will do.
+   It counts only in conversations that ask for LM (see OLD PHONES): an account whose handset
+   answers by NT needs none.
    Returns MSCHAP_OK; MSCHAP_BAD_ARGUMENT unless hash is MSCHAP_HASH_SIZE bytes; MSCHAP_INPUT for a
    longer password.
    Stack: 3,336 bytes. */
@@ -331,7 +342,8 @@ uint32_t mschap_list_used(const uint8_t *list, size_t list_size);
 /* Opens a conversation with an identifier, 0 to 255, terms (MSCHAP_TERMS and what is joined to it)
    and a challenge of MSCHAP_CHALLENGE_SIZE bytes, which must be unpredictable: from a CSPRNG.
    Writes the conversation and, at the front of reply, the Challenge to send; the bytes behind it
-   are unchanged.
+   are unchanged. The terms hold to the end of the conversation: no packet allows LM in one that was
+   opened without MSCHAP_LM_ALLOWED.
 
    The list of issued challenges keeps a Response that was recorded at one authenticator from being
    accepted by another: pass the same list for all that know the same accounts, one opening at a

@@ -110,6 +110,8 @@ pub const REFUSED: Conversation = Conversation {
 
 /// Retries of an opening that names none.
 pub const DEFAULT_RETRIES: u8 = 2;
+/// Whether LM is allowed by an opening that is silent about it (request 2026-06).
+pub const DEFAULT_LM: bool = false;
 /// The most retries an opening may name.
 pub const MOST_RETRIES: u8 = 7;
 /// The change version told in each Failure.
@@ -196,7 +198,7 @@ pub fn open(
                 id,
                 challenge: *challenge,
                 retries,
-                lm: lm.unwrap_or(true),
+                lm: lm.unwrap_or(DEFAULT_LM),
                 phase: Phase::Response,
                 last: None,
             },

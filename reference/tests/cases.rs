@@ -12,10 +12,12 @@ use reference::script::{hex, Session};
 /// Fixed octets: the challenge, the password `MyPw` with its hash H and its response NR are those
 /// of RFC 2433 B.2; the others were computed by OpenSSL and by Nettle. Q is the new password
 /// `MyNewPw` with its hash HQ, L the LM hash of `MyPw`, ZR the response of a hash of octets 0, BAD
-/// that of the password `bad`; a name that ends in 23 is a response to the challenge after a retry.
+/// that of the password `bad`; a name that ends in 23 is a response to the challenge after a retry,
+/// one that ends in 46 after two.
 const CH: [u8; 8] = [0x10, 0x2D, 0xB5, 0xDF, 0x08, 0x5D, 0x30, 0x41];
 const CHX: &str = "102DB5DF085D3041";
 const CH23: &str = "272DB5DF085D3041";
+const CH46: &str = "3E2DB5DF085D3041";
 const P: &[u8] = b"M\0y\0P\0w\0";
 const Q: &[u8] = b"M\0y\0N\0e\0w\0P\0w\0";
 const BADPW: &[u8] = b"b\0a\0d\0";
@@ -24,6 +26,7 @@ const HQ: &str = "65DE9ADE0BBDA2AF5BE35786A8AF09C0";
 const L: &str = "75BA30198E6D1975AAD3B435B51404EE";
 const NR: &str = "4E9D3C8F9CFD385D5BF4D3246791956CA4C351AB409A3D61";
 const NR23: &str = "EF8A435F0EDFCA92DCE4BBF63684E55198E57BC92E85BB71";
+const NR46: &str = "D732CF955FA79A062796B4B3DABE31C2E55ACCFF0AB2B506";
 const NQ23: &str = "04CAA176F99FAF1483B33B81F89C21A1C28BECF860325FB7";
 const NQ: &str = "17A80923C6EEC24CB45683309E701DACDB9F7834A4521B1E";
 const LR: &str = "91881D0152AB0C33C524135EC24A95EE64E23CDC2D33347D";
@@ -202,7 +205,7 @@ impl Sheet {
         self.places();
         let result = self.ask(&format!("open {id} {challenge} {r} {lm} {B}"));
         let retries = if r == "-" { "2" } else { r };
-        let allowed = if lm == "no" { "no" } else { "yes" };
+        let allowed = if lm == "yes" { "yes" } else { "no" };
         let buffer = format!("01{id:02X}000D08{challenge}{}", hex(&[0xAA; 7]));
         assert_eq!(
             result,
@@ -217,10 +220,19 @@ impl Sheet {
         self.open(7, CHX, "-", "-");
     }
 
-    /// Opens and goes on to the awaited change.
+    /// The same with LM allowed: for every case in which a response by LM is judged.
+    fn open7_lm(&mut self) {
+        self.open(7, CHX, "-", "yes");
+    }
+
+    /// Opens and goes on to the awaited change; with no NT hash by LM, which is asked for.
     fn expire(&mut self, nt: &str, lm: &str) {
+        self.expire_with(nt, lm, if nt == "-" { "yes" } else { "-" });
+    }
+
+    fn expire_with(&mut self, nt: &str, lm: &str, choice: &str) {
         self.account(nt, lm, "0001");
-        self.open7();
+        self.open(7, CHX, "-", choice);
         let packet = if nt == "-" {
             resp(7, LR, Z24, 1, b"u")
         } else {
@@ -230,7 +242,10 @@ impl Sheet {
         assert_eq!(hex(answer.reply()), format!("04070011{E648}"));
         assert_eq!(
             answer.conversation,
-            format!("8 {CHX} 2 yes change {nt}/{lm}/0001")
+            format!(
+                "8 {CHX} 2 {} change {nt}/{lm}/0001",
+                if choice == "yes" { "yes" } else { "no" }
+            )
         );
     }
 
@@ -589,9 +604,9 @@ fn frames(s: &mut Sheet) {
         "failure 691 1 - 2 retry",
     );
     s.title("R-FRAME-5: the responses in their places");
-    s.open7();
+    s.open7_lm();
     s.success(&good);
-    s.open7();
+    s.open7_lm();
     s.failure(&resp(7, NR, Z24, 1, b"u"), "691", 1);
     s.title("R-FRAME-6: a Success may have a message");
     s.is("reply 9 030900066869", "success");
@@ -954,7 +969,7 @@ fn conversations(s: &mut Sheet) {
     s.title("R-CONV-4: the kept record is dropped at the end");
     s.expire(H, L);
     let answer = s.success(&change(8, &CH, P, Q));
-    assert_eq!(answer.conversation, format!("8 {CHX} 2 yes ended -"));
+    assert_eq!(answer.conversation, format!("8 {CHX} 2 no ended -"));
     assert_eq!(answer.record, format!("{HQ}/-/0000"));
     s.title("R-OPEN-1: any identifier");
     for id in [0, 1, 128, 255] {
@@ -974,7 +989,7 @@ fn conversations(s: &mut Sheet) {
     s.account(H, "-", "0000");
     s.open(7, CHX, "0", "-");
     let answer = s.failure(&bad, "691", 0);
-    assert_eq!(answer.conversation, format!("7 {CHX} 0 yes ended -"));
+    assert_eq!(answer.conversation, format!("7 {CHX} 0 no ended -"));
     s.title("R-OPEN-3: a silent opening has 2 retries");
     s.open7();
     s.failure(&bad, "691", 1);
@@ -996,19 +1011,7 @@ fn conversations(s: &mut Sheet) {
         "691",
     );
     s.refused(&resp(2, Z24, BAD, 1, b"u"), B, "1");
-    s.title("R-OPEN-4: LM allowed by a silent opening and by yes, not by no");
-    s.account("-", L, "0000");
-    for (lm, allowed) in [("-", true), ("yes", true), ("no", false)] {
-        for flag in [0, 1] {
-            s.open(7, CHX, "-", lm);
-            let packet = resp(7, LR, Z24, flag, b"u");
-            if allowed {
-                s.success(&packet);
-            } else {
-                s.failure(&packet, "691", 1);
-            }
-        }
-    }
+    lm_choices(s);
     s.title("R-REC-1: a hash of zeros is not none");
     s.account("00000000000000000000000000000000", "-", "0000");
     s.open7();
@@ -1018,15 +1021,76 @@ fn conversations(s: &mut Sheet) {
     s.failure(&resp(7, Z24, ZR, 1, b"u"), "691", 1);
     s.note("the same for LM");
     s.account("-", "00*16", "0000");
-    s.open7();
+    s.open7_lm();
     s.success(&resp(7, ZR, Z24, 0, b"u"));
     s.account(H, "-", "0000");
-    s.open7();
+    s.open7_lm();
     s.failure(&resp(7, ZR, Z24, 0, b"u"), "691", 1);
     s.title("R-REC-2: no record");
     s.is("account -", "");
     s.open7();
     s.failure(&good, "691", 1);
+}
+
+/// Request 2026-06, and its four rules: a silent opening disallows LM, as one that says no does.
+fn lm_choices(s: &mut Sheet) {
+    let choices = ["-", "yes", "no"];
+    s.title("CR06-1, -4: silent, yes and no: what each opens, r being 2");
+    for choice in choices {
+        s.open(7, CHX, "-", choice);
+    }
+    s.title(
+        "R-OPEN-4, CR06-1: silent, yes, no, each with flag 0 and 1, by the hashes of the record",
+    );
+    // who draws Success where the Response has flag 0, and where it has 1; all else is 691
+    let (nobody, asked, all) = ([false; 3], [false, true, false], [true; 3]);
+    for (hashes, nt, lm, both, lm_alone) in [
+        ("NT only", H, "-", (nobody, all), (nobody, nobody)),
+        ("LM only", "-", L, (asked, asked), (asked, asked)),
+        ("both", H, L, (asked, all), (asked, nobody)),
+    ] {
+        s.account(nt, lm, "0000");
+        for (responses, nt_response, lets_in) in [
+            ("both responses right", NR, both),
+            ("LM right, no NT", Z24, lm_alone),
+        ] {
+            s.note(&format!("{hashes}; {responses}"));
+            for (flag, lets_in) in [(0, lets_in.0), (1, lets_in.1)] {
+                for (choice, success) in choices.into_iter().zip(lets_in) {
+                    s.open(7, CHX, "-", choice);
+                    let packet = resp(7, LR, nt_response, flag, b"u");
+                    if success {
+                        s.success(&packet);
+                    } else {
+                        s.failure(&packet, "691", 1);
+                    }
+                }
+            }
+        }
+    }
+    s.title("CR06-1: where LM is off the marks are not told, and the answer is that of no record");
+    let by_lm = resp(7, LR, Z24, 0, b"u");
+    s.is("account -", "");
+    s.open7();
+    let none = s.failure(&by_lm, "691", 1);
+    s.account("-", L, "1111");
+    s.open7();
+    let off = s.failure(&by_lm, "691", 1);
+    assert_eq!(
+        (none.buffer, none.conversation),
+        (off.buffer, off.conversation)
+    );
+    s.note("it stays off after a retry, and while a change is awaited");
+    s.account(H, L, "0001");
+    s.failure(&resp(8, LR23, Z24, 0, b"u"), "691", 1);
+    let answer = s.failure(&resp(9, Z24, NR46, 1, b"u"), "648", 0);
+    let last = format!("10 {CH46} 0 no change {H}/{L}/0001");
+    assert_eq!(answer.conversation, last);
+    s.title("CR06-2: an account without an NT hash, where LM is asked for: in, and after a retry");
+    s.account("-", L, "0000");
+    s.open7_lm();
+    s.failure(&resp(7, Z24, NR, 0, b"u"), "691", 1);
+    s.success(&resp(8, LR23, Z24, 0, b"u"));
 }
 
 fn responses(s: &mut Sheet) {
@@ -1040,42 +1104,42 @@ fn responses(s: &mut Sheet) {
     s.failure(&with(&good, &[(29, &[0x4F])]), "691", 1);
     s.title("R-VALID-2: flag 1 and no NT hash");
     s.account("-", L, "0000");
-    s.open7();
+    s.open7_lm();
     s.success(&resp(7, LR, Z24, 1, b"u"));
-    s.open7();
+    s.open7_lm();
     s.failure(&resp(7, Z24, LR, 1, b"u"), "691", 1);
     s.open(7, CHX, "-", "no");
     s.failure(&resp(7, LR, Z24, 1, b"u"), "691", 1);
     s.title("R-VALID-3: flag 0 goes to LM");
     s.account(H, L, "0000");
-    s.open7();
+    s.open7_lm();
     s.success(&resp(7, LR, BAD, 0, b"u"));
-    s.open7();
+    s.open7_lm();
     s.failure(&resp(7, Z24, NR, 0, b"u"), "691", 1);
     s.open(7, CHX, "-", "no");
     s.failure(&resp(7, LR, NR, 0, b"u"), "691", 1);
-    s.open7();
+    s.open7_lm();
     s.failure(&with(&resp(7, LR, NR, 0, b"u"), &[(28, &[0x7C])]), "691", 1);
     s.title("R-VALID-4: neither hash");
     s.account("-", "-", "0000");
     for flag in [0, 1] {
-        s.open7();
+        s.open7_lm();
         s.failure(&resp(7, Z24, Z24, flag, b"u"), "691", 1);
     }
     s.title("R-VALID-5: no way back to LM");
     s.account(H, L, "0000");
-    s.open7();
+    s.open7_lm();
     s.failure(&resp(7, LR, BAD, 1, b"u"), "691", 1);
     s.title("R-VALID-6: the grown challenge after a retry");
     s.open7();
     let answer = s.failure(&bad, "691", 1);
-    assert_eq!(answer.conversation, format!("8 {CH23} 1 yes response -"));
+    assert_eq!(answer.conversation, format!("8 {CH23} 1 no response -"));
     s.success(&resp(8, Z24, NR23, 1, b"u"));
     s.open7();
     s.failure(&bad, "691", 1);
     s.failure(&resp(8, Z24, NR, 1, b"u"), "691", 1);
     s.note("LM after a retry");
-    s.open7();
+    s.open7_lm();
     s.failure(&bad, "691", 1);
     s.success(&resp(8, LR23, Z24, 0, b"u"));
     s.title("R-REASON-1: 691 before the marks");
@@ -1105,7 +1169,7 @@ fn responses(s: &mut Sheet) {
                 _ => "0",
             };
             s.account(nt, lm, &format!("{marks:04b}"));
-            s.open7();
+            s.open7_lm();
             if reason == "0" {
                 s.success(&packet);
             } else {
@@ -1138,7 +1202,7 @@ fn responses(s: &mut Sheet) {
         let answer = s.failure(&bad, "691", 1);
         assert_eq!(
             answer.conversation,
-            format!("8 {after}02030405060708 1 yes response -")
+            format!("8 {after}02030405060708 1 no response -")
         );
     }
     s.title("R-NEXT-4: expired, identifier 255");
@@ -1191,7 +1255,7 @@ fn responses(s: &mut Sheet) {
     s.is(
         &format!("open 7 {CHX} - - 0102030405060708090A0B0C0D0E0F1011"),
         &format!(
-            "0 13 0107000D08{CHX}0E0F1011 7 {CHX} 2 yes response - - {}",
+            "0 13 0107000D08{CHX}0E0F1011 7 {CHX} 2 no response - - {}",
             spent(CHX, 2)
         ),
     );
@@ -1248,10 +1312,12 @@ fn changes(s: &mut Sheet) {
     s.bad_change(&with(&chg, &[(1092, &bytes(NR))]), Fault::Response);
     s.expire(H, L);
     s.bad_change(&with(&chg, &[(1092, &bytes(NQ23))]), Fault::Response);
-    s.title("R-CHANGE-6: LM fields and bit 1 ignored");
-    s.expire(H, L);
+    s.title("R-CHANGE-6: LM fields and bit 1 ignored, whether LM is allowed or not");
     let filled = with(&chg, &[(536, &[0xFF; 556]), (1116, &[0, 3])]);
-    assert_eq!(s.success(&filled).record, renewed);
+    for choice in ["yes", "-"] {
+        s.expire_with(H, L, choice);
+        assert_eq!(s.success(&filled).record, renewed);
+    }
     s.title("R-CHANGE-7, R-SER-8: the record handed out; the new password may be the old one");
     s.expire(H, "-");
     assert_eq!(
@@ -1262,7 +1328,7 @@ fn changes(s: &mut Sheet) {
     s.expire(H, L);
     let wrong_old = change(8, &CH, BADPW, Q);
     let answer = s.bad_change(&wrong_old, Fault::Over);
-    assert_eq!(answer.conversation, format!("8 {CHX} 2 yes ended -"));
+    assert_eq!(answer.conversation, format!("8 {CHX} 2 no ended -"));
     s.repeats(&chg, B, &format!("04080011{E709}"), "709");
     s.refused(&with(&chg, &[(1, &[9])]), B, "1");
     s.refused(&resp(8, Z24, NR, 1, b"u"), B, "1");
@@ -1764,7 +1830,7 @@ fn slips(s: &mut Sheet) {
     assert!(sealed.ends_with("AE36AB02"));
     s.title("R-SLIP-4: LM right, NT wrong, flag 1");
     s.account(H, L, "0000");
-    s.open7();
+    s.open7_lm();
     s.failure(&resp(7, LR, BAD, 1, b"u"), "691", 1);
 }
 
@@ -1773,10 +1839,10 @@ fn table_of_twelve(s: &mut Sheet) {
     s.account(H, "-", "0000");
     s.open(255, "E802030405060708", "1", "-");
     let answer = s.failure(&resp(255, Z24, Z24, 1, b"u"), "691", 1);
-    assert_eq!(answer.conversation, "0 FF02030405060708 0 yes response -");
+    assert_eq!(answer.conversation, "0 FF02030405060708 0 no response -");
     s.open(7, "E902030405060708", "1", "-");
     let answer = s.failure(&resp(7, Z24, Z24, 1, b"u"), "691", 1);
-    assert_eq!(answer.conversation, "8 0002030405060708 0 yes response -");
+    assert_eq!(answer.conversation, "8 0002030405060708 0 no response -");
     s.is("expand FFFFFFFFFFFFFF", "FEFEFEFEFEFEFEFE");
     s.is("expand 01000000000000", "0080000000000000");
     s.places();
@@ -1928,7 +1994,7 @@ fn exchanges(s: &mut Sheet) {
     assert_eq!(peer.turn, format!("0 {CH23}"));
     let longest = vec![0x41; 512];
     let answer = peer.change(s, P, &longest, "success");
-    assert_eq!(answer.conversation, format!("0 {CH23} 0 yes ended -"));
+    assert_eq!(answer.conversation, format!("0 {CH23} 0 no ended -"));
     s.is("relend", "");
     let mut peer = Peer::meet(s, 1, "0");
     peer.respond(s, &longest, "success");
@@ -1961,7 +2027,7 @@ fn damaged(s: &mut Sheet) {
     s.account(H, L, "0000");
     for place in [0, 1, 2, 3, 4, 5, 28, 29, 36, 37, 44, 45, 52, 53, 54, 58] {
         for bit in [0x01, 0x80] {
-            s.open7();
+            s.open7_lm();
             let packet = with(&good, &[(place, &[good[place] ^ bit])]);
             let answer = s.step(&packet, B);
             let expected = match (place, bit) {
@@ -2093,7 +2159,7 @@ fn repeats(s: &mut Sheet) {
     s.account(H, L, "0000");
     s.open(7, CHX, "1", "-");
     let answer = s.failure(&bad, "691", 1);
-    assert_eq!(answer.conversation, format!("8 {CH23} 0 yes response -"));
+    assert_eq!(answer.conversation, format!("8 {CH23} 0 no response -"));
     s.repeats(&bad, B, &retry7, "691");
     s.note("the right password under the old identifier, to either challenge");
     s.repeats(&good, B, &retry7, "691");
@@ -2312,9 +2378,7 @@ impl Sheet {
     fn spends(&mut self, challenge: &str, r: u8, list: &str) {
         self.is(
             &format!("open 7 {challenge} {r} - AA*17"),
-            &format!(
-                "0 13 0107000D08{challenge}AAAAAAAA 7 {challenge} {r} yes response - - {list}"
-            ),
+            &format!("0 13 0107000D08{challenge}AAAAAAAA 7 {challenge} {r} no response - - {list}"),
         );
     }
 
@@ -2354,7 +2418,7 @@ fn issued_challenges(s: &mut Sheet) {
     s.is("places 4", "");
     s.is(
         &format!("open 7 {C1} - - AA*17"),
-        &format!("0 13 0107000D08{C1}AAAAAAAA 7 {C1} 2 yes response - - 3 {C1}{C18}{C2F}{Z8} 08:3"),
+        &format!("0 13 0107000D08{C1}AAAAAAAA 7 {C1} 2 no response - - 3 {C1}{C18}{C2F}{Z8} 08:3"),
     );
     s.note("the first octet wraps, with no carry");
     s.is("places 3", "");
@@ -2672,7 +2736,7 @@ fn issued_challenges(s: &mut Sheet) {
     let kept = format!("2 {CHX}{CH23}{Z8}{Z8} 41:2");
     s.spends(CHX, 1, &kept);
     let answer = s.failure(&resp(7, Z24, BAD, 1, b"u"), "691", 1);
-    assert_eq!(answer.conversation, format!("8 {CH23} 0 yes response -"));
+    assert_eq!(answer.conversation, format!("8 {CH23} 0 no response -"));
     s.success(&resp(8, Z24, NR23, 1, b"u"));
     s.keeps(CHX, 0, 16, &kept);
     s.keeps(CH23, 0, 16, &kept);

@@ -1,10 +1,12 @@
 //! The printed demonstration, `crates/demo/stdout`, by the independent program: each Response is
 //! made from the password that the line behind it names, each retry answers the right challenge,
-//! each repeat draws the last reply again, beside each 709 stands what is wrong with the change,
-//! and `docs/SLIPS.md` shows no octets that no program has written.
+//! each repeat draws the last reply again, LM is judged where the box was asked for it alone, beside
+//! each 709 stands what is wrong with the change, and `docs/SLIPS.md` shows no octets that no
+//! program has written.
 
-use reference::authenticator::{step, Account, Answer, Conversation, Fault, Phase};
+use reference::authenticator::{open, step, Account, Answer, Conversation, Fault, Phase};
 use reference::hashes::{challenge_response, lm_hash, nt_hash};
+use reference::issued::Issued;
 use reference::peer::{write_change, Turn};
 use std::fs;
 use std::path::Path;
@@ -106,9 +108,14 @@ fn every_response_is_from_the_password_that_is_named() {
                 _ => challenge,
             };
             let password = named(behind).unwrap_or_else(|| panic!("no password: {behind}"));
-            let expected = challenge_response(&hash(password), &answered);
+            let by_lm = behind.contains("by LM alone");
+            let expected = match by_lm {
+                true => [0; 24],
+                false => challenge_response(&hash(password), &answered),
+            };
             assert_eq!(packet[29..53], expected, "{behind}");
-            let lm = match behind.contains("the right LM response") {
+            assert_eq!(packet[53], u8::from(!by_lm), "{behind}");
+            let lm = match by_lm || behind.contains("the right LM response") {
                 true => challenge_response(&lm_hash(b"MyPw").unwrap(), &challenge),
                 false => [0; 24],
             };
@@ -117,7 +124,7 @@ fn every_response_is_from_the_password_that_is_named() {
             compared += 1;
         }
     }
-    assert_eq!(compared, 32);
+    assert_eq!(compared, 34);
 }
 
 #[test]
@@ -135,6 +142,56 @@ fn every_repeat_draws_the_last_reply() {
         assert_eq!(lines[place + 3], *before);
     }
     assert_eq!(repeats.len(), 3);
+}
+
+/// The three Responses with the right LM response: beside a wrong NT response at a box that was asked
+/// for LM; by LM alone at one that was told nothing of it; and by LM alone where it was asked for.
+#[test]
+fn lm_is_judged_where_the_box_was_asked_for_it() {
+    let text = read("crates/demo/stdout");
+    let lines: Vec<&str> = text.lines().collect();
+    let account = Account {
+        nt: Some(hash("MyPw")),
+        lm: Some(lm_hash(b"MyPw").unwrap()),
+        ..Account::default()
+    };
+    let says = |line: &str, words: &str| line.contains(words);
+    let mut replies = Vec::new();
+    for (place, line) in lines.iter().enumerate() {
+        let beside = says(line, "with the right LM response beside it");
+        if !beside && !says(line, "by LM alone") {
+            continue;
+        }
+        // What is said of the box stands before its Challenge.
+        let opened = lines[..place]
+            .iter()
+            .rposition(|l| l.starts_with("   <- Challenge "));
+        let asked = match (beside, lines[opened.unwrap() - 1]) {
+            (false, words) if says(words, "asks for LM") => Some(true),
+            (false, _) => None,
+            (true, _) => Some(true),
+        };
+        let packet = last_octets(lines[place - 1]);
+        let challenge = eight(&last_octets(lines[opened.unwrap()])[5..13]);
+        let mut issued = Issued {
+            list: &mut [0; 8],
+            used: 0,
+            counts: &mut [0; 256],
+        };
+        let opening = open(
+            packet[1],
+            &challenge,
+            Some(0),
+            asked,
+            &mut issued,
+            &mut [0; 17],
+        );
+        let mut reply = [0; 17];
+        let answer = step(&opening.conversation, &packet, Some(&account), &mut reply);
+        assert_eq!(last_octets(lines[place + 1]), reply[..answer.written]);
+        replies.push((asked, answer.reason));
+    }
+    assert_eq!(replies, [(Some(true), 691), (None, 691), (Some(true), 0)]);
 }
 
 /// The change that a line shows the first octets of: the one that our peer writes, from the old

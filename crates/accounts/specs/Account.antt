@@ -60,6 +60,14 @@ abbrev pub changed : Account → List ℕ → Account
 changed a h =
     accountWith (hashOf h) noHash (a .disabled) (a .«hours_denied») (a .«dialin_denied») false
 
+-- ---- barred by no mark
+
+-- neither disabled, barred by hours nor without dial-in, whatever hashes there are
+pub record Unbarred (a : Account) : Type 0 where
+  pub enabled : a .disabled ≡ false
+  pub hours : a .«hours_denied» ≡ false
+  pub dialin : a .«dialin_denied» ≡ false
+
 -- ---- the rightful user's
 
 -- with an NT hash, and neither disabled, barred by hours nor without dial-in (document 01, demand

@@ -10,6 +10,7 @@ pub mod Bound
 pub mod Spends
 pub mod Openings
 pub mod InForce
+pub mod Terms
 pub mod Replies
 pub mod Faults
 pub mod Written

@@ -41,9 +41,9 @@ abbrev pub retriesOf : Retries → ℕ
 retriesOf Default = defaultRetries
 retriesOf (Count r) = r
 
--- LM is allowed unless the opening says no
+-- "An opening that is silent about LM now disallows it" (document 02, request 2026-06)
 abbrev pub lmAllowed : LmChoice → Bool
-lmAllowed Silent = true
+lmAllowed Silent = false
 lmAllowed Allowed = true
 lmAllowed Disallowed = false
 

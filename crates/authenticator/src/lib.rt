@@ -61,7 +61,7 @@ pub enum Retries {
     Count(u8),
 }
 
-// What an opening says of LM, or leaves silent.
+// What an opening says of LM; one that is silent disallows it.
 pub enum LmChoice {
     Silent,
     Allowed,

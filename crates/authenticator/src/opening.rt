@@ -37,7 +37,7 @@ fn is_lm_allowed(lm: LmChoice) -> bool
     ensures { λ r. ⌜ r ≡ lmAllowed lm ⌝ }
 {
     match lm {
-        LmChoice::Silent => true,
+        LmChoice::Silent => false,
         LmChoice::Allowed => true,
         LmChoice::Disallowed => false,
     }

@@ -2,20 +2,19 @@
 // missed, a change that is not accepted, and the slips that cost weeks. Each packet is a line: who
 // sends it, its kind, its identifier and its octets; a sentence says what it means.
 mod exchanges;
-mod slips;
 
 use loopback::say;
 
 // What a student needs to read the rest.
 fn key() {
     say(b"A box (the authenticator) and a peer talk MS-CHAP version 1: the six exchanges of");
-    say(b"RFC 2433, B.1, a reply that is missed, a change that is not accepted, and eleven slips,");
+    say(b"RFC 2433, B.1, a reply that is missed, a change that is not accepted, and twelve slips,");
     say(b"each with what to look at. The account is BENCH\\user; its password is 'MyPw', a wrong");
     say(b"one 'bad', a new one 'MyNewPw'.");
     say(b"<- is a packet of the box, -> one of the peer, with its first 64 octets in hexadecimal.");
     say(b"Octets are counted from 0. Behind code, identifier and Length (two octets) a packet has");
     say(b"   Challenge        08, and from octet 5 on the challenge: eight octets to be answered");
-    say(b"   Response         31, the LM response, from octet 29 on the NT response, 01, the name");
+    say(b"   Response         31, the LM response, the NT response (from octet 29 on), flag, name");
     say(b"   Failure          a message: E why, R=1 if a retry is allowed, V the change's version");
     say(b"   Change Password  the sealed new password and, from octet 1092 on, the NT response");
     say(b"Beside a 709 the box tells the support desk what was wrong, and the peer nothing of it.");

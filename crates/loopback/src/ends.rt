@@ -84,7 +84,13 @@ fn say_opening(opened: Opened, challenge: [u8; 8], sent: &[u8]) {
 
 // The opening, on a list of issued challenges: the box sends a Challenge, and the peer reads it; or
 // the box refuses to open.
-pub fn opening_on(list: IssuedList, id: u8, challenge: [u8; 8], retries: Retries) -> Loopback {
+fn opening_with(
+    list: IssuedList,
+    id: u8,
+    challenge: [u8; 8],
+    retries: Retries,
+    lm: LmChoice,
+) -> Loopback {
     let mut octets = list.octets;
     let mut counts = list.counts;
     let mut reply = [0u8; 17];
@@ -92,7 +98,7 @@ pub fn opening_on(list: IssuedList, id: u8, challenge: [u8; 8], retries: Retries
         id,
         challenge,
         retries,
-        LmChoice::Silent,
+        lm,
         &mut octets,
         list.used,
         &mut counts,
@@ -113,6 +119,16 @@ pub fn opening_on(list: IssuedList, id: u8, challenge: [u8; 8], retries: Retries
         },
         updated,
     }
+}
+
+// The opening of a box that nothing was told of LM, so that it does not judge it.
+pub fn opening_on(list: IssuedList, id: u8, challenge: [u8; 8], retries: Retries) -> Loopback {
+    opening_with(list, id, challenge, retries, LmChoice::Silent)
+}
+
+// The opening of a box that is alone on its list, and asks for LM, as a bench with old phones does.
+pub fn opening_for_lm(id: u8, challenge: [u8; 8], retries: Retries) -> Loopback {
+    opening_with(empty_list(), id, challenge, retries, LmChoice::Allowed)
 }
 
 // The opening of a box that is alone on its list.

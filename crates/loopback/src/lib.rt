@@ -15,6 +15,7 @@ pub use ends::change_of;
 pub use ends::new_one;
 pub use ends::old_hash;
 pub use ends::opening;
+pub use ends::opening_for_lm;
 pub use ends::opening_on;
 pub use ends::response;
 pub use ends::right;

@@ -17,3 +17,5 @@ pub mod WrongWriters
 pub mod OneList
 pub mod Shared
 pub mod WrongOpeners
+pub mod LmAsked
+pub mod WrongLm

@@ -110,7 +110,8 @@ module _ (c : Conversation) (t : Turn) (h : InStep c t) (fresh : Fresh c) (ph : 
     pub right-taken : step c try (found a) b ≡ judgedAs c
         (cond (a .expired) (expiredFor c a) (accepted c)) b
     right-taken =
-        valid-law c try b try-passes a ph g
+        valid-law c try b try-passes a ph
+        (record { enabled = g .enabled; hours = g .hours; dialin = g .dialin })
         (right-valid c t (h .challenge) password name after named a (g .nt) right)
 
 -- ---- the change

@@ -132,11 +132,11 @@ handsOutRecord c s =
       buffer = s .buffer;
     }
 
--- changes the conversation: from then on LM is allowed
-abbrev pub withLm : Conversation → Conversation
-withLm c =
+-- a conversation in which LM is allowed or not
+abbrev pub withLm : Bool → Conversation → Conversation
+withLm allowed c =
     record {
-      terms = record { lm = true };
+      terms = record { lm = allowed };
       id = c .id;
       challenge = c .challenge;
       retries = c .retries;
@@ -145,8 +145,9 @@ withLm c =
       last = c .last;
     }
 
+-- changes the conversation: from then on LM is allowed
 abbrev pub allowsLm : Box
-allowsLm c s = refusedAs (refusalAt stepOn c s) (withLm c) (s .buffer)
+allowsLm c s = refusedAs (refusalAt stepOn c s) (withLm true c) (s .buffer)
 
 -- ends the conversation without a reply, and calls the packet judged
 abbrev pub endsUnseen : Box

@@ -1,15 +1,18 @@
--- Our way to open, and wrong ones. The claim about one list (specs/OneList) holds of ours
--- (proofs/OneList) and of none of the others (proofs/WrongOpeners).
+-- Our way to open, and wrong ones. The claims about one list (specs/OneList) and about LM
+-- (specs/LmAsked) hold of ours (proofs/OneList, LmAsked) and of none of the others
+-- (proofs/WrongOpeners, WrongLm).
 -- Assumes nothing: these are definitions.
+use mathlib.Core.Bool.{Bool}
 use mathlib.Core.List.{List}
 use Prim.Native.Nat.{ℕ}
 use lib.ListN.{length}
 use Rattle.issued.specs.Issued.{Issued}
 use Rattle.authenticator.specs.Conversation.{closed}
 use Rattle.authenticator.specs.Opening.{Opening, retriesOf, openRefusal, firstConversation, openingPacket, opened, openedIssued, openedBuffer}
+use Rattle.authenticator.specs.declared.LmChoice.{LmChoice}
 use Rattle.authenticator.specs.declared.Opened.{Opened}
 use Rattle.authenticator.specs.declared.Retries.the-variants.{Count}
-use Rattle.series.specs.Boxes.{withRetries}
+use Rattle.series.specs.Boxes.{withRetries, withLm}
 
 -- what an opening answers, and what it leaves in the list and in the reply buffer
 pub record Opener : Type 0 where
@@ -77,6 +80,22 @@ spendsOne =
           };
       leaves = λ o. openedIssued (noRetries o);
       reply = λ o. openedBuffer (noRetries o);
+    }
+
+-- takes the three choices about LM in one way or another
+abbrev pub takesLm : (LmChoice → Bool) → Opener
+takesLm allowed =
+    record {
+      answer = λ o.
+          let a = opened o in
+          record {
+            refusal = a .refusal;
+            conversation = withLm (allowed (o .lm)) (a .conversation);
+            written = a .written;
+            used = a .used;
+          };
+      leaves = openedIssued;
+      reply = openedBuffer;
     }
 
 -- what the promise of the authenticator's `open` says

@@ -1,5 +1,5 @@
--- The reasons that a Response draws: which there are, and which an invalid and a rightful user's
--- valid one draw.
+-- The reasons that a Response draws: which there are, and which an invalid one draws, and a valid
+-- one of an account that no mark bars.
 -- Assumes nothing.
 use mathlib.Core.Bool.{Bool, true, false, cond, not}
 use mathlib.Core.List.{List}
@@ -7,7 +7,7 @@ use mathlib.Core.Logic.{_≢_}
 use mathlib.Core.Path.{_≡_}
 use Prim.Native.Nat.{ℕ, _<_}
 use native.Mathlib.Omega.{arith}
-use Rattle.accounts.specs.Account.{found, Rightful}
+use Rattle.accounts.specs.Account.{found, Unbarred}
 use Rattle.accounts.specs.declared.Account.{Account}
 use Rattle.accounts.specs.declared.Lookup.{Lookup}
 use Rattle.message.specs.Reasons.{
@@ -86,8 +86,8 @@ module _ (t : Terms) (challenge : List ℕ) (f : Response) where
   unfolding responseReason firstReason
   reason-invalid l v = simp v
 
-  -- a valid one of a rightful user
-  pub rightful-reason : (a : Account) → Rightful a → valid t challenge a f ≡ true
+  -- a valid one that no mark bars
+  pub unbarred-reason : (a : Account) → Unbarred a → valid t challenge a f ≡ true
       → responseReason t challenge (found a) f ≡ cond (a .expired) passwordExpired noReason
   unfolding responseReason firstReason
-  rightful-reason a g v = rw (v, g .enabled, g .hours, g .dialin)
+  unbarred-reason a g v = rw (v, g .enabled, g .hours, g .dialin)

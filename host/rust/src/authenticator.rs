@@ -13,12 +13,24 @@ pub enum Awaited {
     Nothing,
 }
 
-/// The terms of a conversation. `Terms::default()` has the defaults of both.
+/// The terms of a conversation. `Terms::default()` has the defaults of both: 2 retries, and LM off.
+///
+/// A bench whose phones answer by LM alone asks for it:
+///
+/// ```
+/// use mschap::Terms;
+///
+/// let terms = Terms { lm_allowed: Some(true), ..Terms::default() };
+/// ```
+///
+/// Without it every LM response draws 691, the right one too. Only an opening that asks for LM
+/// judges one: an account that has both hashes can then be guessed at by its LM hash, much the
+/// weaker.
 #[derive(Clone, Copy, Debug, Default, PartialEq, Eq)]
 pub struct Terms {
     /// How often a wrong password may be tried again, 0 to 7; with `None` it is 2.
     pub retries: Option<u8>,
-    /// A response by LM is judged; else it is never valid. With `None` it is judged.
+    /// A response by LM is judged; else, and with `None`, it is never valid.
     pub lm_allowed: Option<bool>,
 }
 

@@ -6,7 +6,7 @@
 //! each one does. Here every value is bytes: the types around this module tell them apart.
 
 /// The version of the interface that is declared here: major, minor and patch, a byte each.
-pub const VERSION: u32 = 0x000400;
+pub const VERSION: u32 = 0x000500;
 
 /// The version of a record's layout.
 pub const RECORD_LAYOUT: u8 = 1;
@@ -64,9 +64,9 @@ pub const EXPIRED: u32 = 0x40;
 
 /// The terms of a conversation: the defaults.
 pub const TERMS: u32 = 0x10000;
-/// To be joined to the terms: a response by LM is judged.
+/// To be joined to the terms: a response by LM is judged. Without it none is valid.
 pub const LM_ALLOWED: u32 = 0x100;
-/// To be joined to the terms: a response by LM is never valid.
+/// To be joined to the terms: a response by LM is never valid; the default.
 pub const LM_REFUSED: u32 = 0x200;
 
 /// To be joined to the terms: how often a wrong password may be tried again.

@@ -236,7 +236,7 @@ fn openings() {
             let opened = layout::to_conversation(&conversation).expect("a conversation");
             let count = retries.unwrap_or(2);
             assert_eq!((u32::from(opened.retries), opened.id), (count, 255));
-            assert_eq!(opened.lm, lm != sys::LM_REFUSED, "{terms:#x}");
+            assert_eq!(opened.lm, lm == sys::LM_ALLOWED, "{terms:#x}");
             assert_eq!(sys::list_used(&list), count + 1);
         }
     }

@@ -7,6 +7,7 @@ mod functions;
 #[path = "../layout/mod.rs"]
 mod layout;
 mod lists;
+mod lm;
 mod packets;
 mod random;
 mod readers;

@@ -92,12 +92,17 @@ fn read_among(
     call
 }
 
-/// Opens in both, with the same bytes in both buffers, and a list with room for the one opening.
+/// Opens in both, with any choice about LM, or none.
 fn open(random: &mut Random) -> (Boxes, Peers) {
+    let lm = random.chance(80).then(|| random.chance(70));
+    open_with(random, lm)
+}
+
+/// Opens in both, with the same bytes in both buffers, and a list with room for the one opening.
+pub fn open_with(random: &mut Random, lm: Option<bool>) -> (Boxes, Peers) {
     let id = random.octet();
     let challenge = random.array();
     let retries = random.chance(80).then(|| random.below(8) as u8);
-    let lm = random.chance(80).then(|| random.chance(70));
     let size = random.between(17, 40);
     let mut our_reply = random.octets(size);
     let mut their_reply = our_reply.clone();

@@ -13,6 +13,7 @@ use loopback::new_one;
 use loopback::next_challenge;
 use loopback::old_hash;
 use loopback::opening;
+use loopback::opening_for_lm;
 use loopback::opening_on;
 use loopback::place;
 use loopback::right;
@@ -154,33 +155,63 @@ fn unknown() {
     wrongly_for(opening_with(0), account(false));
 }
 
+// The LM hash of the right password, and its response to the usual challenge.
+fn lm_hash() -> [u8; 16] {
+    credentials::lm_hash(b"MyPw").hash
+}
+
+fn lm_response() -> [u8; 24] {
+    credentials::challenge_response(lm_hash(), challenge())
+}
+
 // The account with an LM hash too.
-fn account_with_lm(octets: [u8; 16]) -> Lookup {
+fn account_with_lm() -> Lookup {
     let nt = accounts::hash_of(old_hash());
-    let lm = accounts::hash_of(octets);
+    let lm = accounts::hash_of(lm_hash());
     accounts::found(accounts::account_with(nt, lm, false, false, false, false))
 }
 
 // A wrong password, with another LM response than the zeros that our peer writes.
-fn wrongly_with_lm(loopback: Loopback, lm: [u8; 24], lookup: Lookup) {
+fn wrongly_with_lm(loopback: Loopback) {
     let guess = wrong();
+    let lm = lm_response();
     let mut out = [0u8; 310];
     let wrote = write_response(loopback, &guess, &mut out);
     octets::copy_at(&mut out, 5, &lm);
     place(b"the right LM response", 5, &lm);
     let made = b"The peer answers from a wrong password, with the right LM response beside it.";
-    answered(loopback, wrote, &out, made, lookup);
+    answered(loopback, wrote, &out, made, account_with_lm());
 }
 
-// The Response has a wrong NT response and the right LM response.
+// The Response has a wrong NT response and the right LM response. The box was asked for LM: one
+// that does not judge LM would turn it away with the slip too.
 fn fallback() {
     title(b"Slip: falling back to LM when the NT response is wrong.");
-    say(b"   With flag 1 the LM response is not looked at. Look at the reply: the slip would send");
-    say(b"   Success, 03070004.");
-    let hash = credentials::lm_hash(b"MyPw").hash;
-    let loopback = opening(7, challenge(), Retries::Count(0));
-    let lm = credentials::challenge_response(hash, challenge());
-    wrongly_with_lm(loopback, lm, account_with_lm(hash));
+    say(b"   With flag 1 the LM response is not looked at, though this box was asked for LM. Look");
+    say(b"   at the reply: the slip would send Success, 03070004.");
+    wrongly_with_lm(opening_for_lm(7, challenge(), Retries::Count(0)));
+}
+
+// An old phone's Response: the right LM response, no NT response, and the flag 0.
+fn by_lm_alone(loopback: Loopback) {
+    let guess = wrong();
+    let lm = lm_response();
+    let nothing = [0u8; 25];
+    let mut out = [0u8; 310];
+    let wrote = write_response(loopback, &guess, &mut out);
+    octets::copy_at(&mut out, 5, &lm);
+    octets::copy_at(&mut out, 29, &nothing);
+    let made = b"An old phone answers from the right password, by LM alone: octet 53 is 00.";
+    answered(loopback, wrote, &out, made, account_with_lm());
+}
+
+fn unasked() {
+    title(b"Slip: LM judged though nobody asked for it.");
+    say(b"   The flag, octet 53, says which response is meant: 00 is LM, the weak one. This box");
+    say(b"   was told nothing of LM. Look at the reply: the slip would send Success, 03070004.");
+    by_lm_alone(opening(7, challenge(), Retries::Count(0)));
+    say(b"   A bench with old phones asks for LM when it opens. The same Response there:");
+    by_lm_alone(opening_for_lm(7, challenge(), Retries::Count(0)));
 }
 
 // A guess under the identifier that was answered, and then the retry, both from the right password.
@@ -261,12 +292,13 @@ fn incremented() {
     slipped(1092, &response);
 }
 
-pub(crate) fn all() {
+pub fn all() {
     shared();
     carry();
     disabled();
     unknown();
     fallback();
+    unasked();
     judged_again();
     by_old_hash();
     second_key();

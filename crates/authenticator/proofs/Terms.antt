@@ -1,0 +1,55 @@
+-- The terms, which the opening fixes, are those of the whole conversation: no step changes them.
+-- Assumes nothing.
+use mathlib.Core.Bool.{Bool, true, false, cond}
+use mathlib.Core.List.{List}
+use mathlib.Core.Path.{_≡_, refl, ap, _∙_}
+use Prim.Native.Nat.{ℕ}
+use lib.Dec.{eqb}
+use Rattle.accounts.specs.declared.Account.{Account}
+use Rattle.accounts.specs.declared.Lookup.{Lookup}
+use Rattle.message.specs.Reasons.{passwordExpired}
+use Rattle.verify.specs.Response.{responseReason}
+use Rattle.packets.specs.Response.{readResponse}
+use Rattle.authenticator.specs.Conversation.{ended, retried, awaitingChange}
+use Rattle.authenticator.specs.Judge.{
+  mayRetry,
+  afterReason,
+  judgeResponse,
+  judgeChange,
+  judgeIn,
+  judge,
+}
+use Rattle.authenticator.specs.Step.{Outcome}
+use Rattle.authenticator.specs.Steps.{StepInput, stepOn, nextAfter}
+use Rattle.authenticator.specs.declared.Conversation.{Conversation}
+use Rattle.authenticator.specs.declared.Phase.{Phase}
+use Rattle.authenticator.specs.declared.Phase.the-variants.{Response, Change, Ended}
+use Rattle.authenticator.proofs.Steps.{Case, refused, repeated, judged, case-of}
+
+after-terms : (c : Conversation) (a : Account) (e : ℕ) → afterReason c a e .terms ≡ c .terms
+after-terms c a e = which (mayRetry c e) (eqb e passwordExpired)
+  where
+    which : (t u : Bool)
+        → cond t (retried c) (cond u (awaitingChange c a) (ended c)) .terms ≡ c .terms
+    which true u = refl
+    which false true = refl
+    which false false = refl
+
+judged-terms : (ph : Phase) (c : Conversation) (p : List ℕ) (l : Lookup)
+    → judgeIn ph c p l .next .terms ≡ c .terms
+unfolding judgeResponse judgeChange
+judged-terms Response c p l =
+    after-terms c (l .account) (responseReason (c .terms) (c .challenge) l (readResponse p))
+judged-terms Change c p l = refl
+judged-terms Ended c p l = refl
+
+-- for any packet, record and buffer
+pub step-keeps-terms : (c : Conversation) (s : StepInput) → nextAfter stepOn c s .terms ≡ c .terms
+unfolding judge
+step-keeps-terms c s = which (case-of c (s .packet) (s .account) (s .buffer))
+  where
+    which : Case c (s .packet) (s .account) (s .buffer) → nextAfter stepOn c s .terms ≡ c .terms
+    which (refused n e) = ap (λ (o : Outcome). o .answer .next .terms) e
+    which (repeated z r e) = ap (λ (o : Outcome). o .answer .next .terms) e
+    which (judged ok e) = ap (λ (o : Outcome). o .answer .next .terms) e
+        ∙ judged-terms (c .phase) c (s .packet) (s .account)
