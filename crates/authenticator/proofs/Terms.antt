@@ -1,9 +1,11 @@
--- The terms, which the opening fixes, are those of the whole conversation: no step changes them.
+-- The terms, which the opening fixes: LM is off unless it was asked for, and no step changes them.
 -- Assumes nothing.
 use mathlib.Core.Bool.{Bool, true, false, cond}
 use mathlib.Core.List.{List}
+use mathlib.Core.Logic.{_≢_}
 use mathlib.Core.Path.{_≡_, refl, ap, _∙_}
 use Prim.Native.Nat.{ℕ}
+use borrow.Author.Tests.{eqb-true, eqb-false}
 use lib.Dec.{eqb}
 use Rattle.accounts.specs.declared.Account.{Account}
 use Rattle.accounts.specs.declared.Lookup.{Lookup}
@@ -11,6 +13,7 @@ use Rattle.message.specs.Reasons.{passwordExpired}
 use Rattle.verify.specs.Response.{responseReason}
 use Rattle.packets.specs.Response.{readResponse}
 use Rattle.authenticator.specs.Conversation.{ended, retried, awaitingChange}
+use Rattle.authenticator.specs.Opening.{Opening, lmAllowed, opened}
 use Rattle.authenticator.specs.Judge.{
   mayRetry,
   afterReason,
@@ -22,9 +25,35 @@ use Rattle.authenticator.specs.Judge.{
 use Rattle.authenticator.specs.Step.{Outcome}
 use Rattle.authenticator.specs.Steps.{StepInput, stepOn, nextAfter}
 use Rattle.authenticator.specs.declared.Conversation.{Conversation}
+use Rattle.authenticator.specs.declared.LmChoice.{LmChoice}
+use Rattle.authenticator.specs.declared.LmChoice.the-variants.{Silent, Allowed, Disallowed}
+use Rattle.authenticator.specs.declared.Opened.{Opened}
 use Rattle.authenticator.specs.declared.Phase.{Phase}
 use Rattle.authenticator.specs.declared.Phase.the-variants.{Response, Change, Ended}
+use Rattle.authenticator.proofs.Openings.{opened-first, opened-not}
 use Rattle.authenticator.proofs.Steps.{Case, refused, repeated, judged, case-of}
+
+-- ---- the opening
+
+-- silence is no
+not-asked : (l : LmChoice) → l ≢ Allowed → lmAllowed l ≡ false
+not-asked Silent h = refl
+not-asked Allowed h = absurd (h refl)
+not-asked Disallowed h = refl
+
+-- in what an opening hands out, refused or not
+pub opened-off : (o : Opening) → o .lm ≢ Allowed → opened o .conversation .terms .lm ≡ false
+opened-off o h = which (eqb (opened o .refusal) 0) refl
+  where
+    which : (t : Bool) → eqb (opened o .refusal) 0 ≡ t → opened o .conversation .terms .lm ≡ false
+    which true e =
+        ap (λ (c : Conversation). c .terms .lm)
+        (opened-first o (eqb-true (opened o .refusal) 0 e))
+        ∙ not-asked (o .lm) h
+    which false e = ap (λ (x : Opened). x .conversation .terms .lm)
+        (opened-not o (eqb-false (opened o .refusal) 0 e) .0)
+
+-- ---- the steps
 
 after-terms : (c : Conversation) (a : Account) (e : ℕ) → afterReason c a e .terms ≡ c .terms
 after-terms c a e = which (mayRetry c e) (eqb e passwordExpired)

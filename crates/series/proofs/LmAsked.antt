@@ -3,10 +3,9 @@
 -- Assumes nothing.
 use mathlib.Core.Bool.{Bool, true, false, cond, _&&_, and-false}
 use mathlib.Core.List.{List}
-use mathlib.Core.Logic.{_≢_}
-use mathlib.Core.Path.{_≡_, refl, sym, ap, ap₂, _∙_, subst}
+use mathlib.Core.Path.{_≡_, refl, sym, ap, ap₂, _∙_}
 use Prim.Native.Nat.{ℕ}
-use borrow.Author.Tests.{eqb-true, eqb-false, not-true}
+use borrow.Author.Tests.{not-true}
 use lib.Dec.{eqb}
 use Rattle.octets.specs.Parts.{agrees}
 use Rattle.octets.proofs.Parts.{agrees-refl}
@@ -15,7 +14,7 @@ use Rattle.message.specs.Reasons.{passwordExpired}
 use Rattle.message.specs.Message.{textOf}
 use Rattle.packets.specs.Response.{readResponse}
 use Rattle.packets.specs.Reply.{successPacket, failurePacket}
-use Rattle.accounts.specs.Account.{notFound, found}
+use Rattle.accounts.specs.Account.{notFound}
 use Rattle.accounts.specs.declared.Account.{Account}
 use Rattle.accounts.specs.declared.Lookup.{Lookup}
 use Rattle.verify.specs.Response.{answers, valid, foundValid}
@@ -24,18 +23,12 @@ use Rattle.authenticator.specs.Admit.{refusalFor}
 use Rattle.authenticator.specs.Encode.{version, replyPacket}
 use Rattle.authenticator.specs.Judge.{validIn}
 use Rattle.authenticator.specs.Opening.{Opening, lmAllowed, firstConversation, opened}
-use Rattle.authenticator.specs.Step.{Outcome}
 use Rattle.authenticator.specs.Steps.{StepInput, stepOn, replyOf, nextAfter}
 use Rattle.authenticator.specs.declared.Conversation.{Conversation}
-use Rattle.authenticator.specs.declared.LmChoice.{LmChoice}
-use Rattle.authenticator.specs.declared.LmChoice.the-variants.{Silent, Allowed, Disallowed}
-use Rattle.authenticator.specs.declared.Opened.{Opened}
-use Rattle.authenticator.specs.declared.Phase.the-variants.{Response}
 use Rattle.authenticator.proofs.Admitted.{Passes, passed}
 use Rattle.authenticator.proofs.Judged.{expiredFor, accepted, valid-law, same-invalid}
-use Rattle.authenticator.proofs.Openings.{opened-first, opened-not}
 use Rattle.authenticator.proofs.Steps.{reply-of}
-use Rattle.authenticator.proofs.Terms.{step-keeps-terms}
+use Rattle.authenticator.proofs.Terms.{opened-off, step-keeps-terms}
 use Rattle.series.specs.Boxes.{withLm}
 use Rattle.series.specs.Openers.{ourOpener}
 use Rattle.series.specs.LmAsked.{goesToLm, withNoRecord, OldPhone, LmAsked}
@@ -63,25 +56,7 @@ pub lm-off : (c : Conversation) (s : StepInput) → c .terms .lm ≡ false → g
 lm-off c s off by = same-invalid c (s .packet) (s .buffer) (s .account) notFound
     (not-by-lm c s off by) refl
 
--- silence is no
-not-asked : (l : LmChoice) → l ≢ Allowed → lmAllowed l ≡ false
-not-asked Silent h = refl
-not-asked Allowed h = absurd (h refl)
-not-asked Disallowed h = refl
-
--- what an opening hands out, refused or not
-opened-off : (o : Opening) → o .lm ≢ Allowed → opened o .conversation .terms .lm ≡ false
-opened-off o h = which (eqb (opened o .refusal) 0) refl
-  where
-    which : (t : Bool) → eqb (opened o .refusal) 0 ≡ t → opened o .conversation .terms .lm ≡ false
-    which true e =
-        ap (λ (c : Conversation). c .terms .lm)
-        (opened-first o (eqb-true (opened o .refusal) 0 e))
-        ∙ not-asked (o .lm) h
-    which false e = ap (λ (x : Opened). x .conversation .terms .lm)
-        (opened-not o (eqb-false (opened o .refusal) 0 e) .0)
-
--- and no step allows it
+-- no step allows it
 stays-off : (c : Conversation) (s : StepInput) → c .terms .lm ≡ false
     → nextAfter stepOn c s .terms .lm ≡ false
 stays-off c s off = ap (λ (t : Terms). t .lm) (step-keeps-terms c s) ∙ off

@@ -3,7 +3,7 @@
 -- out. The sample of an old phone shows that its premises can be met.
 -- Assumes nothing.
 use mathlib.Core.Bool.{Bool, true, false, not, _&&_, false≢true}
-use mathlib.Core.List.{List, [], _∷_, _++_}
+use mathlib.Core.List.{[], _∷_, _++_}
 use mathlib.Core.Logic.{_≢_}
 use mathlib.Core.Path.{_≡_, refl, ap, ap₂, _∙_, subst}
 use Prim.Native.Nat.{ℕ}
@@ -20,7 +20,6 @@ use Rattle.packets.specs.declared.Response as fields
 use Rattle.packets.proofs.ReadBack.{ResponseBack, response-back}
 use Rattle.accounts.specs.Account.{noHash, notFound, found, hashOf, accountWith}
 use Rattle.accounts.specs.declared.Account.{Account}
-use Rattle.authenticator.specs.Admit.{refusalFor}
 use Rattle.authenticator.specs.Opening.{Opening, lmAllowed, firstConversation, opened}
 use Rattle.authenticator.specs.Step.{Outcome}
 use Rattle.authenticator.specs.Steps.{StepInput, stepOn, replyOf}

@@ -6,7 +6,6 @@ use mathlib.Core.Bool.{Bool, true, false, cond, not, _&&_}
 use mathlib.Core.List.{List}
 use mathlib.Core.Logic.{_≢_}
 use mathlib.Core.Path.{_≡_}
-use Prim.Native.Nat.{ℕ}
 use lib.Dec.{eqb}
 use Rattle.credentials.specs.Credentials.{responseOf}
 use Rattle.message.specs.Reasons.{passwordExpired}
