@@ -3,7 +3,6 @@
 //! here, by document 01's rule of a valid Response, and both implementations must answer so.
 
 use crate::both::Boxes;
-use crate::packets;
 use crate::random::Random;
 use crate::run::{run, Seen};
 use crate::series;
@@ -55,8 +54,8 @@ fn response(
         false => random.array(),
     };
     let (nt, lm) = (made(nt, nt_right), made(lm, lm_right));
-    let name = packets::name(random);
-    packet::response(conversation.id, &lm, &nt, flag, &name)
+    let size = random.pick(&[1, 4, 9, 256]);
+    packet::response(conversation.id, &lm, &nt, flag, &random.octets(size))
 }
 
 fn conversation(random: &mut Random, seen: &mut Seen) {
