@@ -141,6 +141,14 @@ impl Stepped {
     fn reply(&self) -> &[u8] {
         &self.buffer[..self.written]
     }
+
+    /// The same reply and the same next conversation, octet for octet.
+    fn answers_as(&self, other: &Stepped) {
+        assert_eq!(
+            (&self.buffer, &self.conversation),
+            (&other.buffer, &other.conversation)
+        );
+    }
 }
 
 struct Sheet {
@@ -1076,10 +1084,7 @@ fn lm_choices(s: &mut Sheet) {
     s.account("-", L, "1111");
     s.open7();
     let off = s.failure(&by_lm, "691", 1);
-    assert_eq!(
-        (none.buffer, none.conversation),
-        (off.buffer, off.conversation)
-    );
+    off.answers_as(&none);
     s.note("it stays off after a retry, and while a change is awaited");
     s.account(H, L, "0001");
     s.failure(&resp(8, LR23, Z24, 0, b"u"), "691", 1);
@@ -1224,10 +1229,7 @@ fn responses(s: &mut Sheet) {
     s.account(H, L, "1111");
     s.open7();
     let invalid = s.failure(&bad, "691", 1);
-    assert_eq!(
-        (none.buffer, none.conversation),
-        (invalid.buffer, invalid.conversation)
-    );
+    invalid.answers_as(&none);
     s.note("with no retries left");
     s.is("account -", "");
     s.open(7, CHX, "0", "-");
@@ -1235,10 +1237,7 @@ fn responses(s: &mut Sheet) {
     s.account(H, L, "1111");
     s.open(7, CHX, "0", "-");
     let invalid = s.failure(&bad, "691", 0);
-    assert_eq!(
-        (none.buffer, none.conversation),
-        (invalid.buffer, invalid.conversation)
-    );
+    invalid.answers_as(&none);
     s.title("R-REPLY-4: the later octets of the buffer stay, in buffers of 17, 18 and 40 octets");
     s.account(H, L, "0000");
     for size in [17, 18, 40] {
