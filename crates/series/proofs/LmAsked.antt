@@ -3,6 +3,7 @@
 -- Assumes nothing.
 use mathlib.Core.Bool.{Bool, true, false, cond, _&&_, and-false}
 use mathlib.Core.List.{List}
+use mathlib.Core.Logic.{_≢_}
 use mathlib.Core.Path.{_≡_, refl, sym, ap, ap₂, _∙_}
 use Prim.Native.Nat.{ℕ}
 use borrow.Author.Tests.{not-true}
@@ -10,27 +11,32 @@ use lib.Dec.{eqb}
 use Rattle.octets.specs.Parts.{agrees}
 use Rattle.octets.proofs.Parts.{agrees-refl}
 use Rattle.credentials.specs.Credentials.{responseOf}
-use Rattle.message.specs.Reasons.{passwordExpired}
+use Rattle.message.specs.Reasons.{authenticationFailure, passwordExpired}
 use Rattle.message.specs.Message.{textOf}
 use Rattle.packets.specs.Response.{readResponse}
 use Rattle.packets.specs.Reply.{successPacket, failurePacket}
 use Rattle.accounts.specs.Account.{notFound}
 use Rattle.accounts.specs.declared.Account.{Account}
 use Rattle.accounts.specs.declared.Lookup.{Lookup}
-use Rattle.verify.specs.Response.{answers, valid, foundValid}
+use Rattle.verify.specs.Response.{answers, valid, foundValid, firstReason, responseReason}
 use Rattle.verify.specs.declared.Terms.{Terms}
 use Rattle.authenticator.specs.Admit.{refusalFor}
 use Rattle.authenticator.specs.Encode.{version, replyPacket}
-use Rattle.authenticator.specs.Judge.{validIn}
+use Rattle.authenticator.specs.Judge.{reasonOf, validIn, judgeResponse, judgeIn, judge}
 use Rattle.authenticator.specs.Opening.{Opening, lmAllowed, firstConversation, opened}
+use Rattle.authenticator.specs.Step.{Outcome, reasonIn}
 use Rattle.authenticator.specs.Steps.{StepInput, stepOn, replyOf, nextAfter}
 use Rattle.authenticator.specs.declared.Conversation.{Conversation}
+use Rattle.authenticator.specs.declared.LmChoice.the-variants.{Allowed}
+use Rattle.authenticator.specs.declared.Phase.{Phase}
+use Rattle.authenticator.specs.declared.Phase.the-variants.{Response}
 use Rattle.authenticator.proofs.Admitted.{Passes, passed}
 use Rattle.authenticator.proofs.Judged.{expiredFor, accepted, valid-law, same-invalid}
-use Rattle.authenticator.proofs.Steps.{reply-of}
+use Rattle.authenticator.proofs.Steps.{judged-step, reply-of}
 use Rattle.authenticator.proofs.Terms.{opened-off, step-keeps-terms}
 use Rattle.series.specs.Boxes.{withLm}
 use Rattle.series.specs.Openers.{ourOpener}
+use Rattle.series.specs.OneList.{reached}
 use Rattle.series.specs.LmAsked.{goesToLm, withNoRecord, OldPhone, LmAsked}
 use Rattle.series.proofs.Invariant.{end-keeps}
 use Rattle.series.proofs.OneList.{opens-where-it-may}
@@ -60,6 +66,31 @@ lm-off c s off by = same-invalid c (s .packet) (s .buffer) (s .account) notFound
 stays-off : (c : Conversation) (s : StepInput) → c .terms .lm ≡ false
     → nextAfter stepOn c s .terms .lm ≡ false
 stays-off c s off = ap (λ (t : Terms). t .lm) (step-keeps-terms c s) ∙ off
+
+-- so at any place of a conversation that was opened without asking for LM
+module _ (o : Opening) (h : o .lm ≢ Allowed) (ss : List StepInput) (s : StepInput)
+    (by : goesToLm s ≡ true) where
+  abbrev place : Conversation
+  place = reached ourOpener o ss
+
+  off-here : stepOn place s ≡ stepOn place (withNoRecord s)
+  off-here =
+      lm-off place s (end-keeps (nextAfter stepOn) (λ (c : Conversation). c .terms .lm ≡ false)
+      stays-off (opened o .conversation) (opened-off o h) ss) by
+
+  unknown-reason : (ph : Phase) → ph ≡ Response
+      → reasonOf (judgeIn ph place (s .packet) notFound .reply) ≡ authenticationFailure
+  unfolding judgeResponse responseReason firstReason
+  unknown-reason ph e = ap (λ (x : Phase). reasonOf (judgeIn x place (s .packet) notFound .reply)) e
+
+  -- a Response that is judged draws 691, whatever is in it and in the record
+  pub none-in : place .phase ≡ Response → Passes place (s .packet) (s .buffer)
+      → reasonIn (stepOn place s .answer .kind) ≡ authenticationFailure
+  unfolding judge
+  none-in ph ok =
+      ap (λ (x : Outcome). reasonIn (x .answer .kind))
+      (off-here ∙ judged-step place (s .packet) notFound (s .buffer) ok)
+      ∙ unknown-reason (place .phase) ph
 
 -- ---- on
 
@@ -110,9 +141,7 @@ module _ (o : Opening) (a : Account) (s : StepInput) (phone : OldPhone o a s) wh
 pub lm-asked : LmAsked ourOpener
 lm-asked =
     record {
-      off = λ o h ss s by.
-          lm-off _ s (end-keeps (nextAfter stepOn) (λ (c : Conversation). c .terms .lm ≡ false)
-          stays-off (opened o .conversation) (opened-off o h) ss) by;
+      off = off-here;
       on = λ o asked may a s phone.
           ap (λ (c : Conversation). replyOf (stepOn c s)) (opens-where-it-may o may .1)
           ∙ ap (λ (t : Bool). replyOf (stepOn (withLm t (firstConversation o)) s))

@@ -23,9 +23,9 @@ pub enum Awaited {
 /// let terms = Terms { lm_allowed: Some(true), ..Terms::default() };
 /// ```
 ///
-/// Without it every LM response draws 691, the right one too. Only an opening that asks for LM
-/// judges one: an account that has both hashes can then be guessed at by its LM hash, much the
-/// weaker.
+/// Without it every LM response draws 691, the right one too. Up to 0.4.0 `None` allowed LM: an
+/// upgrade without this choice locks those phones out. Ask for it there alone, since an account
+/// that has both hashes can then be guessed at by its LM hash, much the weaker.
 #[derive(Clone, Copy, Debug, Default, PartialEq, Eq)]
 pub struct Terms {
     /// How often a wrong password may be tried again, 0 to 7; with `None` it is 2.
