@@ -39,11 +39,12 @@
  * OLD PHONES
  *   A phone that answers by LM alone is let in only by a conversation that asks for LM:
  *       mschap_open(1, MSCHAP_TERMS | MSCHAP_LM_ALLOWED, challenge, sizeof challenge, ..
- *   LM is off in every other. Up to 0.4.0 MSCHAP_TERMS alone allowed it, so that an upgrade without
- *   MSCHAP_LM_ALLOWED locks such phones out: their right password draws
- *   MSCHAP_E_AUTHENTICATION_FAILURE, as a wrong one does. Ask for it on the benches that have such
- *   phones and nowhere else: RFC 2433 (section 6) deprecates LM, and where it is allowed an account
- *   with both hashes is as weak as its LM hash.
+ *   So is any phone whose account has an LM hash and no NT hash. Either way the account needs an LM
+ *   hash, which a change of the password removes. LM is off in every other conversation.
+ *   Up to 0.4.0 MSCHAP_TERMS alone allowed LM: an upgrade without MSCHAP_LM_ALLOWED locks those
+ *   phones out, and their right password draws MSCHAP_E_AUTHENTICATION_FAILURE, as a wrong one
+ *   does. Ask for it on the benches that have such phones and nowhere else: RFC 2433 (section 6)
+ *   deprecates LM, and where it is allowed an account with both hashes is as weak as its LM hash.
  *
  * LINKING
  *   `make lib` writes libmschap.a, libmschap.so, this header and mschap.pc below target/mschap, for

@@ -1025,7 +1025,7 @@ fn conversations(s: &mut Sheet) {
     s.open7();
     s.success(&resp(7, Z24, ZR, 1, b"u"));
     s.account("-", "-", "0000");
-    s.open7();
+    s.open7_lm();
     s.failure(&resp(7, Z24, ZR, 1, b"u"), "691", 1);
     s.note("the same for LM");
     s.account("-", "00*16", "0000");
@@ -1040,7 +1040,7 @@ fn conversations(s: &mut Sheet) {
     s.failure(&good, "691", 1);
 }
 
-/// Request 2026-06, and its four rules: a silent opening disallows LM, as one that says no does.
+/// Request 2026-06, CR06-1, -2 and -4: a silent opening disallows LM, as one that says no does.
 fn lm_choices(s: &mut Sheet) {
     let choices = ["-", "yes", "no"];
     s.title("CR06-1, -4: silent, yes and no: what each opens, r being 2");

@@ -1,6 +1,6 @@
 //! The printed demonstration, `crates/demo/stdout`, by the independent program: each Response is
 //! made from the password that the line behind it names, each retry answers the right challenge,
-//! each repeat draws the last reply again, LM is judged where the box was asked for it alone, beside
+//! each repeat draws the last reply again, LM is judged only where the box was asked for it, beside
 //! each 709 stands what is wrong with the change, and `docs/SLIPS.md` shows no octets that no
 //! program has written.
 
@@ -144,8 +144,9 @@ fn every_repeat_draws_the_last_reply() {
     assert_eq!(repeats.len(), 3);
 }
 
-/// The three Responses with the right LM response: beside a wrong NT response at a box that was asked
-/// for LM; by LM alone at one that was told nothing of it; and by LM alone where it was asked for.
+/// The three Responses with the right LM response: beside a wrong NT response at a box that was
+/// asked for LM; by LM alone at one that was told nothing of it, and at one that was asked for it.
+/// The line behind a Challenge says of a box, by its own conversation, that it judges LM.
 #[test]
 fn lm_is_judged_where_the_box_was_asked_for_it() {
     let text = read("crates/demo/stdout");
@@ -155,43 +156,48 @@ fn lm_is_judged_where_the_box_was_asked_for_it() {
         lm: Some(lm_hash(b"MyPw").unwrap()),
         ..Account::default()
     };
-    let says = |line: &str, words: &str| line.contains(words);
-    let mut replies = Vec::new();
+    let mut told = Vec::new();
     for (place, line) in lines.iter().enumerate() {
-        let beside = says(line, "with the right LM response beside it");
-        if !beside && !says(line, "by LM alone") {
+        let beside = line.contains("with the right LM response beside it");
+        if !beside && !line.contains("by LM alone") {
             continue;
         }
-        // What is said of the box stands before its Challenge.
-        let opened = lines[..place]
-            .iter()
-            .rposition(|l| l.starts_with("   <- Challenge "));
-        let asked = match (beside, lines[opened.unwrap() - 1]) {
-            (false, words) if says(words, "asks for LM") => Some(true),
-            (false, _) => None,
-            (true, _) => Some(true),
-        };
+        let challenges = |line: &&str| line.starts_with("   <- Challenge ");
+        let opened = lines[..place].iter().rposition(challenges).unwrap();
+        let asked = lines[opened + 2]
+            .contains("This box was asked for LM")
+            .then_some(true);
         let packet = last_octets(lines[place - 1]);
-        let challenge = eight(&last_octets(lines[opened.unwrap()])[5..13]);
+        let challenge = eight(&last_octets(lines[opened])[5..13]);
         let mut issued = Issued {
             list: &mut [0; 8],
             used: 0,
             counts: &mut [0; 256],
         };
+        let mut reply = [0; 17];
         let opening = open(
             packet[1],
             &challenge,
             Some(0),
             asked,
             &mut issued,
-            &mut [0; 17],
+            &mut reply,
         );
-        let mut reply = [0; 17];
         let answer = step(&opening.conversation, &packet, Some(&account), &mut reply);
         assert_eq!(last_octets(lines[place + 1]), reply[..answer.written]);
-        replies.push((asked, answer.reason));
+        told.push((beside, asked, answer.reason));
     }
-    assert_eq!(replies, [(Some(true), 691), (None, 691), (Some(true), 0)]);
+    let expected = [
+        (true, Some(true), 691),
+        (false, None, 691),
+        (false, Some(true), 0),
+    ];
+    assert_eq!(told, expected);
+    // and no other box was
+    let asked = lines
+        .iter()
+        .filter(|line| line.contains("was asked for LM"));
+    assert_eq!(asked.count(), 2);
 }
 
 /// The change that a line shows the first octets of: the one that our peer writes, from the old
@@ -237,7 +243,7 @@ fn answered(packet: &[u8], challenge: [u8; 8]) -> Answer {
         id: packet[1],
         challenge,
         retries: 2,
-        lm: true,
+        lm: false,
         phase: Phase::Change(kept),
         last: None,
     };

@@ -1,5 +1,5 @@
--- What a packet that passes the checks draws: an invalid Response, a valid one that no mark bars, an
--- accepted change. And "No record and an invalid response give the same reply and the same next
+-- What a packet that passes the checks draws: an invalid Response, a valid one that no mark bars,
+-- an accepted change. And "No record and an invalid response give the same reply and the same next
 -- conversation, octet for octet."
 -- Assumes nothing.
 use mathlib.Core.Bool.{Bool, true, false, cond}

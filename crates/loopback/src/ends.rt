@@ -73,10 +73,13 @@ fn empty_list() -> IssuedList {
     }
 }
 
-// Prints the Challenge, or that the box refuses to open.
+// Prints the Challenge, and whether the box judges LM; or that it refuses to open.
 fn say_opening(opened: Opened, challenge: [u8; 8], sent: &[u8]) {
+    let conversation = opened.conversation;
+    let terms = conversation.terms;
     if opened.refusal == 0 {
         lines::from_box(sent);
+        lines::judges_lm(terms.lm);
     } else {
         lines::refused_opening(opened.refusal, challenge);
     }
@@ -121,12 +124,12 @@ fn opening_with(
     }
 }
 
-// The opening of a box that nothing was told of LM, so that it does not judge it.
+// The same of a box that was told nothing of LM, so that it does not judge it.
 pub fn opening_on(list: IssuedList, id: u8, challenge: [u8; 8], retries: Retries) -> Loopback {
     opening_with(list, id, challenge, retries, LmChoice::Silent)
 }
 
-// The opening of a box that is alone on its list, and asks for LM, as a bench with old phones does.
+// The same of a box that was asked for LM, as on a bench with old phones, and is alone on its list.
 pub fn opening_for_lm(id: u8, challenge: [u8; 8], retries: Retries) -> Loopback {
     opening_with(empty_list(), id, challenge, retries, LmChoice::Allowed)
 }

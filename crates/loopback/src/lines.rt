@@ -126,6 +126,13 @@ pub(crate) fn from_box(octets: &[u8]) {
     meaning(octets);
 }
 
+// That the box was asked for LM, where it was.
+pub(crate) fn judges_lm(lm: bool) {
+    if lm {
+        say(b"      This box was asked for LM: it judges an LM response too.");
+    }
+}
+
 // A packet of the peer, and what it was made from.
 pub(crate) fn from_peer(octets: &[u8], made: &[u8]) {
     packet(b"   -> ", octets);

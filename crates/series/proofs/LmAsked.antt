@@ -21,6 +21,7 @@ use Rattle.accounts.specs.declared.Lookup.{Lookup}
 use Rattle.verify.specs.Response.{answers, valid, foundValid, firstReason, responseReason}
 use Rattle.verify.specs.declared.Terms.{Terms}
 use Rattle.authenticator.specs.Admit.{refusalFor}
+use Rattle.authenticator.specs.Conversation.{isEnded}
 use Rattle.authenticator.specs.Encode.{version, replyPacket}
 use Rattle.authenticator.specs.Judge.{reasonOf, validIn, judgeResponse, judgeIn, judge}
 use Rattle.authenticator.specs.Opening.{Opening, lmAllowed, firstConversation, opened}
@@ -83,7 +84,7 @@ module _ (o : Opening) (h : o .lm ≢ Allowed) (ss : List StepInput) (s : StepIn
   unfolding judgeResponse responseReason firstReason
   unknown-reason ph e = ap (λ (x : Phase). reasonOf (judgeIn x place (s .packet) notFound .reply)) e
 
-  -- a Response that is judged draws 691, whatever is in it and in the record
+  -- where it is judged it draws 691, whatever the LM response and the record are
   pub none-in : place .phase ≡ Response → Passes place (s .packet) (s .buffer)
       → reasonIn (stepOn place s .answer .kind) ≡ authenticationFailure
   unfolding judge
@@ -108,7 +109,8 @@ module _ (o : Opening) (a : Account) (s : StepInput) (phone : OldPhone o a s) wh
   unfolding valid answers
   lm-valid =
       let f = readResponse (s .packet) in
-      let by = ap (λ (l : Lookup). eqb (f .flag) 1 && l .account .nt .present) (sym (phone .account))
+      let by = ap (λ (l : Lookup). eqb (f .flag) 1 && l .account .nt .present)
+      (sym (phone .account))
       ∙ not-true (eqb (f .flag) 1 && s .account .account .nt .present) (phone .lm) in
       let right = ap (λ (r : List ℕ). agrees r (responseOf (a .lm .octets) (o .challenge)))
       (phone .response)
@@ -147,4 +149,6 @@ lm-asked =
           ∙ ap (λ (t : Bool). replyOf (stepOn (withLm t (firstConversation o)) s))
           (ap lmAllowed asked)
           ∙ phone-in o a s phone;
+      opens = λ o may.
+          ap (λ (c : Conversation). isEnded (c .phase)) (opens-where-it-may o may .1);
     }

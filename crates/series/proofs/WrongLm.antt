@@ -1,8 +1,9 @@
--- The claim about LM leaves one way to take the three choices: an opener that takes silence for
--- yes, allows LM against the opening's word or does not allow it where it was asked for is shut
--- out. The sample of an old phone shows that its premises can be met.
+-- Of the eight ways to take silence, yes and no for LM allowed or not, the claim about LM leaves
+-- ours: an opener that takes silence for yes, allows LM against the opening's word or does not
+-- allow it where it was asked for is shut out. So is one that refuses to open where nothing is
+-- said. The sample of an old phone shows that the premises can be met.
 -- Assumes nothing.
-use mathlib.Core.Bool.{Bool, true, false, not, _&&_, false≢true}
+use mathlib.Core.Bool.{Bool, true, false, not, _&&_, false≢true, true≢false}
 use mathlib.Core.List.{[], _∷_, _++_}
 use mathlib.Core.Logic.{_≢_}
 use mathlib.Core.Path.{_≡_, refl, ap, ap₂, _∙_, subst}
@@ -32,7 +33,7 @@ use Rattle.authenticator.proofs.Judged.{tryAgain, invalid-law}
 use Rattle.authenticator.proofs.Openings.{opened-first, may-open-empty}
 use Rattle.authenticator.proofs.Steps.{reply-of}
 use Rattle.series.specs.Boxes.{withLm}
-use Rattle.series.specs.Openers.{takesLm}
+use Rattle.series.specs.Openers.{refusesSilence, takesLm}
 use Rattle.series.specs.OneList.{Openable}
 use Rattle.series.specs.LmAsked.{goesToLm, withNoRecord, OldPhone, LmAsked}
 use Rattle.series.proofs.LmAsked.{lm-off, phone-passes, phone-in}
@@ -133,7 +134,12 @@ module _ (l : LmChoice) where
       → takesLm takes .answer (sample l) .conversation ≡ first t
   handed takes e = ap₂ withLm e (opened-first (sample l) (opens l))
 
--- ---- one way to take them
+-- ---- refuses silence
+
+pub not-refusing-silence : (n : ℕ) → LmAsked (refusesSilence n) → ⊥
+not-refusing-silence n claim = true≢false (claim .opens (sample Silent) (openable Silent))
+
+-- ---- one way to take the choices
 
 module _ (takes : LmChoice → Bool) (claim : LmAsked (takesLm takes)) where
   not-yes : (l : LmChoice) → l ≢ Allowed → takes l ≡ false

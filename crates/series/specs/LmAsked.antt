@@ -21,7 +21,7 @@ use Rattle.authenticator.specs.Steps.{StepInput, replyOf}
 use Rattle.authenticator.specs.declared.LmChoice.the-variants.{Allowed}
 use Rattle.series.specs.Boxes.{ourBox}
 use Rattle.series.specs.Openers.{Opener}
-use Rattle.series.specs.OneList.{Openable, reached}
+use Rattle.series.specs.OneList.{Openable, Opens, reached}
 
 -- Document 01, "How the box judges": the NT responses count with "flag 1 and an NT hash"; with
 -- "flag 1 and no NT hash, or flag 0" LM does.
@@ -61,7 +61,13 @@ module _ (opener : Opener) where
       ≡ cond (a .expired) (failurePacket (o .id) (textOf passwordExpired 0 version))
       (successPacket (o .id))
 
+  -- Whatever is said of LM, an opening that needs nothing more hands out a conversation that goes
+  -- on. Without this an opener that refuses to open where nothing is said would meet the rest.
+  abbrev pub OpensEitherWay : Type 0
+  OpensEitherWay = (o : Opening) → Openable o → Opens opener o
+
   -- the whole claim about LM
   pub record LmAsked : Type 0 where
     pub off : OffUnlessAsked
     pub on : OnIfAsked
+    pub opens : OpensEitherWay

@@ -1,8 +1,8 @@
 -- Our way to open, and wrong ones. The claims about one list (specs/OneList) and about LM
--- (specs/LmAsked) hold of ours (proofs/OneList, LmAsked) and of none of the others
--- (proofs/WrongOpeners, WrongLm).
+-- (specs/LmAsked) hold of ours (proofs/OneList, LmAsked); each of the others fails one of them
+-- (proofs/WrongOpeners, WrongLm), `takesLm` in every way but ours.
 -- Assumes nothing: these are definitions.
-use mathlib.Core.Bool.{Bool}
+use mathlib.Core.Bool.{Bool, true, false, cond}
 use mathlib.Core.List.{List}
 use Prim.Native.Nat.{ℕ}
 use lib.ListN.{length}
@@ -10,6 +10,7 @@ use Rattle.issued.specs.Issued.{Issued}
 use Rattle.authenticator.specs.Conversation.{closed}
 use Rattle.authenticator.specs.Opening.{Opening, retriesOf, openRefusal, firstConversation, openingPacket, opened, openedIssued, openedBuffer}
 use Rattle.authenticator.specs.declared.LmChoice.{LmChoice}
+use Rattle.authenticator.specs.declared.LmChoice.the-variants.{Silent, Allowed, Disallowed}
 use Rattle.authenticator.specs.declared.Opened.{Opened}
 use Rattle.authenticator.specs.declared.Retries.the-variants.{Count}
 use Rattle.series.specs.Boxes.{withRetries, withLm}
@@ -80,6 +81,20 @@ spendsOne =
           };
       leaves = λ o. openedIssued (noRetries o);
       reply = λ o. openedBuffer (noRetries o);
+    }
+
+-- refuses an opening that is silent about LM, with one number or another
+abbrev pub isSilent : LmChoice → Bool
+isSilent Silent = true
+isSilent Allowed = false
+isSilent Disallowed = false
+
+abbrev pub refusesSilence : ℕ → Opener
+refusesSilence n =
+    record {
+      answer = λ o. cond (isSilent (o .lm)) (refusesToOpen n .answer o) (opened o);
+      leaves = λ o. cond (isSilent (o .lm)) (o .issued) (openedIssued o);
+      reply = λ o. cond (isSilent (o .lm)) (o .buffer) (openedBuffer o);
     }
 
 -- takes the three choices about LM in one way or another

@@ -187,8 +187,8 @@ fn wrongly_with_lm(loopback: Loopback) {
 // that does not judge LM would turn it away with the slip too.
 fn fallback() {
     title(b"Slip: falling back to LM when the NT response is wrong.");
-    say(b"   With flag 1 the LM response is not looked at, though this box was asked for LM. Look");
-    say(b"   at the reply: the slip would send Success, 03070004.");
+    say(b"   With flag 1 the LM response is not looked at, even by a box that judges LM. Look at");
+    say(b"   the reply: the slip would send Success, 03070004.");
     wrongly_with_lm(opening_for_lm(7, challenge(), Retries::Count(0)));
 }
 

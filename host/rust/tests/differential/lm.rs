@@ -70,7 +70,7 @@ fn conversation(random: &mut Random, seen: &mut Seen) {
         expired: random.chance(20),
         ..Account::default()
     };
-    // invalid tries, as long as a retry is left, so that what the opening said is still in force
+    // invalid tries, as long as a retry is left: what the opening said is still in force after them
     for _ in 0..random.below(usize::from(boxes.theirs.retries) + 1) {
         let packet = response(random, &boxes.theirs, [nt, lm], [false; 2], flag);
         assert_eq!(reply(&mut boxes, &packet, Some(&account)).0, 691);
