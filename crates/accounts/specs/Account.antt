@@ -60,10 +60,10 @@ abbrev pub changed : Account → List ℕ → Account
 changed a h =
     accountWith (hashOf h) noHash (a .disabled) (a .«hours_denied») (a .«dialin_denied») false
 
--- ---- barred by no mark
+-- ---- permitted to log on
 
 -- neither disabled, barred by hours nor without dial-in, whatever hashes there are
-pub record Unbarred (a : Account) : Type 0 where
+pub record LogonPermitted (a : Account) : Type 0 where
   pub enabled : a .disabled ≡ false
   pub hours : a .«hours_denied» ≡ false
   pub dialin : a .«dialin_denied» ≡ false

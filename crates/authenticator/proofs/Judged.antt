@@ -1,5 +1,5 @@
--- What a packet that passes the checks draws: an invalid Response, a valid one that no mark bars,
--- an accepted change. And "No record and an invalid response give the same reply and the same next
+-- What a packet that passes the checks draws: an invalid Response, a valid one of an account that
+-- is permitted to log on, an accepted change. And "No record and an invalid response give the same reply and the same next
 -- conversation, octet for octet."
 -- Assumes nothing.
 use mathlib.Core.Bool.{Bool, true, false, cond}
@@ -10,7 +10,7 @@ use mathlib.Core.Path.{_≡_, refl, sym, ap, _∙_}
 use Prim.Native.Nat.{ℕ, _<_}
 use native.Mathlib.Omega.{arith}
 use borrow.Author.Tests.{lt-ltb}
-use Rattle.accounts.specs.Account.{notFound, found, changed, Unbarred, Rightful}
+use Rattle.accounts.specs.Account.{notFound, found, changed, LogonPermitted, Rightful}
 use Rattle.accounts.specs.declared.Account.{Account}
 use Rattle.accounts.specs.declared.Lookup.{Lookup}
 use Rattle.message.specs.Reasons.{authenticationFailure, passwordExpired, noReason}
@@ -22,7 +22,7 @@ use Rattle.verify.specs.Accepted.{SameButIgnored}
 use Rattle.verify.specs.declared.ChangeFault.the-variants.{NoFault}
 use Rattle.verify.specs.declared.CheckedChange.{CheckedChange}
 use Rattle.verify.proofs.Accepted.{ignored-change, checked-accepted}
-use Rattle.verify.proofs.Reasons.{reason-invalid, unbarred-reason}
+use Rattle.verify.proofs.Reasons.{reason-invalid, permitted-reason}
 use Rattle.authenticator.specs.Conversation.{ended, retried, awaitingChange}
 use Rattle.authenticator.specs.Judge.{
   judgementFor,
@@ -99,10 +99,10 @@ retry-judged : (c : Conversation) (a : Account) → 0 < c .retries
     → judgementFor c a authenticationFailure ≡ tryAgain c
 retry-judged c a h = rw (lt-ltb 0 (c .retries) h)
 
-unbarred-judged : (x : Bool) (c : Conversation) (a : Account)
+permitted-judged : (x : Bool) (c : Conversation) (a : Account)
     → judgementFor c a (cond x passwordExpired noReason) ≡ cond x (expiredFor c a) (accepted c)
-unbarred-judged true c a = refl
-unbarred-judged false c a = refl
+permitted-judged true c a = refl
+permitted-judged false c a = refl
 
 module _ (c : Conversation) (p b : List ℕ) (ok : Passes c p b) where
   pub invalid-law : (l : Lookup) → c .phase ≡ Response
@@ -114,14 +114,14 @@ module _ (c : Conversation) (p b : List ℕ) (ok : Passes c p b) where
       (reason-invalid (c .terms) (c .challenge) (readResponse p) l v)
       ∙ ap (λ (j : Judgement). judgedAs c j b) (retry-judged c (l .account) pos)
 
-  pub valid-law : (a : Account) → c .phase ≡ Response → Unbarred a
+  pub valid-law : (a : Account) → c .phase ≡ Response → LogonPermitted a
       → valid (c .terms) (c .challenge) a (readResponse p) ≡ true
       → step c p (found a) b ≡ judgedAs c (cond (a .expired) (expiredFor c a) (accepted c)) b
   valid-law a ph g v =
       response-step c p b ok (found a) ph
       ∙ ap (λ (e : ℕ). judgedAs c (judgementFor c a e) b)
-      (unbarred-reason (c .terms) (c .challenge) (readResponse p) a g v)
-      ∙ ap (λ (j : Judgement). judgedAs c j b) (unbarred-judged (a .expired) c a)
+      (permitted-reason (c .terms) (c .challenge) (readResponse p) a g v)
+      ∙ ap (λ (j : Judgement). judgedAs c j b) (permitted-judged (a .expired) c a)
 
   -- the record passed with it has no effect
   pub change-law : (l : Lookup) (h : List ℕ) → c .phase ≡ Change

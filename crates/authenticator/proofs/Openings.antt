@@ -22,6 +22,7 @@ use Rattle.challenges.proofs.Laid.{length-challenges-from}
 use Rattle.packets.proofs.Writing.{taken}
 use Rattle.authenticator.specs.Conversation.{closed}
 use Rattle.authenticator.specs.Opening.{Opening, retriesOf, spends, tooManyRetries, openRefusal, openedIssued, firstConversation, openingPacket, openedBy, opened, openedBuffer, OpenedAs}
+use Rattle.authenticator.specs.declared.Conversation.{Conversation}
 use Rattle.authenticator.specs.declared.Opened.{Opened}
 use Rattle.authenticator.proofs.Spends.{challenges-wide, challenges-distinct}
 
@@ -115,6 +116,14 @@ module _ (o : Opening) where
       let n : openRefusal o ≢ 0 = λ e. h (opened-number o ∙ e) in
       let e = ne-eqb (openRefusal o) 0 n in
       (rw e, rw e, rw e)
+
+  -- what holds of the first conversation and of a refused opening's holds of what is handed out
+  pub opened-either : (P : Conversation → Type 0) → P (firstConversation o) → P closed → P (opened o .conversation)
+  opened-either P first refused = which (eqb (opened o .refusal) 0) refl
+    where
+      which : (t : Bool) → eqb (opened o .refusal) 0 ≡ t → P (opened o .conversation)
+      which true e = subst P (sym (opened-first (eqb-true (opened o .refusal) 0 e))) first
+      which false e = subst (λ (x : Opened). P (x .conversation)) (sym (opened-not (eqb-false (opened o .refusal) 0 e) .0)) refused
 
   -- ---- the list afterwards
 

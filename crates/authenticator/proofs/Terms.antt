@@ -5,7 +5,6 @@ use mathlib.Core.List.{List}
 use mathlib.Core.Logic.{_≢_}
 use mathlib.Core.Path.{_≡_, refl, ap, _∙_}
 use Prim.Native.Nat.{ℕ}
-use borrow.Author.Tests.{eqb-true, eqb-false}
 use lib.Dec.{eqb}
 use Rattle.accounts.specs.declared.Account.{Account}
 use Rattle.accounts.specs.declared.Lookup.{Lookup}
@@ -27,10 +26,9 @@ use Rattle.authenticator.specs.Steps.{StepInput, stepOn, nextAfter}
 use Rattle.authenticator.specs.declared.Conversation.{Conversation}
 use Rattle.authenticator.specs.declared.LmChoice.{LmChoice}
 use Rattle.authenticator.specs.declared.LmChoice.the-variants.{Silent, Allowed, Disallowed}
-use Rattle.authenticator.specs.declared.Opened.{Opened}
 use Rattle.authenticator.specs.declared.Phase.{Phase}
 use Rattle.authenticator.specs.declared.Phase.the-variants.{Response, Change, Ended}
-use Rattle.authenticator.proofs.Openings.{opened-first, opened-not}
+use Rattle.authenticator.proofs.Openings.{opened-either}
 use Rattle.authenticator.proofs.Steps.{Case, refused, repeated, judged, case-of}
 
 -- ---- the opening
@@ -43,15 +41,8 @@ not-asked Disallowed h = refl
 
 -- in what an opening hands out, refused or not
 pub opened-off : (o : Opening) → o .lm ≢ Allowed → opened o .conversation .terms .lm ≡ false
-opened-off o h = which (eqb (opened o .refusal) 0) refl
-  where
-    which : (t : Bool) → eqb (opened o .refusal) 0 ≡ t → opened o .conversation .terms .lm ≡ false
-    which true e =
-        ap (λ (c : Conversation). c .terms .lm)
-        (opened-first o (eqb-true (opened o .refusal) 0 e))
-        ∙ not-asked (o .lm) h
-    which false e = ap (λ (x : Opened). x .conversation .terms .lm)
-        (opened-not o (eqb-false (opened o .refusal) 0 e) .0)
+opened-off o h =
+    opened-either o (λ (c : Conversation). c .terms .lm ≡ false) (not-asked (o .lm) h) refl
 
 -- ---- the steps
 

@@ -17,5 +17,5 @@ pub mod WrongWriters
 pub mod OneList
 pub mod Shared
 pub mod WrongOpeners
-pub mod LmAsked
+pub mod LmOptIn
 pub mod WrongLm

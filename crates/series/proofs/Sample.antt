@@ -30,7 +30,6 @@ use Rattle.accounts.specs.declared.Lookup.{Lookup}
 use Rattle.authenticator.specs.declared.Conversation.{Conversation}
 use Rattle.authenticator.specs.declared.Retries.{Retries}
 use Rattle.authenticator.specs.declared.Retries.the-variants.{Default, Count}
-use Rattle.authenticator.specs.declared.LmChoice.{LmChoice}
 use Rattle.authenticator.specs.declared.LmChoice.the-variants.{Disallowed}
 use Rattle.authenticator.proofs.Openings.{may-open-empty}
 use Rattle.series.specs.Series.{
@@ -53,19 +52,16 @@ use Rattle.series.specs.Writers.{Writer}
 
 -- identifier 255 and a challenge that begins with E9, so that both next over their octet; an empty
 -- list of three places
-abbrev pub openingWith : LmChoice → Retries → Opening
-openingWith lm r =
+abbrev pub opening : Retries → Opening
+opening r =
     record {
       id = 255;
       challenge = 0xE9 ∷ 2 ∷ 3 ∷ 4 ∷ 5 ∷ 6 ∷ 7 ∷ 8 ∷ [];
       retries = r;
-      lm = lm;
+      lm = Disallowed;
       issued = emptyList 8 3;
       buffer = replicate 17 0;
     }
-
-abbrev pub opening : Retries → Opening
-opening r = openingWith Disallowed r
 
 -- a list of whole places, of which none is used
 pub three-places : badBuffer 8 (replicate 24 0) 0 ≡ false

@@ -18,16 +18,20 @@ use Rattle.authenticator.specs.Opening.{Opening, openRefusal, opened, openedIss
 use Rattle.authenticator.specs.declared.Conversation.{Conversation}
 use Rattle.authenticator.specs.declared.Retries.{Retries}
 use Rattle.authenticator.specs.declared.Retries.the-variants.{Default, Count}
+use Rattle.authenticator.specs.declared.LmChoice.{LmChoice}
 use Rattle.authenticator.specs.declared.LmChoice.the-variants.{Silent}
 use Rattle.authenticator.proofs.Openings.{opened-first, may-open-empty}
 use Rattle.series.specs.Openers.{ourOpener}
-use Rattle.series.specs.OneList.{PassedOn, Two}
+use Rattle.series.specs.OneList.{PassedOn, Openable, Two}
 
 -- ---- openings
 
+abbrev pub openingWith : LmChoice → Issued → Retries → List ℕ → Opening
+openingWith lm list r challenge =
+    record { id = 7; challenge = challenge; retries = r; lm = lm; issued = list; buffer = replicate 17 0 }
+
 abbrev pub openingOn : Issued → Retries → List ℕ → Opening
-openingOn list r challenge =
-    record { id = 7; challenge = challenge; retries = r; lm = Silent; issued = list; buffer = replicate 17 0 }
+openingOn = openingWith Silent
 
 abbrev pub challenge : List ℕ
 challenge = 0xE9 ∷ 2 ∷ 3 ∷ 4 ∷ 5 ∷ 6 ∷ 7 ∷ 8 ∷ []
@@ -41,6 +45,20 @@ second = openingOn (openedIssued first) Default (replicate 8 1)
 pub six-places : badBuffer 8 (replicate 48 0) 0 ≡ false
 unfolding badBuffer
 six-places = refl
+
+-- on an empty list it needs nothing more, whatever it says of LM
+pub openable : (lm : LmChoice) → Openable (openingWith lm (emptyList 8 6) Default challenge)
+unfolding endings ending containsAny challengesFrom contains
+openable lm =
+    record {
+      eight = refl;
+      not13 = omega arith;
+      not2 = omega arith;
+      buffer24 = six-places;
+      counts24 = refl;
+      not16 = refl;
+      not17 = omega arith;
+    }
 
 pub first-opens : opened first .refusal ≡ 0
 first-opens = may-open-empty first (omega arith) (omega arith) six-places refl refl (omega arith)

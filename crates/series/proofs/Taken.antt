@@ -9,8 +9,6 @@ use native.Mathlib.Omega.{arith}
 use borrow.Author.Tests.{eq-eqb}
 use lib.Dec.{eqb}
 use lib.ListN.{length}
-use Rattle.octets.specs.Parts.{agrees}
-use Rattle.octets.proofs.Parts.{agrees-refl}
 use Rattle.credentials.specs.Credentials.{ntHashOf, responseOf, oldUnderNew}
 use Rattle.packets.specs.Response.{readResponse}
 use Rattle.packets.specs.Change.{readChange}
@@ -23,6 +21,7 @@ use Rattle.verify.specs.Accepted.{hashFor, Accepted}
 use Rattle.authenticator.specs.Step.{judgedAs, step}
 use Rattle.accounts.specs.declared.Account.{Account}
 use Rattle.accounts.specs.declared.Lookup.{Lookup}
+use Rattle.packets.specs.declared.Response as responses
 use Rattle.packets.specs.declared.Change as changes
 use Rattle.authenticator.proofs.Admitted.{Passes}
 use Rattle.authenticator.proofs.Fresh.{Fresh, new-packet}
@@ -36,6 +35,7 @@ use Rattle.authenticator.proofs.Judged.{
   change-law,
 }
 use Rattle.verify.proofs.Accepted.{length-inside, hash-inside, accepted-if}
+use Rattle.verify.proofs.Reasons.{answers-right}
 use Rattle.authenticator.specs.declared.Conversation.{Conversation}
 use Rattle.authenticator.specs.declared.Phase.{Phase}
 use Rattle.authenticator.specs.declared.Phase.the-variants.{Response, Change}
@@ -49,11 +49,22 @@ pub record InStep (c : Conversation) (t : Turn) : Type 0 where
   pub id : c .id ≡ t .id
   pub challenge : c .challenge ≡ t .challenge
 
-both : (s t : Bool) → s ≡ true → t ≡ true → (s && t) ≡ true
-both s t p q = rw (p, q)
-
 valid-nt : (s t u v : Bool) → s ≡ true → t ≡ true → u ≡ true → cond (s && t) u v ≡ true
 valid-nt s t u v p q r = rw (p, q, r)
+
+-- a well-formed Response to the awaited identifier passes every check
+pub response-passes : (c : Conversation) → Fresh c → c .phase ≡ Response
+    → {b : List ℕ} → 17 ≤ length b → {id : ℕ} {f : responses.Response} {name p : List ℕ}
+    → ResponseBack id f name p → c .id ≡ id → f .flag < 2 → Passes c p b
+response-passes c fresh ph room {p = p} back id flag =
+    record {
+      readable = record { room = room; frame = back .frame };
+      fresh = new-packet c p fresh (ap isEnded ph) (back .id ∙ sym id);
+      live = ap isEnded ph;
+      code = back .code ∙ sym (ap awaitedCode ph);
+      id = back .id ∙ sym id;
+      body = ap (λ (x : Phase). bodyRefusal x p) ph ∙ back .fit flag;
+    }
 
 -- ---- a try
 
@@ -63,13 +74,7 @@ module _ (c : Conversation) (t : Turn) (same : c .challenge ≡ t .challenge)
     (named : (1 ≤ length name) × (length name ≤ 256)) (a : Account) (there : a .nt .present ≡ true)
     (right : ntHashOf password ≡ a .nt .octets) where
   right-answers : answers (a .nt) (c .challenge) (responseFields (t .challenge) password .nt) ≡ true
-  unfolding answers
-  right-answers =
-      both (a .nt .present) (agrees (responseOf (ntHashOf password) (t .challenge))
-      (responseOf (a .nt .octets) (c .challenge))) there
-      (ap₂ (λ (x y : List ℕ). agrees (responseOf (ntHashOf password) (t .challenge))
-      (responseOf x y)) (sym right) same
-      ∙ agrees-refl (responseOf (ntHashOf password) (t .challenge)))
+  right-answers = answers-right (a .nt) (c .challenge) _ there (ap₂ responseOf right (sym same))
 
   pub right-valid : validIn c a (readResponse (responseFor t password name ++ after)) ≡ true
   unfolding valid
@@ -90,16 +95,7 @@ module _ (c : Conversation) (t : Turn) (h : InStep c t) (fresh : Fresh c) (ph : 
   try-found = response-found t password name after (named .0) (named .1)
 
   try-passes : Passes c try b
-  try-passes =
-      let f = try-found in
-      record {
-        readable = record { room = room; frame = f .frame };
-        fresh = new-packet c try fresh (ap isEnded ph) (f .id ∙ sym (h .id));
-        live = ap isEnded ph;
-        code = f .code ∙ sym (ap awaitedCode ph);
-        id = f .id ∙ sym (h .id);
-        body = ap (λ (x : Phase). bodyRefusal x try) ph ∙ f .fit (omega arith);
-      }
+  try-passes = response-passes c fresh ph room try-found (h .id) (omega arith)
 
   pub invalid-taken : (l : Lookup) → (l .found && validIn c (l .account) (readResponse try)) ≡ false
       → 0 < c .retries

@@ -35,6 +35,7 @@ use Rattle.authenticator.specs.Judge.{judgeResponse, judge}
 use Rattle.authenticator.specs.Step.{step}
 use Rattle.authenticator.specs.Steps.{StepInput, nextAfter}
 use Rattle.authenticator.specs.declared.Conversation.{Conversation}
+use Rattle.authenticator.specs.declared.LmChoice.the-variants.{Silent}
 use Rattle.authenticator.specs.declared.Retries.the-variants.{Default, Count}
 use Rattle.authenticator.proofs.Openings.{opened-first, may-open-empty}
 use Rattle.series.specs.Boxes.{withRetries, ourBox}
@@ -45,12 +46,13 @@ use Rattle.series.specs.Openers.{
   noRetries,
   spendsOne,
 }
-use Rattle.series.specs.OneList.{Openable, Two, NoneTwice, OneList}
+use Rattle.series.specs.OneList.{Two, NoneTwice, OneList}
 use Rattle.series.proofs.Shared.{
   openingOn,
   challenge,
   first,
   six-places,
+  openable,
   first-opens,
   input,
   opens-live,
@@ -58,23 +60,9 @@ use Rattle.series.proofs.Shared.{
 
 -- ---- refuses everything
 
--- the first opening on an empty list needs nothing more
-first-openable : Openable first
-unfolding endings ending containsAny challengesFrom contains
-first-openable =
-    record {
-      eight = refl;
-      not13 = omega arith;
-      not2 = omega arith;
-      buffer24 = six-places;
-      counts24 = refl;
-      not16 = refl;
-      not17 = omega arith;
-    }
-
 -- its conversation awaits a Response, and what this one hands out has ended
 pub not-refusing-to-open : (n : ℕ) → OneList (refusesToOpen n) → ⊥
-not-refusing-to-open n claim = true≢false (ap (λ (c : Conversation). isEnded (c .phase)) (claim .mayOpen first first-openable .1))
+not-refusing-to-open n claim = true≢false (ap (λ (c : Conversation). isEnded (c .phase)) (claim .mayOpen first (openable Silent) .1))
 
 -- ---- a conversation is handed out with a refusal
 

@@ -6,4 +6,4 @@ pub mod Boxes
 pub mod Twelve
 pub mod Openers
 pub mod OneList
-pub mod LmAsked
+pub mod LmOptIn

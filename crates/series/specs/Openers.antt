@@ -1,5 +1,5 @@
 -- Our way to open, and wrong ones. The claims about one list (specs/OneList) and about LM
--- (specs/LmAsked) hold of ours (proofs/OneList, LmAsked); each of the others fails one of them
+-- (specs/LmOptIn) hold of ours (proofs/OneList, LmOptIn); each of the others fails one of them
 -- (proofs/WrongOpeners, WrongLm), `takesLm` in every way but ours.
 -- Assumes nothing: these are definitions.
 use mathlib.Core.Bool.{Bool, true, false, cond}
@@ -7,11 +7,13 @@ use mathlib.Core.List.{List}
 use Prim.Native.Nat.{ℕ}
 use lib.ListN.{length}
 use Rattle.issued.specs.Issued.{Issued}
-use Rattle.authenticator.specs.Conversation.{closed}
+use Rattle.authenticator.specs.Conversation.{answerWith, withLast, closed}
 use Rattle.authenticator.specs.Opening.{Opening, retriesOf, openRefusal, firstConversation, openingPacket, opened, openedIssued, openedBuffer}
+use Rattle.authenticator.specs.declared.Conversation.{Conversation}
 use Rattle.authenticator.specs.declared.LmChoice.{LmChoice}
 use Rattle.authenticator.specs.declared.LmChoice.the-variants.{Silent, Allowed, Disallowed}
 use Rattle.authenticator.specs.declared.Opened.{Opened}
+use Rattle.authenticator.specs.declared.Reply.the-variants.{Success}
 use Rattle.authenticator.specs.declared.Retries.the-variants.{Count}
 use Rattle.series.specs.Boxes.{withRetries, withLm}
 
@@ -89,29 +91,38 @@ isSilent Silent = true
 isSilent Allowed = false
 isSilent Disallowed = false
 
-abbrev pub refusesSilence : ℕ → Opener
-refusesSilence n =
+abbrev pub refusesSilent : ℕ → Opener
+refusesSilent n =
     record {
       answer = λ o. cond (isSilent (o .lm)) (refusesToOpen n .answer o) (opened o);
       leaves = λ o. cond (isSilent (o .lm)) (o .issued) (openedIssued o);
       reply = λ o. cond (isSilent (o .lm)) (o .buffer) (openedBuffer o);
     }
 
--- takes the three choices about LM in one way or another
-abbrev pub takesLm : (LmChoice → Bool) → Opener
-takesLm allowed =
+-- ours but for the conversation that is handed out
+abbrev pub handingOut : (Opening → Conversation → Conversation) → Opener
+handingOut other =
     record {
       answer = λ o.
           let a = opened o in
           record {
             refusal = a .refusal;
-            conversation = withLm (allowed (o .lm)) (a .conversation);
+            conversation = other o (a .conversation);
             written = a .written;
             used = a .used;
           };
       leaves = openedIssued;
       reply = openedBuffer;
     }
+
+-- takes the three choices about LM in one way or another
+abbrev pub takesLm : (LmChoice → Bool) → Opener
+takesLm allowed = handingOut (λ o c. withLm (allowed (o .lm)) c)
+
+-- hands out a conversation that has answered the awaited packet with Success already: whatever
+-- comes is taken for a repeat of it
+abbrev pub opensAnswered : Opener
+opensAnswered = handingOut (λ o c. withLast (answerWith c Success) c)
 
 -- what the promise of the authenticator's `open` says
 abbrev pub spendsAll : Opener

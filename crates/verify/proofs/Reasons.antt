@@ -1,14 +1,18 @@
 -- The reasons that a Response draws: which there are, and which an invalid one draws, and a valid
--- one of an account that no mark bars.
+-- one of an account that is permitted to log on. And what makes a response right.
 -- Assumes nothing.
-use mathlib.Core.Bool.{Bool, true, false, cond, not}
+use mathlib.Core.Bool.{Bool, true, false, cond, not, _&&_}
 use mathlib.Core.List.{List}
 use mathlib.Core.Logic.{_≢_}
-use mathlib.Core.Path.{_≡_}
+use mathlib.Core.Path.{_≡_, ap, ap₂, _∙_}
 use Prim.Native.Nat.{ℕ, _<_}
 use native.Mathlib.Omega.{arith}
-use Rattle.accounts.specs.Account.{found, Unbarred}
+use Rattle.octets.specs.Parts.{agrees}
+use Rattle.octets.proofs.Parts.{agrees-refl}
+use Rattle.credentials.specs.Credentials.{responseOf}
+use Rattle.accounts.specs.Account.{found, LogonPermitted}
 use Rattle.accounts.specs.declared.Account.{Account}
+use Rattle.accounts.specs.declared.Hash.{Hash}
 use Rattle.accounts.specs.declared.Lookup.{Lookup}
 use Rattle.message.specs.Reasons.{
   authenticationFailure,
@@ -20,8 +24,23 @@ use Rattle.message.specs.Reasons.{
   noReason,
 }
 use Rattle.packets.specs.declared.Response.{Response}
-use Rattle.verify.specs.Response.{valid, foundValid, firstReason, responseReason}
+use Rattle.verify.specs.Response.{
+  answers,
+  valid,
+  foundValid,
+  firstReason,
+  responseReason,
+}
 use Rattle.verify.specs.declared.Terms.{Terms}
+
+-- a hash's own response to the challenge is right
+pub answers-right : (h : Hash) (challenge response : List ℕ) → h .present ≡ true
+    → response ≡ responseOf (h .octets) challenge → answers h challenge response ≡ true
+unfolding answers
+answers-right h challenge response there e =
+    ap₂ (λ (t u : Bool). t && u) there
+    (ap (λ (r : List ℕ). agrees r (responseOf (h .octets) challenge)) e
+    ∙ agrees-refl (responseOf (h .octets) challenge))
 
 -- RFC 2433's six, and Success
 pub data Reason : ℕ → Type 0 where
@@ -86,8 +105,8 @@ module _ (t : Terms) (challenge : List ℕ) (f : Response) where
   unfolding responseReason firstReason
   reason-invalid l v = simp v
 
-  -- a valid one that no mark bars
-  pub unbarred-reason : (a : Account) → Unbarred a → valid t challenge a f ≡ true
+  -- a valid one of an account that is permitted to log on
+  pub permitted-reason : (a : Account) → LogonPermitted a → valid t challenge a f ≡ true
       → responseReason t challenge (found a) f ≡ cond (a .expired) passwordExpired noReason
   unfolding responseReason firstReason
-  unbarred-reason a g v = rw (v, g .enabled, g .hours, g .dialin)
+  permitted-reason a g v = rw (v, g .enabled, g .hours, g .dialin)

@@ -1,0 +1,205 @@
+-- LM is off unless the opening asked for it, from the opening to the end; and where it did, a peer
+-- that knows its LM hash alone gets in.
+-- Assumes nothing.
+use mathlib.Core.Bool.{Bool, true, false, cond, _&&_, and-false, true≢false}
+use mathlib.Core.List.{List}
+use mathlib.Core.Logic.{_≢_, inl, inr}
+use mathlib.Core.Path.{_≡_, refl, sym, ap, ap₂, _∙_, subst}
+use Prim.Native.Nat.{ℕ}
+use native.Mathlib.Omega.{arith}
+use borrow.Author.Tests.{not-true}
+use lib.Dec.{eqb}
+use Rattle.message.specs.Reasons.{authenticationFailure, passwordExpired}
+use Rattle.message.specs.Message.{textOf}
+use Rattle.packets.specs.Codes.{responseCode}
+use Rattle.packets.specs.Frame.{octet}
+use Rattle.packets.specs.Response.{readResponse}
+use Rattle.packets.specs.Reply.{successPacket, failurePacket}
+use Rattle.accounts.specs.Account.{notFound}
+use Rattle.accounts.specs.declared.Account.{Account}
+use Rattle.accounts.specs.declared.Lookup.{Lookup}
+use Rattle.verify.specs.Response.{answers, valid, foundValid, firstReason, responseReason}
+use Rattle.verify.specs.declared.Terms.{Terms}
+use Rattle.verify.proofs.Reasons.{answers-right}
+use Rattle.authenticator.specs.Admit.{refusalFor}
+use Rattle.authenticator.specs.Conversation.{awaitedCode, isEnded, noAnswer}
+use Rattle.authenticator.specs.Encode.{version, replyPacket}
+use Rattle.authenticator.specs.Judge.{mayRetry, validIn, judgeResponse, judgeIn, judge}
+use Rattle.authenticator.specs.Opening.{Opening, lmAllowed, firstConversation, opened}
+use Rattle.authenticator.specs.Steps.{StepInput, stepOn, replyOf, BoxState, unanswered}
+use Rattle.authenticator.specs.Steps.{isJudged, nextState}
+use Rattle.authenticator.specs.declared.Conversation.{Conversation}
+use Rattle.authenticator.specs.declared.LmChoice.the-variants.{Allowed}
+use Rattle.authenticator.specs.declared.Phase.{Phase}
+use Rattle.authenticator.specs.declared.Phase.the-variants.{Response, Change, Ended}
+use Rattle.authenticator.specs.declared.Reply.the-variants.{Failure}
+use Rattle.authenticator.proofs.Admitted.{Passes, passed}
+use Rattle.authenticator.proofs.Judged.{expiredFor, accepted, valid-law, same-invalid}
+use Rattle.authenticator.proofs.Openings.{opened-either}
+use Rattle.authenticator.proofs.Seen.{Seen, unjudged, judgedNow, seen, Tracks, tracks-next}
+use Rattle.authenticator.proofs.Seen.{unanswered-tracks}
+use Rattle.authenticator.proofs.Steps.{judged-step, reply-of}
+use Rattle.authenticator.proofs.Terms.{opened-off, step-keeps-terms}
+use Rattle.series.specs.Boxes.{withLm}
+use Rattle.series.specs.Openers.{ourOpener}
+use Rattle.series.specs.LmOptIn.{
+  isByLm,
+  withNoRecord,
+  IsAuthenticationFailure,
+  LmPeer,
+  placeAfter,
+  LmOptIn,
+}
+use Rattle.series.proofs.Invariant.{end-keeps}
+use Rattle.series.proofs.OneList.{opens-where-it-may}
+
+-- ---- off
+
+-- where LM is not allowed, a Response by LM is invalid
+not-by-lm : (c : Conversation) (s : StepInput) → c .terms .lm ≡ false → isByLm s ≡ true
+    → foundValid (c .terms) (c .challenge) (s .account) (readResponse (s .packet)) ≡ false
+unfolding valid
+not-by-lm c s off by =
+    let a = s .account .account in
+    let f = readResponse (s .packet) in
+    let no = not-true (eqb (f .flag) 1 && a .nt .present) by in
+    ap (λ (t : Bool). s .account .found && t)
+    (ap₂ (λ (t u : Bool). cond t (answers (a .nt) (c .challenge) (f .nt))
+    (u && answers (a .lm) (c .challenge) (f .lm))) no off)
+    ∙ and-false (s .account .found)
+
+-- so it is answered as if there were no record
+as-unknown : (c : Conversation) (s : StepInput) → c .terms .lm ≡ false → isByLm s ≡ true
+    → stepOn c s ≡ stepOn c (withNoRecord s)
+as-unknown c s off by = same-invalid c (s .packet) (s .buffer) (s .account) notFound
+    (not-by-lm c s off by) refl
+
+-- and that is 691
+unknown-reply : (c : Conversation) (p : List ℕ)
+    → judgeIn Response c p notFound .reply
+    ≡ Failure authenticationFailure (mayRetry c authenticationFailure)
+unfolding judgeResponse responseReason firstReason
+unknown-reply c p = refl
+
+failure-either : (id : ℕ) (retry : Bool)
+    → IsAuthenticationFailure id (replyPacket id (Failure authenticationFailure retry))
+failure-either id true = inl refl
+failure-either id false = inr refl
+
+pub turned-away : (c : Conversation) (s : StepInput) → c .terms .lm ≡ false → isByLm s ≡ true
+    → c .phase ≡ Response → Passes c (s .packet) (s .buffer)
+    → IsAuthenticationFailure (c .id) (replyOf (stepOn c s))
+unfolding judge
+turned-away c s off by ph ok =
+    let reply = ap replyOf (as-unknown c s off by
+    ∙ judged-step c (s .packet) notFound (s .buffer) ok)
+    ∙ reply-of c (judge c (s .packet) notFound) (s .buffer) (ok .readable .room)
+    ∙ ap (λ (x : Phase). replyPacket (c .id) (judgeIn x c (s .packet) notFound .reply)) ph
+    ∙ ap (replyPacket (c .id)) (unknown-reply c (s .packet)) in
+    subst (IsAuthenticationFailure (c .id)) (sym reply)
+    (failure-either (c .id) (mayRetry c authenticationFailure))
+
+-- what holds of our box at any place of a conversation that was opened without asking for LM: LM is
+-- off, and the box keeps of its last answer what is seen of it
+pub record OffAt (p : BoxState) : Type 0 where
+  pub off : p .conversation .terms .lm ≡ false
+  pub tracks : Tracks p
+
+off-next : (p : BoxState) (s : StepInput) → OffAt p → OffAt (nextState stepOn p s)
+off-next p s i =
+    record {
+      off = ap (λ (t : Terms). t .lm) (step-keeps-terms (p .conversation) s) ∙ i .off;
+      tracks = tracks-next p s (i .tracks);
+    }
+
+off-after : (o : Opening) → o .lm ≢ Allowed → (ss : List StepInput)
+    → OffAt (placeAfter ourOpener o ss)
+off-after o h ss =
+    end-keeps (nextState stepOn) OffAt off-next (unanswered (opened o .conversation))
+    (record {
+      off = opened-off o h;
+      tracks = unanswered-tracks (opened o .conversation)
+          (opened-either o (λ (c : Conversation). c .last ≡ noAnswer) refl refl);
+    })
+    ss
+
+-- a packet with a Response's code is awaited by that phase alone
+response-phase : (ph : Phase) → awaitedCode ph ≡ responseCode → ph ≡ Response
+response-phase Response e = refl
+response-phase Change e = absurd (omega (arith, e))
+response-phase Ended e = absurd (omega (arith, e))
+
+off-here : (p : BoxState) (s : StepInput) → OffAt p → octet 0 (s .packet) ≡ responseCode
+    → isByLm s ≡ true → isJudged stepOn p s ≡ true
+    → IsAuthenticationFailure (octet 1 (s .packet)) (replyOf (stepOn (p .conversation) s))
+    × (stepOn (p .conversation) s ≡ stepOn (p .conversation) (withNoRecord s))
+off-here p s i code by now = which (seen p s (i .tracks))
+  where
+    which : Seen p s
+        → IsAuthenticationFailure (octet 1 (s .packet)) (replyOf (stepOn (p .conversation) s))
+        × (stepOn (p .conversation) s ≡ stepOn (p .conversation) (withNoRecord s))
+    which (unjudged z e u) = absurd (true≢false (sym now ∙ z))
+    which (judgedNow y ok e) = (
+      subst (λ (id : ℕ). IsAuthenticationFailure id (replyOf (stepOn (p .conversation) s)))
+          (sym (ok .id))
+          (turned-away (p .conversation) s (i .off) by
+          (response-phase (p .conversation .phase) (sym (ok .code) ∙ code)) ok),
+      as-unknown (p .conversation) s (i .off) by,
+    )
+
+-- ---- on
+
+-- such a peer's first Response, in the first conversation with LM allowed or not
+module _ (o : Opening) (a : Account) (s : StepInput) (peer : LmPeer o a s) where
+  abbrev first : Bool → Conversation
+  first allowed = withLm allowed (firstConversation o)
+
+  -- no choice about LM is in the way of the other checks
+  pub peer-passes : (allowed : Bool) → Passes (first allowed) (s .packet) (s .buffer)
+  unfolding refusalFor
+  peer-passes allowed = passed (first allowed) (s .packet) (s .buffer) (peer .admitted) refl
+
+  lm-valid : validIn (first true) a (readResponse (s .packet)) ≡ true
+  unfolding valid
+  lm-valid =
+      let f = readResponse (s .packet) in
+      let by = ap (λ (l : Lookup). eqb (f .flag) 1 && l .account .nt .present)
+      (sym (peer .account))
+      ∙ not-true (eqb (f .flag) 1 && s .account .account .nt .present) (peer .byLm) in
+      rw (by, answers-right (a .lm) (o .challenge) (f .lm) (peer .hash) (peer .response))
+
+  answered : (expired : Bool)
+      → replyPacket (o .id) (cond expired (expiredFor (first true) a) (accepted (first true))
+      .reply)
+      ≡ cond expired (failurePacket (o .id) (textOf passwordExpired 0 version))
+      (successPacket (o .id))
+  answered true = refl
+  answered false = refl
+
+  pub peer-in : replyOf (stepOn (first true) s)
+      ≡ cond (a .expired) (failurePacket (o .id) (textOf passwordExpired 0 version))
+      (successPacket (o .id))
+  peer-in =
+      let ok = peer-passes true in
+      let c = first true in
+      ap (λ (l : Lookup). replyOf (stepOn c
+      (record { packet = s .packet; account = l; buffer = s .buffer }))) (peer .account)
+      ∙ ap replyOf (valid-law c (s .packet) (s .buffer) ok a refl (peer .permitted) lm-valid)
+      ∙ reply-of c (cond (a .expired) (expiredFor c a) (accepted c)) (s .buffer)
+      (ok .readable .room)
+      ∙ answered (a .expired)
+
+-- ---- the claim
+
+pub lm-opt-in : LmOptIn ourOpener
+lm-opt-in =
+    record {
+      off = λ o h ss s. off-here (placeAfter ourOpener o ss) s (off-after o h ss);
+      on = λ o asked may a s peer.
+          ap (λ (c : Conversation). replyOf (stepOn c s)) (opens-where-it-may o may .1)
+          ∙ ap (λ (t : Bool). replyOf (stepOn (withLm t (firstConversation o)) s))
+          (ap lmAllowed asked)
+          ∙ peer-in o a s peer;
+      opens = λ o may.
+          ap (λ (c : Conversation). isEnded (c .phase)) (opens-where-it-may o may .1);
+    }
