@@ -122,10 +122,10 @@ module _ (l : LmChoice) where
       judged-exactly (unanswered c) sent (unanswered-tracks c refl)
       ∙ rw (passes c (sent .packet) (sent .buffer) (sent-passes allowed))
 
-  -- what an opener hands out that takes the choices so
-  handed : (takes : LmChoice → Bool) {t : Bool} → takes l ≡ t
+  -- the conversation of an opener that takes the choices so
+  conversation-taking : (takes : LmChoice → Bool) {t : Bool} → takes l ≡ t
       → takesLm takes .answer (sample l) .conversation ≡ first t
-  handed takes e = ap₂ withLm e (opens-where-it-may (sample l) (openable l) .1)
+  conversation-taking takes e = ap₂ withLm e (opens-where-it-may (sample l) (openable l) .1)
 
 -- ---- one way to take the choices
 
@@ -136,7 +136,7 @@ module _ (takes : LmChoice → Bool) (claim : LmOptIn (takesLm takes)) where
       which : (t : Bool) → takes l ≡ t → takes l ≡ false
       which false e = e
       which true e =
-          let same = handed l takes e in
+          let same = conversation-taking l takes e in
           let judged = subst (λ (c : Conversation). isJudged stepOn (unanswered c) sent ≡ true)
           (sym same) (sent-judged l true) in
           let out = failed _ _ (claim .off (sample l) h [] sent (there .code) by-lm judged .0) in
@@ -150,7 +150,12 @@ module _ (takes : LmChoice → Bool) (claim : LmOptIn (takesLm takes)) where
       which false e =
           let success = ap (octet 0) (claim .on (sample Allowed) refl (openable Allowed) lmOnly sent
           (lm-peer Allowed)) ∙ success-code 7 in
-          absurd (omega (arith, success, ap code (handed Allowed takes e), turned Allowed))
+          absurd (omega (
+            arith,
+            success,
+            ap code (conversation-taking Allowed takes e),
+            turned Allowed,
+          ))
 
   pub one-reading : (l : LmChoice) → takes l ≡ lmAllowed l
   one-reading Silent = not-yes Silent (λ e. false≢true (ap lmAllowed e))
@@ -164,13 +169,13 @@ not-refusing-silent n claim = true≢false (claim .opens (sample Silent) (openab
 
 -- ---- has a Success to repeat from the start
 
-abbrev greeted : Conversation → Conversation
-greeted c = withLast (answerWith c Success) c
+abbrev alreadyAnswered : Conversation → Conversation
+alreadyAnswered c = withLast (answerWith c Success) c
 
 -- the first packet is taken for a repeat, and draws Success; nothing was seen that it repeats
 module _ (claim : LmOptIn opensAnswered) where
   abbrev c : Conversation
-  c = greeted (firstConversation (sample Silent))
+  c = alreadyAnswered (firstConversation (sample Silent))
 
   repeats : isRepeat (c .last) (sent .packet) ≡ true
   repeats = ap₂ (λ (t u : Bool). t && u) (eq-eqb (octet 0 (sent .packet)) 2 (there .code))
@@ -196,7 +201,7 @@ module _ (claim : LmOptIn opensAnswered) where
 
   pub not-opening-answered : ⊥
   not-opening-answered =
-      let same = ap greeted (opens-where-it-may (sample Silent) (openable Silent) .1) in
+      let same = ap alreadyAnswered (opens-where-it-may (sample Silent) (openable Silent) .1) in
       let judged = subst (λ (x : Conversation). isJudged stepOn (unanswered x) sent ≡ true)
       (sym same) seen-judged in
       let out = failed _ _ (claim .off (sample Silent) (λ e. false≢true (ap lmAllowed e)) [] sent

@@ -99,9 +99,9 @@ refusesSilent n =
       reply = λ o. cond (isSilent (o .lm)) (o .buffer) (openedBuffer o);
     }
 
--- ours but for the conversation that is handed out
-abbrev pub handingOut : (Opening → Conversation → Conversation) → Opener
-handingOut other =
+-- ours but for the conversation
+abbrev pub withConversation : (Opening → Conversation → Conversation) → Opener
+withConversation other =
     record {
       answer = λ o.
           let a = opened o in
@@ -117,12 +117,12 @@ handingOut other =
 
 -- takes the three choices about LM in one way or another
 abbrev pub takesLm : (LmChoice → Bool) → Opener
-takesLm allowed = handingOut (λ o c. withLm (allowed (o .lm)) c)
+takesLm allowed = withConversation (λ o c. withLm (allowed (o .lm)) c)
 
--- hands out a conversation that has answered the awaited packet with Success already: whatever
--- comes is taken for a repeat of it
+-- its conversation has answered the awaited packet with Success already, so that what comes is
+-- taken for a repeat
 abbrev pub opensAnswered : Opener
-opensAnswered = handingOut (λ o c. withLast (answerWith c Success) c)
+opensAnswered = withConversation (λ o c. withLast (answerWith c Success) c)
 
 -- what the promise of the authenticator's `open` says
 abbrev pub spendsAll : Opener
