@@ -1,78 +1,144 @@
--- The key schedule, one round key after the other.
+-- The round key of each round: C and D there are those of PC-1, rotated by all left shifts up to it,
+-- and stand so in C and D written twice.
 -- Assumes nothing.
 use mathlib.Core.Path.{_≡_, refl, sym, ap, ap₂, _∙_, subst}
-use mathlib.Core.Bool.{_&&_}
-use mathlib.Core.List.{List, _∷_, _++_, append-nil}
-use Prim.Native.Nat.{ℕ, suc, _+_, _-_, _*_, _/_, _%_, _^_, _≤_, _<_}
-use native.Mathlib.Nat.{add-zero, mod-lt}
+use mathlib.Core.List.{List, [], _∷_}
+use Prim.Native.Nat.{ℕ, zero, suc, _+_, _-_, _*_, _/_, _%_, _^_, _≤_, _<_}
+use native.Mathlib.Nat.{add-zero, zero-add, add-assoc, add-mul, mul-assoc, mod-lt, not-suc-le-zero, le-of-suc-le-suc}
 use native.Mathlib.Omega.{arith}
 use lib.Arith.{digits-lt}
-use lib.Dec.{leb, leb→le}
-use lib.ListN.{length, take, drop, getD, set, drop-of-length-le}
-use lib.Pow.{pow-add, pow-pos, shl-shr, low, mod-pow-add, shr-lt}
-use lib.Seq.{drop-cons, take-suc-set, take-all, append-snoc}
-use Rattle.octets.proofs.Bitwise.{both-left, both-right}
+use lib.ListN.{length, getD}
+use lib.Pow.{pow-add, pow-pos, shl-shr, high, low, split, mod-pow-add, shr-lt}
 use Rattle.des.specs.Tables.{pc1, pc2, shifts}
 use Rattle.des.specs.Des.{permute, rotate, keysFrom}
+use Rattle.des.specs.Inner.{shiftsOf, rotatedBy, keysOf}
 use Rattle.des.proofs.Permute.{permute-lt}
-use Rattle.des.proofs.Entries.{every-at}
-
-pub sixteen : length shifts ≡ 16
-unfolding shifts
-sixteen = refl
 
 -- C and D are the halves of 56 bits
 pub choice-lt : (key : ℕ) → permute 64 pc1 key < 2 ^ 56
 unfolding pc1
 choice-lt key = permute-lt 64 key pc1
 
--- PC-1 names bits of 64
-pub choice-entry : (i : ℕ) → i < 56 → (1 ≤ getD pc1 i 0) × (getD pc1 i 0 ≤ 64)
-unfolding pc1
-choice-entry i h =
-    let e = getD pc1 i 0 in
-    let both = every-at (λ e. leb 1 e && leb e 64) pc1 tt i h in
-    (leb→le 1 e (both-left (leb 1 e) (leb e 64) both), leb→le e 64 (both-right (leb 1 e) (leb e 64) both))
+-- ---- rotations
 
--- no left shift is by more than 28 places
-pub shift-entry : (i : ℕ) → i < 16 → getD shifts i 0 ≤ 28
+-- three groups of bits, the last two of s and j bits
+regroup : (a b e s j : ℕ) → (a * 2 ^ s + b) * 2 ^ j + e ≡ a * 2 ^ (s + j) + (b * 2 ^ j + e)
+regroup a b e s j =
+    ap (λ (v : ℕ). v + e) (add-mul (a * 2 ^ s) b (2 ^ j) ∙ ap (λ (v : ℕ). v + b * 2 ^ j) (mul-assoc a (2 ^ s) (2 ^ j) ∙ ap (λ (p : ℕ). a * p) (sym (pow-add 2 s j))))
+    ∙ add-assoc (a * 2 ^ (s + j)) (b * 2 ^ j) e
+
+joined-lt : {a b : ℕ} (m n : ℕ) → a < 2 ^ m → b < 2 ^ n → a * 2 ^ n + b < 2 ^ (m + n)
+joined-lt {a} {b} m n ha hb = subst (λ (p : ℕ). a * 2 ^ n + b < p) (sym (pow-add 2 m n)) (digits-lt ha hb)
+
+-- what is left of a number moved up by s places, in n + s bits
+shl-mod : (c n s : ℕ) → c * 2 ^ s % 2 ^ (n + s) ≡ c % 2 ^ n * 2 ^ s
+shl-mod c n s =
+    mod-pow-add (c * 2 ^ s) n s
+    ∙ ap₂ (λ (u v : ℕ). u % 2 ^ n * 2 ^ s + v) (shl-shr c s) (ap (λ (u : ℕ). u % 2 ^ s) (sym (add-zero (c * 2 ^ s))) ∙ low c s (pow-pos s))
+    ∙ add-zero (c % 2 ^ n * 2 ^ s)
+
+-- the first s bits come last
+rotated : (a b s n : ℕ) → n + s ≡ 28 → b < 2 ^ n → rotate s (a * 2 ^ n + b) ≡ b * 2 ^ s + a
+rotated a b s n e hb =
+    let x = a * 2 ^ n + b in
+    let rest : 28 - s ≡ n = omega arith in
+    ap₂ (λ (w k : ℕ). x * 2 ^ s % 2 ^ w + x / 2 ^ k) (sym e) rest
+    ∙ ap₂ (λ (u v : ℕ). u + v) (shl-mod x n s ∙ ap (λ (u : ℕ). u * 2 ^ s) (low a n hb)) (high a n hb)
+
+module _ (c : ℕ) (h : c < 2 ^ 28) where
+  first-lt : (s n : ℕ) → n + s ≡ 28 → c / 2 ^ n < 2 ^ s
+  first-lt s n e = shr-lt s n (subst (λ (w : ℕ). c < 2 ^ w) (sym e ∙ omega arith) h)
+
+  -- 28 bits rotated stand in those bits written twice
+  rotate-twice : (s : ℕ) → s ≤ 28 → (c * 2 ^ 28 + c) / 2 ^ (28 - s) % 2 ^ 28 ≡ rotate s c
+  rotate-twice s hs =
+      let n = 28 - s in
+      let e : n + s ≡ 28 = omega arith in
+      let e′ : s + n ≡ 28 = omega arith in
+      let a = c / 2 ^ n in
+      let b = c % 2 ^ n in
+      let hb = mod-lt c (pow-pos n) in
+      ap (λ (v : ℕ). v / 2 ^ n % 2 ^ 28)
+      (ap₂ (λ (w v : ℕ). c * 2 ^ w + v) (sym e′) (sym (split c n)) ∙ sym (regroup c a b s n))
+      ∙ ap (λ (v : ℕ). v % 2 ^ 28) (high (c * 2 ^ s + a) n hb)
+      ∙ ap (λ (v : ℕ). (v * 2 ^ s + a) % 2 ^ 28) (sym (split c n))
+      ∙ ap (λ (v : ℕ). v % 2 ^ 28) (regroup a b a n s)
+      ∙ ap (λ (w : ℕ). (a * 2 ^ (n + s) + (b * 2 ^ s + a)) % 2 ^ w) (sym e)
+      ∙ low a (n + s) (joined-lt n s hb (first-lt s n e))
+      ∙ sym (rotated a b s n e hb)
+      ∙ ap (rotate s) (split c n)
+
+  -- two rotations are one
+  rotate-rotate : (m s : ℕ) → m + s ≤ 28 → rotate s (rotate m c) ≡ rotate (m + s) c
+  rotate-rotate m s hs =
+      let j = 28 - (m + s) in
+      let e : j + (m + s) ≡ 28 = omega arith in
+      let e₁ : s + j + m ≡ 28 = omega arith in
+      let e₂ : j + m + s ≡ 28 = omega arith in
+      let q = c / 2 ^ j in
+      let x = c % 2 ^ j in
+      let a = q / 2 ^ s in
+      let b = q % 2 ^ s in
+      let hx = mod-lt c (pow-pos j) in
+      let hb = mod-lt q (pow-pos s) in
+      let ha : a < 2 ^ m = shr-lt m s (first-lt (m + s) j e) in
+      let three : c ≡ (a * 2 ^ s + b) * 2 ^ j + x = sym (ap (λ (v : ℕ). v * 2 ^ j + x) (split q s) ∙ split c j) in
+      ap (λ (v : ℕ). rotate s (rotate m v)) (three ∙ regroup a b x s j)
+      ∙ ap (rotate s) (rotated a (b * 2 ^ j + x) m (s + j) e₁ (joined-lt s j hb hx) ∙ regroup b x a j m)
+      ∙ rotated b (x * 2 ^ m + a) s (j + m) e₂ (joined-lt j m hx ha)
+      ∙ regroup x a b m s
+      ∙ sym (rotated (a * 2 ^ s + b) x (m + s) j e hx)
+      ∙ ap (rotate (m + s)) (sym three)
+
+  not-rotated : rotate 0 c ≡ c
+  not-rotated = omega arith
+
+-- ---- round keys
+
+module _ (c d : ℕ) (hc : c < 2 ^ 28) (hd : d < 2 ^ 28) where
+  -- PC-2 of C and D rotated by m places
+  abbrev keyBy : ℕ → ℕ
+  keyBy m = permute 56 pc2 (rotate m c * 2 ^ 28 + rotate m d)
+
+  -- the keys from C and D rotated by m places
+  key-from : (ss : List ℕ) (m i : ℕ) → i < length ss → m + shiftsOf (length ss) ss ≤ 28
+      → getD (keysFrom ss (rotate m c) (rotate m d)) i 0 ≡ keyBy (m + shiftsOf (suc i) ss)
+  key-from [] m i h t = absurd (not-suc-le-zero h)
+  key-from (s ∷ ss) m zero h t =
+      ap₂ (λ (u v : ℕ). permute 56 pc2 (u * 2 ^ 28 + v)) (rotate-rotate c hc m s (omega arith)) (rotate-rotate d hd m s (omega arith))
+      ∙ ap (λ (n : ℕ). keyBy (m + n)) (sym (add-zero s))
+  key-from (s ∷ ss) m (suc i) h t =
+      ap₂ (λ (u v : ℕ). getD (keysFrom ss u v) i 0) (rotate-rotate c hc m s (omega arith)) (rotate-rotate d hd m s (omega arith))
+      ∙ key-from ss (m + s) i (le-of-suc-le-suc h) (omega arith)
+      ∙ ap keyBy (add-assoc m s (shiftsOf (suc i) ss))
+
+  key-at : (i : ℕ) → i < 16 → getD (keysFrom shifts c d) i 0 ≡ keyBy (rotatedBy i)
+  unfolding rotatedBy shifts
+  key-at i h =
+      sym (ap₂ (λ (u v : ℕ). getD (keysFrom shifts u v) i 0) (not-rotated c hc) (not-rotated d hd))
+      ∙ key-from shifts 0 i h (omega arith)
+      ∙ ap keyBy (zero-add (shiftsOf (suc i) shifts))
+
+-- 28 bits written twice
+abbrev pub twice : ℕ → ℕ
+twice c = c * 2 ^ 28 + c
+
+-- the key of the round i, as PC-2 finds its bits in C and D written twice
+pub key-at-place : (cd i m : ℕ) → cd < 2 ^ 56 → i < 16 → m ≡ rotatedBy i → m ≤ 28
+    → permute 56 pc2 (twice (cd / 2 ^ 28) / 2 ^ (28 - m) % 2 ^ 28 * 2 ^ 28 + twice (cd % 2 ^ 28) / 2 ^ (28 - m) % 2 ^ 28) ≡ getD (keysOf cd) i 0
+key-at-place cd i m h hi e hm =
+    let c = cd / 2 ^ 28 in
+    let d = cd % 2 ^ 28 in
+    let hc : c < 2 ^ 28 = omega arith in
+    let hd : d < 2 ^ 28 = omega arith in
+    ap₂ (λ (u v : ℕ). permute 56 pc2 (u * 2 ^ 28 + v)) (rotate-twice c hc m hm) (rotate-twice d hd m hm)
+    ∙ ap (keyBy c d hc hd) e
+    ∙ sym (key-at c d hc hd i hi)
+
+length-from : (ss : List ℕ) (c d : ℕ) → length (keysFrom ss c d) ≡ length ss
+length-from [] c d = refl
+length-from (s ∷ ss) c d = ap suc (length-from ss (rotate s c) (rotate s d))
+
+pub sixteen : (cd : ℕ) → length (keysOf cd) ≡ 16
 unfolding shifts
-shift-entry i h = leb→le (getD shifts i 0) 28 (every-at (λ s. leb s 28) shifts tt i h)
-
--- what is left of a number moved up by s places, in j + s bits
-shl-mod : (c j s : ℕ) → c * 2 ^ s % 2 ^ (j + s) ≡ c % 2 ^ j * 2 ^ s
-shl-mod c j s =
-    mod-pow-add (c * 2 ^ s) j s
-    ∙ ap₂ (λ (u v : ℕ). u % 2 ^ j * 2 ^ s + v) (shl-shr c s) (ap (λ (u : ℕ). u % 2 ^ s) (sym (add-zero (c * 2 ^ s))) ∙ low c s (pow-pos s))
-    ∙ add-zero (c % 2 ^ j * 2 ^ s)
-
-turned-lt : (c j s : ℕ) → c < 2 ^ (s + j) → c * 2 ^ s % 2 ^ (j + s) + c / 2 ^ j < 2 ^ (j + s)
-turned-lt c j s h =
-    rw (shl-mod c j s)
-    (subst (λ (p : ℕ). c % 2 ^ j * 2 ^ s + c / 2 ^ j < p) (sym (pow-add 2 j s)) (digits-lt (mod-lt c (pow-pos j)) (shr-lt s j h)))
-
--- 28 bits rotated are 28 bits
-pub rotate-lt : (s c : ℕ) → s ≤ 28 → c < 2 ^ 28 → rotate s c < 2 ^ 28
-rotate-lt s c hs h =
-    let there : 28 - s + s ≡ 28 = omega arith in
-    let back : s + (28 - s) ≡ 28 = omega arith in
-    subst (λ (w : ℕ). c * 2 ^ s % 2 ^ w + c / 2 ^ (28 - s) < 2 ^ w) there
-    (turned-lt c (28 - s) s (subst (λ (w : ℕ). c < 2 ^ w) (sym back) h))
-
--- a round key is stored at i, and C and D go on
-pub step : (keys : List ℕ) (i c d s c′ d′ v : ℕ) → i < 16 → length keys ≡ 16 → s ≡ getD shifts i 0 → c′ ≡ rotate s c → d′ ≡ rotate s d
-    → v ≡ permute 56 pc2 (c′ * 2 ^ 28 + d′)
-    → take (suc i) (set keys i v) ++ keysFrom (drop (suc i) shifts) c′ d′ ≡ take i keys ++ keysFrom (drop i shifts) c d
-step keys i c d s c′ d′ v h n es ec ed ev =
-    ap (λ (l : List ℕ). l ++ keysFrom (drop (suc i) shifts) c′ d′) (take-suc-set keys i v (omega arith))
-    ∙ append-snoc (take i keys) v (keysFrom (drop (suc i) shifts) c′ d′)
-    ∙ ap (λ (l : List ℕ). take i keys ++ l) head
-  where
-    head : v ∷ keysFrom (drop (suc i) shifts) c′ d′ ≡ keysFrom (drop i shifts) c d
-    head = rw (ev, ec, ed, es) (sym (ap (λ (l : List ℕ). keysFrom l c d) (drop-cons shifts i 0 (omega (arith, sixteen)))))
-
--- all are stored
-pub done : (keys : List ℕ) (i c d : ℕ) → 16 ≤ i → length keys ≡ 16 → take i keys ++ keysFrom (drop i shifts) c d ≡ keys
-done keys i c d h n =
-    ap₂ (λ (l m : List ℕ). l ++ keysFrom m c d) (take-all i keys (omega arith)) (drop-of-length-le shifts {i = i} (omega (arith, sixteen)))
-    ∙ append-nil keys
+sixteen cd = length-from shifts (cd / 2 ^ 28) (cd % 2 ^ 28)

@@ -1,12 +1,13 @@
 pub mod Linear
 pub mod Permute
 pub mod Entries
-pub mod Groups
-pub mod Selections
+pub mod Arms
+pub mod Folded
 pub mod Swaps
-pub mod Round
+pub mod Choices
 pub mod Keys
 pub mod RoundTrip
+pub mod Round
 pub mod Sizes
 pub mod Parity
 pub mod Worked

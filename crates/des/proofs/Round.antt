@@ -1,18 +1,22 @@
 -- The cipher function as the code computes it: each six bits of E(R) stand together in the spread
--- word, and the selection functions' results are joined as the definition joins them.
+-- word, and the entries of the folded table are joined. And the rounds of a block, one after the
+-- other.
 -- Assumes nothing.
-use mathlib.Core.Path.{_≡_, sym, ap, ap₂, _∙_}
-use mathlib.Core.List.{[]}
-use Prim.Native.Nat.{ℕ, _+_, _*_, _/_, _%_, _^_, _<_}
-use native.Mathlib.Nat.{div-one, zero-add}
+use mathlib.Core.Path.{_≡_, refl, sym, ap, ap₂, _∙_}
+use mathlib.Core.List.{List}
+use Prim.Native.Nat.{ℕ, suc, _+_, _*_, _/_, _%_, _^_, _≤_, _<_}
+use native.Mathlib.Nat.{div-one}
 use lib.Dec.{T}
-use lib.ListN.{getD}
-use lib.Bits.{bitXor, xor-shr, xor-mod}
-use Rattle.des.specs.Tables.{expansion, boxes}
-use Rattle.des.specs.Des.{permute, select, substitute}
-use Rattle.des.specs.Inner.{spread}
+use lib.ListN.{length, drop, getD, drop-of-length-le}
+use lib.Seq.{drop-cons}
+use lib.Bits.{bitXor, xor-lt, xor-zero-l, xor-shr, xor-mod}
+use Rattle.des.specs.Tables.{ip, fp, expansion, boxes}
+use Rattle.des.specs.Des.{permute, cipherF, rounds, crypt}
+use Rattle.des.specs.Inner.{spread, foldedAt}
 use Rattle.des.proofs.Linear.{Linear, agree, onBasis, lin-id, lin-xor, lin-shr, lin-mod, lin-shl}
 use Rattle.des.proofs.Permute.{lin-permute}
+use Rattle.des.proofs.Folded.{folded}
+use Rattle.des.proofs.RoundTrip.{f-lt}
 
 -- six bits of E(R), j groups from the end, and of the spread word
 abbrev ofE : ℕ → ℕ → ℕ
@@ -38,33 +42,58 @@ module _ (r k w : ℕ) (h : r < 2 ^ 32) (e : w ≡ spread r) where
       ∙ sym (xor-mod (permute 32 expansion r / 2 ^ (6 * j)) (k / 2 ^ (6 * j)) 6)
       ∙ ap (λ (v : ℕ). v % 64) (sym (xor-shr (permute 32 expansion r) k (6 * j)))
 
-  -- what the selection function i gives for the group j from the end
-  selected-at : (i j : ℕ) {s : ℕ} → T (onBasis (ofE j) (ofSpread j) 32)
-      → s ≡ select (getD boxes i []) (bitXor (w / 2 ^ (4 * j)) (k / 2 ^ (6 * j)) % 64)
-      → s ≡ select (getD boxes i []) (bitXor (permute 32 expansion r) k / 2 ^ (6 * j) % 64)
-  selected-at i j t es = es ∙ ap (select (getD boxes i [])) (group j t)
+  -- the entry of the selection function i for the group j from the end
+  entry : (i j : ℕ) {s : ℕ} → T (onBasis (ofE j) (ofSpread j) 32) → s ≡ foldedAt i (bitXor (w / 2 ^ (4 * j)) (k / 2 ^ (6 * j)) % 64)
+      → s ≡ foldedAt i (bitXor (permute 32 expansion r) k / 2 ^ (6 * j) % 64)
+  entry i j t es = es ∙ ap (foldedAt i) (group j t)
 
   pub joined-right : (s₁ s₂ s₃ s₄ s₅ s₆ s₇ s₈ : ℕ)
-      → s₁ ≡ select (getD boxes 0 []) (bitXor (w / 2 ^ 28) (k / 2 ^ 42) % 64)
-      → s₂ ≡ select (getD boxes 1 []) (bitXor (w / 2 ^ 24) (k / 2 ^ 36) % 64)
-      → s₃ ≡ select (getD boxes 2 []) (bitXor (w / 2 ^ 20) (k / 2 ^ 30) % 64)
-      → s₄ ≡ select (getD boxes 3 []) (bitXor (w / 2 ^ 16) (k / 2 ^ 24) % 64)
-      → s₅ ≡ select (getD boxes 4 []) (bitXor (w / 2 ^ 12) (k / 2 ^ 18) % 64)
-      → s₆ ≡ select (getD boxes 5 []) (bitXor (w / 2 ^ 8) (k / 2 ^ 12) % 64)
-      → s₇ ≡ select (getD boxes 6 []) (bitXor (w / 2 ^ 4) (k / 2 ^ 6) % 64)
-      → s₈ ≡ select (getD boxes 7 []) (bitXor w k % 64)
-      → ((((((s₁ * 16 + s₂) * 16 + s₃) * 16 + s₄) * 16 + s₅) * 16 + s₆) * 16 + s₇) * 16 + s₈
-      ≡ substitute 0 boxes (bitXor (permute 32 expansion r) k)
-  unfolding expansion spread boxes
+      → s₁ ≡ foldedAt 0 (bitXor (w / 2 ^ 28) (k / 2 ^ 42) % 64)
+      → s₂ ≡ foldedAt 1 (bitXor (w / 2 ^ 24) (k / 2 ^ 36) % 64)
+      → s₃ ≡ foldedAt 2 (bitXor (w / 2 ^ 20) (k / 2 ^ 30) % 64)
+      → s₄ ≡ foldedAt 3 (bitXor (w / 2 ^ 16) (k / 2 ^ 24) % 64)
+      → s₅ ≡ foldedAt 4 (bitXor (w / 2 ^ 12) (k / 2 ^ 18) % 64)
+      → s₆ ≡ foldedAt 5 (bitXor (w / 2 ^ 8) (k / 2 ^ 12) % 64)
+      → s₇ ≡ foldedAt 6 (bitXor (w / 2 ^ 4) (k / 2 ^ 6) % 64)
+      → s₈ ≡ foldedAt 7 (bitXor w k % 64)
+      → bitXor (bitXor (bitXor (bitXor (bitXor (bitXor (bitXor s₁ s₂) s₃) s₄) s₅) s₆) s₇) s₈ ≡ cipherF r k
+  unfolding cipherF expansion spread boxes
   joined-right s₁ s₂ s₃ s₄ s₅ s₆ s₇ s₈ e₁ e₂ e₃ e₄ e₅ e₆ e₇ e₈ =
-      cc (
-        sym (zero-add s₁),
-        selected-at 0 7 tt e₁,
-        selected-at 1 6 tt e₂,
-        selected-at 2 5 tt e₃,
-        selected-at 3 4 tt e₄,
-        selected-at 4 3 tt e₅,
-        selected-at 5 2 tt e₆,
-        selected-at 6 1 tt e₇,
-        selected-at 7 0 {s = s₈} tt (e₈ ∙ ap₂ (λ (u v : ℕ). select (getD boxes 7 []) (bitXor u v % 64)) (sym (div-one w)) (sym (div-one k))),
-      )
+      ap₂ bitXor (ap₂ bitXor (ap₂ bitXor (ap₂ bitXor (ap₂ bitXor (ap₂ bitXor (ap₂ bitXor
+      (sym (xor-zero-l s₁) ∙ ap (bitXor 0) (entry 0 7 tt e₁)) (entry 1 6 tt e₂)) (entry 2 5 tt e₃)) (entry 3 4 tt e₄)) (entry 4 3 tt e₅)) (entry 5 2 tt e₆))
+      (entry 6 1 tt e₇))
+      (entry 7 0 {s = s₈} tt (e₈ ∙ ap₂ (λ (u v : ℕ). foldedAt 7 (bitXor u v % 64)) (sym (div-one w)) (sym (div-one k))))
+      ∙ folded (bitXor (permute 32 expansion r) k)
+
+-- ---- the rounds
+
+-- L and R after i rounds under ks from L₀ and R₀
+pub record Going (ks : List ℕ) (l₀ r₀ i l r : ℕ) : Type 0 where
+  pub left : l < 2 ^ 32
+  pub right : r < 2 ^ 32
+  pub same : rounds (drop i ks) l r ≡ rounds ks l₀ r₀
+
+-- no round yet
+pub begun : (ks : List ℕ) (l r : ℕ) → l < 2 ^ 32 → r < 2 ^ 32 → Going ks l r 0 l r
+begun ks l r hl hr = record { left = hl; right = hr; same = refl }
+
+-- one more round
+pub go-on : {ks : List ℕ} {l₀ r₀ i l r k v : ℕ} → Going ks l₀ r₀ i l r → i < length ks → k ≡ getD ks i 0 → v ≡ cipherF r k
+    → Going ks l₀ r₀ (suc i) r (bitXor l v)
+go-on {ks} {i = i} {l} {r} {k} {v} g h ek ev = record {
+  left = g .right;
+  right = xor-lt 32 l v (g .left) (rw ev (f-lt r k));
+  same =
+      ap (λ (v : ℕ). rounds (drop (suc i) ks) r (bitXor l v)) (ev ∙ ap (cipherF r) ek)
+      ∙ sym (ap (λ (t : List ℕ). rounds t l r) (drop-cons ks i 0 h))
+      ∙ g .same;
+}
+
+-- after all rounds the inverse of IP makes the block under ks of the halves
+pub all-done : {ks : List ℕ} {i l r y v : ℕ} (x : ℕ) → Going ks (y / 2 ^ 32) (y % 2 ^ 32) i l r → length ks ≤ i → y ≡ permute 64 ip x
+    → v ≡ permute 64 fp (r * 2 ^ 32 + l) → v ≡ crypt ks x
+unfolding crypt
+all-done {ks} {i} {l} {r} x g h ey ev =
+    ev
+    ∙ ap (permute 64 fp)
+    (ap (λ (t : List ℕ). rounds t l r) (sym (drop-of-length-le ks {i = i} h)) ∙ g .same ∙ ap (λ (y : ℕ). rounds ks (y / 2 ^ 32) (y % 2 ^ 32)) ey)

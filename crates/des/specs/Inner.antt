@@ -2,11 +2,11 @@
 -- public promise does.
 -- Assumes nothing: these are definitions.
 use mathlib.Core.List.{List, [], _∷_}
-use Prim.Native.Nat.{ℕ, zero, suc, _*_, _/_, _%_, _^_}
+use Prim.Native.Nat.{ℕ, zero, suc, _+_, _-_, _*_, _/_, _%_, _^_}
 use lib.ListN.{getD}
 use lib.Bits.{bitXor, bitAnd}
-use Rattle.des.specs.Tables.{permutation, boxes, pc2}
-use Rattle.des.specs.Des.{permute, select}
+use Rattle.des.specs.Tables.{permutation, boxes, pc2, shifts}
+use Rattle.des.specs.Des.{permute, select, keysFrom}
 
 -- those bits of x that the mask m names have changed places with the bits n places above them
 unfoldable pub bitsSwapped : ℕ → ℕ → ℕ → ℕ
@@ -24,19 +24,44 @@ abbrev pub tableEntries : (ℕ → ℕ → ℕ) → ℕ → ℕ → ℕ → List
 tableEntries f m zero k = []
 tableEntries f m (suc n) k = f (k / m) (k % m) ∷ tableEntries f m n (suc k)
 
--- the selection functions, a row of 64 for each: what it gives for each six bits
-unfoldable pub boxTable : List ℕ
-boxTable = tableEntries (λ i b. select (getD boxes i []) b) 64 512 0
+-- P folded into the selection function i, counted from 0: P of the four bits that it gives for the
+-- six bits b, in their place among the 32
+abbrev pub foldedAt : ℕ → ℕ → ℕ
+foldedAt i b = permute 32 permutation (select (getD boxes i []) b * 2 ^ (4 * (7 - i)))
 
--- the table of a function by groups of four bits, a row of 16 for each of n places, the last place
--- first: what the function makes of each four bits in that place where the other bits are clear
-abbrev pub placeTable : (ℕ → ℕ) → ℕ → List ℕ
-placeTable g n = tableEntries (λ i b. g (b * 2 ^ (4 * i))) 16 (n * 16) 0
+-- the eight selection functions with P folded in, a row of 64 for each
+unfoldable pub foldedTable : List ℕ
+foldedTable = tableEntries foldedAt 64 512 0
 
--- P by eight places
-unfoldable pub permutationTable : List ℕ
-permutationTable = placeTable (permute 32 permutation) 8
+-- the rows of IP in the order of PC-1, which drops the fourth: C is the rows 5, 1, 6 and the first
+-- half of 2, D is the rows 8, 3, 7 and the last half of 2
+unfoldable pub arranged : ℕ → ℕ
+arranged y =
+    bitXor (bitXor (bitXor (bitXor (bitXor (bitXor (bitXor
+    (bitAnd y 0xFF00_0000 * 2 ^ 24 % 2 ^ 64)
+    (bitAnd (y / 2 ^ 16) 0xFF00_0000_0000))
+    (bitAnd y 0xFF_0000 * 2 ^ 16 % 2 ^ 64))
+    (bitAnd (y / 2 ^ 24) 0xF000_0000))
+    (bitAnd y 0xFF * 2 ^ 20 % 2 ^ 64))
+    (bitAnd (y / 2 ^ 28) 0xF_F000))
+    (bitAnd (y / 2 ^ 4) 0xFF0))
+    (bitAnd (y / 2 ^ 48) 0xF)
 
--- PC-2 by fourteen places
-unfoldable pub choiceTable : List ℕ
-choiceTable = placeTable (permute 56 pc2) 14
+-- what PC-2 makes of some bits b of C and the same bits of D, s places from their ends, where all
+-- other bits are clear
+unfoldable pub chosenAt : ℕ → ℕ → ℕ
+chosenAt s b = permute 56 pc2 (bitXor (b * 2 ^ (s + 28)) (b * 2 ^ s))
+
+-- the sum of the first n left shifts
+abbrev pub shiftsOf : ℕ → List ℕ → ℕ
+shiftsOf zero ss = 0
+shiftsOf (suc n) [] = 0
+shiftsOf (suc n) (s ∷ ss) = s + shiftsOf n ss
+
+-- the places by which C and D are rotated in the round i, counted from 0: all left shifts up to it
+unfoldable pub rotatedBy : ℕ → ℕ
+rotatedBy i = shiftsOf (suc i) shifts
+
+-- the round keys from the C and D that PC-1 gave, as one number of 56 bits
+abbrev pub keysOf : ℕ → List ℕ
+keysOf cd = keysFrom shifts (cd / 2 ^ 28) (cd % 2 ^ 28)

@@ -10,6 +10,4 @@ unfolding desEncrypt
 returns c = cc
 
 pub encrypt-spec : {M : Type 1} → statement M
-encrypt-spec =
-    tie.close
-    (tie.spec (λ c κs. search needs) (λ c κs. search needs) (λ c κs. search needs) (λ c κs. search needs) (λ c κs. search needs) returns)
+encrypt-spec = tie.close (tie.spec (λ c κs. search needs) (λ c κs. search needs) (λ c κs. search needs) returns)

@@ -2,31 +2,21 @@
 -- Assumes nothing.
 use mathlib.Core.Path.{ap, _∙_}
 use mathlib.Core.List.{List}
-use Prim.Native.Nat.{ℕ, _+_, _*_, _%_, _<_}
+use Prim.Native.Nat.{ℕ, _+_, _*_, _%_}
 use native.Mathlib.Nat.{mod-lt, zero-lt-suc}
 use lib.ListN.{getD}
-use native.Mathlib.Omega.{arith}
-use Rattle.des.proofs.Selections.{selection-at, selection-lt}
+use Rattle.des.proofs.Folded.{folded-at}
 use borrow.Author.Needs.{needs}
 use Rattle.des.proofs.selected.Statement.{statement}
 use Rattle.des.proofs.selected.Tie as tie
 
--- the entry that is read
-entry : (c : tie.Start) → getD (c .args .t .now) (c .args .i * 64 + c .args .b % 64) 0 < 16
-entry c = rw (c .pre .1) (selection-lt (c .args .i * 64 + c .args .b % 64) (omega arith))
-
-cast-result : tie.Need-cast-result
-cast-result c = omega (arith, entry (c .before))
-
 returns : tie.Need-returns
 returns c =
     let s = c .before in
-    let b = s .args .b % 64 in (
-      ap (λ (l : List ℕ). getD l (s .args .i * 64 + b) 0) (s .pre .1)
-          ∙ selection-at (s .args .i) b (s .pre .0) (mod-lt (s .args .b) (zero-lt-suc 63)),
-      entry s,
-    )
+    let b = s .args .b % 64 in
+    ap (λ (l : List ℕ). getD l (s .args .i * 64 + b) 0) (s .pre .1)
+    ∙ folded-at (s .args .i) b (s .pre .0) (mod-lt (s .args .b) (zero-lt-suc 63))
 
 pub selected-spec : {M : Type 1} → statement M
 selected-spec =
-    tie.close (tie.spec (λ c. search needs) (λ c. search needs) (λ c. search needs) cast-result returns)
+    tie.close (tie.spec (λ c. search needs) (λ c. search needs) (λ c. search needs) (λ c. search needs) returns)
