@@ -22,9 +22,9 @@ use Rattle.des.proofs.Entries.{entry-at, every}
 -- ---- the table
 
 -- the entry of the selection function i for the six bits b
-pub folded-at : (i b : ℕ) → i < 8 → b < 64 → getD foldedTable (i * 64 + b) 0 ≡ foldedAt i b
+pub entry-of : (i b : ℕ) → i < 8 → b < 64 → getD foldedTable (i * 64 + b) 0 ≡ foldedAt i b
 unfolding foldedTable
-folded-at i b hi hb = entry-at foldedAt 64 512 i b hb (omega arith)
+entry-of i b hi hb = entry-at foldedAt 64 512 i b hb (omega arith)
 
 -- ---- the joined entries
 

@@ -2,8 +2,10 @@
 -- Assumes nothing.
 use mathlib.Core.Path.{_≡_, refl}
 use mathlib.Core.List.{[], _∷_}
+use lib.ListN.{getD}
 use Rattle.des.specs.Tables.{ip, fp, expansion, permutation, boxes, pc1, pc2, shifts}
 use Rattle.des.specs.Des.{cipherF, crypt, roundKeys, expandKey}
+use Rattle.des.specs.Inner.{foldedTable}
 
 one-block : crypt (roundKeys 0x1334_5779_9BBC_DFF1) 0x0123_4567_89AB_CDEF ≡ 0x85E8_1354_0F0A_B405
 unfolding crypt roundKeys cipherF ip fp expansion permutation boxes pc1 pc2 shifts
@@ -12,3 +14,9 @@ one-block = refl
 first-bit : expandKey (1 ∷ 0 ∷ 0 ∷ 0 ∷ 0 ∷ 0 ∷ 0 ∷ []) ≡ 0 ∷ 0x80 ∷ 0 ∷ 0 ∷ 0 ∷ 0 ∷ 0 ∷ 0 ∷ []
 unfolding expandKey
 first-bit = refl
+
+-- entries of the folded table: of S1 for the six bits 0 and 1, of S2 for 0, and the last
+entries : (getD foldedTable 0 0 ≡ 0x0080_8200) × (getD foldedTable 1 0 ≡ 0) × (getD foldedTable 64 0 ≡ 0x4008_4010)
+    × (getD foldedTable 511 0 ≡ 0x0802_0800)
+unfolding foldedTable permutation boxes
+entries = (refl, refl, refl, refl)

@@ -6,11 +6,11 @@ ghost use Rattle.des.specs.Inner.{foldedTable, rotatedBy};
 // P folded into the selection functions S1 to S8: for each of them and each value of six bits, P of
 // what it gives, in its four bits. It is made by a function and lent to the rounds: a constant would
 // be made again on the stack at every indexing.
-pub fn folded() -> [u32; 512]
+pub(crate) fn folded() -> [u32; 512]
     ensures { λ r. ⌜ r ≡ foldedTable ⌝ }
 {
     [
-        0x0080_8200,
+        0x0080_8200, // S1
         0x0000_0000,
         0x0000_8000,
         0x0080_8202,
@@ -74,7 +74,7 @@ pub fn folded() -> [u32; 512]
         0x0000_8200,
         0x0000_0000,
         0x0080_8002,
-        0x4008_4010,
+        0x4008_4010, // S2
         0x4000_4000,
         0x0000_4000,
         0x0008_4010,
@@ -138,7 +138,7 @@ pub fn folded() -> [u32; 512]
         0x4008_0010,
         0x4008_4010,
         0x0008_4000,
-        0x0000_0104,
+        0x0000_0104, // S3
         0x0401_0100,
         0x0000_0000,
         0x0401_0004,
@@ -202,7 +202,7 @@ pub fn folded() -> [u32; 512]
         0x0000_0004,
         0x0401_0004,
         0x0001_0100,
-        0x8040_1000,
+        0x8040_1000, // S4
         0x8000_1040,
         0x8000_1040,
         0x0000_0040,
@@ -266,7 +266,7 @@ pub fn folded() -> [u32; 512]
         0x0040_0000,
         0x0000_1000,
         0x0040_1040,
-        0x0000_0080,
+        0x0000_0080, // S5
         0x0104_0080,
         0x0104_0000,
         0x2100_0080,
@@ -330,7 +330,7 @@ pub fn folded() -> [u32; 512]
         0x2004_0000,
         0x0104_0080,
         0x2000_0080,
-        0x1000_0008,
+        0x1000_0008, // S6
         0x1020_0000,
         0x0000_2000,
         0x1020_2008,
@@ -394,7 +394,7 @@ pub fn folded() -> [u32; 512]
         0x1000_0000,
         0x0020_0008,
         0x1000_2008,
-        0x0010_0000,
+        0x0010_0000, // S7
         0x0210_0001,
         0x0200_0401,
         0x0000_0000,
@@ -458,7 +458,7 @@ pub fn folded() -> [u32; 512]
         0x0200_0400,
         0x0000_0400,
         0x0010_0001,
-        0x0800_0820,
+        0x0800_0820, // S8
         0x0000_0800,
         0x0002_0000,
         0x0802_0820,
@@ -527,7 +527,7 @@ pub fn folded() -> [u32; 512]
 
 // The places by which C and D are rotated in the round i, counted from 0: all left shifts up to it.
 // A dense match is kept in read-only data: it takes no stack.
-pub fn rotated_by(i: usize) -> u32
+pub(crate) fn rotated_by(i: usize) -> u32
     requires { ⌜ i < 16 ⌝ }
     ensures { λ r. ⌜ (r ≡ rotatedBy i) × (r ≤ 28) ⌝ }
 {

@@ -6,7 +6,7 @@ ghost use Prim.Native.Nat.{_%_};
 ghost use Rattle.des.specs.Inner.{chosenAt};
 
 // PC-2 of bits 1 to 7 of C and of D, which are the last seven bits of b.
-pub fn first(b: u64) -> u64
+pub(crate) fn first(b: u64) -> u64
     ensures { λ r. ⌜ r ≡ chosenAt 21 (b % 128) ⌝ }
 {
     match b % 128 {
@@ -142,7 +142,7 @@ pub fn first(b: u64) -> u64
 }
 
 // PC-2 of bits 8 to 14 of C and of D, which are the last seven bits of b.
-pub fn second(b: u64) -> u64
+pub(crate) fn second(b: u64) -> u64
     ensures { λ r. ⌜ r ≡ chosenAt 14 (b % 128) ⌝ }
 {
     match b % 128 {
@@ -278,7 +278,7 @@ pub fn second(b: u64) -> u64
 }
 
 // PC-2 of bits 15 to 21 of C and of D, which are the last seven bits of b.
-pub fn third(b: u64) -> u64
+pub(crate) fn third(b: u64) -> u64
     ensures { λ r. ⌜ r ≡ chosenAt 7 (b % 128) ⌝ }
 {
     match b % 128 {
@@ -414,7 +414,7 @@ pub fn third(b: u64) -> u64
 }
 
 // PC-2 of bits 22 to 28 of C and of D, which are the last seven bits of b.
-pub fn fourth(b: u64) -> u64
+pub(crate) fn fourth(b: u64) -> u64
     ensures { λ r. ⌜ r ≡ chosenAt 0 (b % 128) ⌝ }
 {
     match b % 128 {

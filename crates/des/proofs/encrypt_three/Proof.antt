@@ -33,7 +33,7 @@ returns c =
     let block = s .args .block in
     let n = whole s in
     let x = number .u64-from-be .ensures in
-    c .three-with .ensures
+    c .encrypt-three-with .ensures
     ∙ ap₂ _++_ (under (part 0 7 keys) block (first .seven-at .ensures ∙ fixed-part 0 7 keys (omega arith)) x)
     (ap₂ _++_ (under (part 7 7 keys) block (second .seven-at2 .ensures ∙ fixed-part 7 7 keys (omega arith)) x)
     (under (part 14 7 keys) block (third .seven-at3 .ensures ∙ fixed-part 14 7 keys (omega arith)) x))

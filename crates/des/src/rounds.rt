@@ -1,0 +1,110 @@
+// The rounds: the cipher function f, and a block under given round keys. The table that they read is
+// lent to them.
+use crate::permutations;
+ghost use mathlib.Core.Path.{_≡_};
+ghost use mathlib.Core.List.{reverse};
+ghost use Prim.Native.Nat.{_+_, _*_, _%_, _<_};
+ghost use Rattle.des.specs.Tables.{fp};
+ghost use Rattle.des.specs.Des.{permute, cipherF, crypt};
+ghost use Rattle.des.specs.Inner.{spread, foldedAt, foldedTable};
+
+// ---- the cipher function
+
+// The last bit of r, r, and its first bit: each six bits of E stand together in it.
+fn spread_bits(r: u32) -> u64
+    ensures { λ v. ⌜ v ≡ spread r ⌝ }
+{
+    let x = r as u64;
+    ((x % 2) << 33) ^ (x << 1) ^ (x >> 31)
+}
+
+// P of what the selection function i, counted from 0, gives for the six low bits of b, in its place.
+fn folded_at(t: &[u32; 512], i: usize, b: u64) -> u32
+    requires { ⌜ (i < 8) × (now t ≡ foldedTable) ⌝ }
+    ensures { λ r. ⌜ r ≡ foldedAt i (b % 64) ⌝ }
+{
+    t[i * 64 + (b % 64) as usize]
+}
+
+// f(R, K): the selection functions at the six-bit groups of K xor E(R), with P folded in.
+pub(crate) fn cipher_function(t: &[u32; 512], r: u32, k: u64) -> u32
+    requires { ⌜ now t ≡ foldedTable ⌝ }
+    ensures { λ v. ⌜ v ≡ cipherF r k ⌝ }
+{
+    let w = spread_bits(r);
+    let s1 = folded_at(t, 0, (w >> 28) ^ (k >> 42));
+    let s2 = folded_at(t, 1, (w >> 24) ^ (k >> 36));
+    let s3 = folded_at(t, 2, (w >> 20) ^ (k >> 30));
+    let s4 = folded_at(t, 3, (w >> 16) ^ (k >> 24));
+    let s5 = folded_at(t, 4, (w >> 12) ^ (k >> 18));
+    let s6 = folded_at(t, 5, (w >> 8) ^ (k >> 12));
+    let s7 = folded_at(t, 6, (w >> 4) ^ (k >> 6));
+    let s8 = folded_at(t, 7, w ^ k);
+    s1 ^ s2 ^ s3 ^ s4 ^ s5 ^ s6 ^ s7 ^ s8
+}
+
+// ---- a block under given round keys
+
+// The sixteen round keys, each of 48 bits.
+pub(crate) struct Schedule {
+    pub(crate) keys: [u64; 16],
+}
+
+fn wide(x: u32) -> u64
+    ensures { λ r. ⌜ r ≡ x ⌝ }
+{
+    x as u64
+}
+
+// The inverse of IP of the preoutput block R L.
+pub(crate) fn finished(l: u32, r: u32) -> u64
+    ensures { λ v. ⌜ v ≡ permute 64 fp (r * 0x1_0000_0000 + l) ⌝ }
+{
+    permutations::final_permutation(wide(r) * 0x1_0000_0000 + wide(l))
+}
+
+// A block under the round keys in their order.
+pub(crate) fn crypt_block(t: &[u32; 512], s: Schedule, x: u64) -> u64
+    requires { ⌜ now t ≡ foldedTable ⌝ }
+    ensures { λ v. ⌜ v ≡ crypt (s .keys) x ⌝ }
+{
+    let keys = s.keys;
+    let y = permutations::initial_permutation(x);
+    let mut l = (y / 0x1_0000_0000) as u32;
+    let mut r = (y % 0x1_0000_0000) as u32;
+    let mut i: usize = 0;
+    while i < 16 {
+        let next = l ^ cipher_function(t, r, keys[i]);
+        l = r;
+        r = next;
+        i += 1;
+    }
+    finished(l, r)
+}
+
+// The round keys in the opposite order.
+pub(crate) fn reversed(s: Schedule) -> Schedule
+    ensures { λ r. ⌜ r .keys ≡ reverse (s .keys) ⌝ }
+{
+    let k = s.keys;
+    Schedule {
+        keys: [
+            k[15],
+            k[14],
+            k[13],
+            k[12],
+            k[11],
+            k[10],
+            k[9],
+            k[8],
+            k[7],
+            k[6],
+            k[5],
+            k[4],
+            k[3],
+            k[2],
+            k[1],
+            k[0],
+        ],
+    }
+}
