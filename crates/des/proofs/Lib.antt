@@ -9,5 +9,6 @@ pub mod Keys
 pub mod RoundTrip
 pub mod Round
 pub mod Sizes
+pub mod Expanded
 pub mod Parity
 pub mod Worked

@@ -24,6 +24,10 @@ at-zero {g} l = l .law 0 0 ∙ xor-self (g 0)
 pub lin-id : Linear (λ x. x)
 lin-id = record { law = λ a b. refl }
 
+-- what is equal everywhere to a linear function is linear
+pub lin-same : {f g : ℕ → ℕ} → ((x : ℕ) → f x ≡ g x) → Linear g → Linear f
+lin-same e l = record { law = λ a b. e (bitXor a b) ∙ l .law a b ∙ sym (ap₂ bitXor (e a) (e b)) }
+
 pub lin-after : {g h : ℕ → ℕ} → Linear g → Linear h → Linear (λ x. g (h x))
 lin-after {g} {h} lg lh = record { law = λ a b. ap g (lh .law a b) ∙ lg .law (h a) (h b) }
 

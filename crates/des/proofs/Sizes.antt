@@ -27,7 +27,7 @@ length-expand key = refl
 
 -- ---- octets
 
-octets-double : (n x : ℕ) → Octets (map double (toDigits 7 n x))
+pub octets-double : (n x : ℕ) → Octets (map double (toDigits 7 n x))
 octets-double zero x i = lit< tt
 octets-double (suc n) x zero = omega (arith, mod-lt (x / 2 ^ (7 * n)) (zero-lt-suc 127))
 octets-double (suc n) x (suc i) = octets-double n x i

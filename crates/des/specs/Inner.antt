@@ -14,6 +14,10 @@ bitsSwapped n m x =
     bitXor (bitXor x (bitAnd (bitXor (x / 2 ^ n) x) m))
     (bitAnd (bitXor (x / 2 ^ n) x) m * 2 ^ n % 2 ^ 64)
 
+-- those bits of x that the mask m names, n places up, and those that l names where they are
+unfoldable pub setApart : ℕ → ℕ → ℕ → ℕ → ℕ
+setApart n m l x = bitXor (bitAnd x m * 2 ^ n % 2 ^ 64) (bitAnd x l)
+
 -- the last bit of r, the 32 bits of r, and the first bit of r: each six bits that E chooses stand
 -- together in it
 unfoldable pub spread : ℕ → ℕ

@@ -19,17 +19,7 @@ ghost use Rattle.des.specs.Inner.{foldedTable};
 pub fn expand_key(key: [u8; 7]) -> [u8; 8]
     ensures { λ r. ⌜ r ≡ expandKey key ⌝ }
 {
-    let x = octets::u64_from_be([0, key[0], key[1], key[2], key[3], key[4], key[5], key[6]]);
-    [
-        (x / 0x0002_0000_0000_0000 % 128 * 2) as u8,
-        (x / 0x0400_0000_0000 % 128 * 2) as u8,
-        (x / 0x0008_0000_0000 % 128 * 2) as u8,
-        (x / 0x1000_0000 % 128 * 2) as u8,
-        (x / 0x0020_0000 % 128 * 2) as u8,
-        (x / 0x4000 % 128 * 2) as u8,
-        (x / 0x80 % 128 * 2) as u8,
-        (x % 128 * 2) as u8,
-    ]
+    octets::u64_to_be(schedule::key_number(key))
 }
 
 // The top seven bits of an octet.

@@ -6,9 +6,33 @@ use crate::windows;
 ghost use mathlib.Core.Path.{_≡_};
 ghost use Prim.Native.Nat.{_+_, _*_, _%_, _<_};
 ghost use lib.ListN.{getD};
+ghost use Rattle.octets.specs.Numbers.{fromBe};
 ghost use Rattle.des.specs.Tables.{pc1, pc2};
-ghost use Rattle.des.specs.Des.{permute, scheduleOf};
-ghost use Rattle.des.specs.Inner.{arranged, chosenAt, keysOf};
+ghost use Rattle.des.specs.Des.{permute, expandKey, scheduleOf};
+ghost use Rattle.des.specs.Inner.{setApart, arranged, chosenAt, keysOf};
+
+// ---- the key
+
+// Those bits of x that the mask m names, n places up, and those that l names where they are.
+fn set_apart(x: u64, n: u32, m: u64, l: u64) -> u64
+    requires { ⌜ n < 64 ⌝ }
+    ensures { λ r. ⌜ r ≡ setApart n m l x ⌝ }
+{
+    ((x & m) << n) ^ (x & l)
+}
+
+// The 56 bits of a key in the top seven bits of eight octets, the parity bits clear, as one number:
+// they are set apart by 28, by 14 and by 7.
+pub(crate) fn key_number(key: [u8; 7]) -> u64
+    ensures { λ r. ⌜ r ≡ fromBe (expandKey key) ⌝ }
+{
+    let x = octets::u64_from_be([0, key[0], key[1], key[2], key[3], key[4], key[5], key[6]]);
+    let a = set_apart(x, 4, 0x00ff_ffff_f000_0000, 0x0000_0000_0fff_ffff);
+    let b = set_apart(a, 2, 0x0fff_c000_0fff_c000, 0x0000_3fff_0000_3fff);
+    set_apart(b, 1, 0x3f80_3f80_3f80_3f80, 0x007f_007f_007f_007f) << 1
+}
+
+// ---- the permuted choices
 
 // The rows of IP in the order of PC-1.
 fn arrange(y: u64) -> u64
@@ -49,6 +73,8 @@ fn second_choice(c: u64, d: u64) -> u64
     (choose_both(c) & 0xffff_ff00_0000) ^ (choose_both(d) & 0xff_ffff)
 }
 
+// ---- the round keys
+
 // The round key of the round i, counted from 0, from the C and D that PC-1 gave: 28 bits rotated to
 // the left by n places stand 28 - n places from the end of those bits written twice.
 pub(crate) fn round_key(cd: u64, i: usize) -> u64
@@ -65,7 +91,7 @@ pub(crate) fn round_key(cd: u64, i: usize) -> u64
 pub(crate) fn choice_of(key: [u8; 7]) -> u64
     ensures { λ r. ⌜ (r < 0x0100_0000_0000_0000) × (keysOf r ≡ scheduleOf key) ⌝ }
 {
-    first_choice(octets::u64_from_be(crate::expand_key(key)))
+    first_choice(key_number(key))
 }
 
 // The round keys of a key of seven octets.

@@ -14,11 +14,9 @@ use Rattle.des.proofs.schedule.choice_of.Tie as tie
 returns : tie.Need-returns
 unfolding scheduleOf roundKeys
 returns c =
-    let s = c .before .before .before in
-    let key = fromBe (expandKey (s .args .key)) in
-    let e : c .first-choice .result ≡ permute 64 pc1 key =
-    c .first-choice .ensures ∙ ap (permute 64 pc1) (c .before .u64-from-be .ensures ∙ ap fromBe (c .before .before .expand-key .ensures)) in
+    let key = fromBe (expandKey (c .before .before .args .key)) in
+    let e : c .first-choice .result ≡ permute 64 pc1 key = c .first-choice .ensures ∙ ap (permute 64 pc1) (c .before .key-number .ensures) in
     (rw e (choice-lt key), ap keysOf e)
 
 pub choice-of-spec : {M : Type 1} → statement M
-choice-of-spec = tie.close (tie.spec (λ c κs. search needs) (λ c κs. search needs) (λ c κs. search needs) returns)
+choice-of-spec = tie.close (tie.spec (λ c κs. search needs) (λ c κs. search needs) returns)
