@@ -234,7 +234,7 @@ extern "C" {
 
 /* ---- the size of the stack to provide, in bytes (see STACK) */
 
-#define MSCHAP_STACK_SIZE 12288
+#define MSCHAP_STACK_SIZE 8192
 
 /* ---- values (see VALUES), and arrays that have types of their own so that a compiler tells them
         apart: what is in those four is the caller's to read and write */
@@ -298,7 +298,7 @@ uint32_t mschap_nt_hash(const mschap_password *password, size_t password_size,
    answers by NT needs none.
    Returns MSCHAP_OK; MSCHAP_BAD_ARGUMENT unless hash is MSCHAP_HASH_SIZE bytes; MSCHAP_INPUT for a
    longer password.
-   Stack: 3,336 bytes. */
+   Stack: 2,208 bytes. */
 uint32_t mschap_lm_hash(const uint8_t *password, size_t password_size,
                         mschap_lmhash *hash, size_t hash_size);
 
@@ -389,7 +389,7 @@ uint32_t mschap_open(uint32_t identifier, uint32_t terms,
    come. Returns then the first of these that applies: MSCHAP_REPLY_ROOM; MSCHAP_FRAME; and, unless
    the packet is a repeat, MSCHAP_ENDED; MSCHAP_CODE; MSCHAP_IDENTIFIER; MSCHAP_SIZE; MSCHAP_FLAGS.
    Returns MSCHAP_BAD_ARGUMENT for an invalid conversation or record, or an answer of another size.
-   Stack: 5,192 bytes. */
+   Stack: 4,096 bytes. */
 uint32_t mschap_step(mschap_conversation *conversation, size_t conversation_size,
                      const uint8_t *packet, size_t packet_size,
                      const mschap_record *record, size_t record_size,
@@ -516,7 +516,7 @@ uint32_t mschap_read_reply(mschap_peer *peer, size_t peer_size,
    front of out. The packet is 54 bytes longer than its name; the bytes behind it are unchanged.
    Returns MSCHAP_OK; MSCHAP_BAD_ARGUMENT for an invalid peer or password; MSCHAP_NAME; MSCHAP_ROOM
    if out is too small.
-   Stack: 4,040 bytes. */
+   Stack: 2,960 bytes. */
 uint32_t mschap_write_response(mschap_peer *peer, size_t peer_size,
                                const mschap_password *password, size_t password_size,
                                const uint8_t *name, size_t name_size,
@@ -529,7 +529,7 @@ uint32_t mschap_write_response(mschap_peer *peer, size_t peer_size,
    be unpredictable: from a CSPRNG.
    Returns MSCHAP_OK; MSCHAP_BAD_ARGUMENT for an invalid peer or password; MSCHAP_FILLER;
    MSCHAP_ROOM if out is too small.
-   Stack: 4,312 bytes. */
+   Stack: 3,232 bytes. */
 uint32_t mschap_write_change(mschap_peer *peer, size_t peer_size,
                              const mschap_password *old_password, size_t old_password_size,
                              const mschap_new_password *new_password, size_t new_password_size,
@@ -555,20 +555,20 @@ uint32_t mschap_rc4(const mschap_rc4_key *key, size_t key_size,
 /* DES of a block (MSCHAP_BLOCK_SIZE bytes) in place, under a key of 56 bits: MSCHAP_KEY_SIZE
    bytes, without parity.
    Returns MSCHAP_OK; MSCHAP_BAD_ARGUMENT for another size.
-   Stack: 3,288 bytes. */
+   Stack: 2,160 bytes. */
 uint32_t mschap_des_encrypt(const uint8_t *key, size_t key_size,
                             uint8_t *block, size_t block_size);
 
 /* The inverse of mschap_des_encrypt.
    Returns MSCHAP_OK; MSCHAP_BAD_ARGUMENT for another size.
-   Stack: 3,384 bytes. */
+   Stack: 2,368 bytes. */
 uint32_t mschap_des_decrypt(const uint8_t *key, size_t key_size,
                             uint8_t *block, size_t block_size);
 
 /* ChallengeResponse() of RFC 2433, A.7: the response (MSCHAP_RESPONSE_SIZE bytes) of a hash, NT or
    LM (MSCHAP_HASH_SIZE), to a challenge (MSCHAP_CHALLENGE_SIZE).
    Returns MSCHAP_OK; MSCHAP_BAD_ARGUMENT for another size.
-   Stack: 3,368 bytes. */
+   Stack: 2,288 bytes. */
 uint32_t mschap_challenge_response(const uint8_t *hash, size_t hash_size,
                                    const uint8_t *challenge, size_t challenge_size,
                                    uint8_t *response, size_t response_size);
