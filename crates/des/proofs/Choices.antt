@@ -1,6 +1,6 @@
 -- PC-1 by the rows of IP, and PC-2 by seven bits of C and D at a time.
 -- Assumes nothing.
-use mathlib.Core.Path.{_≡_, sym, ap, ap₂, _∙_}
+use mathlib.Core.Path.{_≡_, sym, ap₂, _∙_}
 use Prim.Native.Nat.{ℕ, _+_, _*_, _/_, _%_, _^_, _<_}
 use native.Mathlib.Nat.{mod-lt}
 use lib.Arith.{digits-lt}
@@ -25,7 +25,8 @@ lin-arranged : Linear arranged
 unfolding arranged
 lin-arranged =
     lin-xor (lin-xor (lin-xor (lin-xor (lin-xor (lin-xor (lin-xor
-    (up 0xFF00_0000 24) (down 0xFF00_0000_0000 16)) (up 0xFF_0000 16)) (down 0xF000_0000 24)) (up 0xFF 20)) (down 0xF_F000 28)) (down 0xFF0 4)) (down 0xF 48)
+    (up 0xFF00_0000 24) (down 0xFF00_0000_0000 16)) (up 0xFF_0000 16)) (down 0xF000_0000 24)) (up 0xFF 20))
+    (down 0xF_F000 28)) (down 0xFF0 4)) (down 0xF 48)
 
 pub rows : (key : ℕ) → key < 2 ^ 64 → arranged (permute 64 ip key) ≡ permute 64 pc1 key
 unfolding arranged ip pc1
@@ -51,7 +52,8 @@ bySevens x =
 pub sevens : (x : ℕ) → x < 2 ^ 64 → bySevens x ≡ chosenAt 0 (x % 2 ^ 28)
 unfolding chosenAt pc2
 sevens =
-    agree bySevens (λ x. chosenAt 0 (x % 2 ^ 28)) (lin-xor (lin-xor (lin-xor (seven 21) (seven 14)) (seven 7)) (seven 0)) (lin-chosen 0 (lin-mod 28 lin-id)) 64 tt
+    agree bySevens (λ x. chosenAt 0 (x % 2 ^ 28)) (lin-xor (lin-xor (lin-xor (seven 21) (seven 14)) (seven 7)) (seven 0))
+    (lin-chosen 0 (lin-mod 28 lin-id)) 64 tt
 
 abbrev byHalves : ℕ → ℕ → ℕ
 byHalves c d = bitXor (bitAnd (chosenAt 0 c) 0xFFFF_FF00_0000) (bitAnd (chosenAt 0 d) 0xFF_FFFF)

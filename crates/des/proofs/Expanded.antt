@@ -44,4 +44,5 @@ apart x =
 
 pub expanded : (x : ℕ) → x < 2 ^ 64 → apart x ≡ fromBe (sevens 8 x)
 unfolding setApart
-expanded = agree apart (λ x. fromBe (sevens 8 x)) (lin-mod 64 (lin-shl 1 (lin-apart 1 _ _ (lin-apart 2 _ _ (lin-apart 4 _ _ lin-id))))) (lin-sevens 8) 64 tt
+expanded =
+    agree apart (λ x. fromBe (sevens 8 x)) (lin-mod 64 (lin-shl 1 (lin-apart 1 _ _ (lin-apart 2 _ _ (lin-apart 4 _ _ lin-id))))) (lin-sevens 8) 64 tt

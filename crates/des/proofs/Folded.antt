@@ -17,7 +17,7 @@ use Rattle.des.specs.Des.{permute, select, substitute}
 use Rattle.des.specs.Inner.{foldedAt, foldedTable}
 use Rattle.des.proofs.Linear.{at-zero, lin-id, lin-after, lin-shl}
 use Rattle.des.proofs.Permute.{lin-permute}
-use Rattle.des.proofs.Entries.{entry-at, every}
+use Rattle.des.proofs.Entries.{entry-at}
 
 -- ---- the table
 
@@ -36,15 +36,20 @@ abbrev pub foldedFrom : ℕ → List (List ℕ) → ℕ → ℕ
 foldedFrom a [] x = a
 foldedFrom a (s ∷ ss) x = foldedFrom (bitXor a (P (select s (x / 2 ^ (6 * length ss) % 64) * 2 ^ (4 * length ss)))) ss x
 
--- no entry of a selection function has more than four bits
-abbrev fourBits : List (List ℕ) → Bool
+-- each number of a list has at most four bits
+abbrev fourBits : List ℕ → Bool
 fourBits [] = true
-fourBits (s ∷ ss) = every (λ v. ltb v 16) s && fourBits ss
+fourBits (v ∷ s) = ltb v 16 && fourBits s
 
-entry-lt : (s : List ℕ) → T (every (λ v. ltb v 16) s) → (i : ℕ) → getD s i 0 < 16
-entry-lt [] t i = lit< tt
-entry-lt (v ∷ s) t zero = ltb→lt v 16 (both-left (ltb v 16) (every (λ v. ltb v 16) s) t)
-entry-lt (v ∷ s) t (suc i) = entry-lt s (both-right (ltb v 16) (every (λ v. ltb v 16) s) t) i
+-- so have all that the selection functions give
+abbrev allFour : List (List ℕ) → Bool
+allFour [] = true
+allFour (s ∷ ss) = fourBits s && allFour ss
+
+four-bits : (s : List ℕ) → T (fourBits s) → (i : ℕ) → getD s i 0 < 16
+four-bits [] t i = lit< tt
+four-bits (v ∷ s) t zero = ltb→lt v 16 (both-left (ltb v 16) (fourBits s) t)
+four-bits (v ∷ s) t (suc i) = four-bits s (both-right (ltb v 16) (fourBits s) t) i
 
 -- four bits v after the bits acc, with n groups of four to come
 one-group : (acc v n : ℕ) → v < 16 → P ((acc * 16 + v) * 2 ^ (4 * n)) ≡ bitXor (P (acc * 2 ^ (4 * suc n))) (P (v * 2 ^ (4 * n)))
@@ -53,14 +58,13 @@ one-group acc v n h =
     ∙ lin-after (lin-permute 32 permutation) (lin-shl (4 * n) lin-id) .law (acc * 16) v
     ∙ ap (λ (y : ℕ). bitXor (P y) (P (v * 2 ^ (4 * n)))) (mul-assoc acc 16 (2 ^ (4 * n)) ∙ ap (λ (y : ℕ). acc * y) (one-more 4 n))
 
-folds : (ss : List (List ℕ)) → T (fourBits ss) → (acc x : ℕ) → foldedFrom (P (acc * 2 ^ (4 * length ss))) ss x ≡ P (substitute acc ss x)
+folds : (ss : List (List ℕ)) → T (allFour ss) → (acc x : ℕ) → foldedFrom (P (acc * 2 ^ (4 * length ss))) ss x ≡ P (substitute acc ss x)
 folds [] t acc x = ap P (mul-one acc)
 folds (s ∷ ss) t acc x =
     let n = length ss in
     let v = select s (x / 2 ^ (6 * n) % 64) in
-    let few = both-left (every (λ v. ltb v 16) s) (fourBits ss) t in
-    ap (λ (a : ℕ). foldedFrom a ss x) (sym (one-group acc v n (entry-lt s few _)))
-    ∙ folds ss (both-right (every (λ v. ltb v 16) s) (fourBits ss) t) (acc * 16 + v) x
+    ap (λ (a : ℕ). foldedFrom a ss x) (sym (one-group acc v n (four-bits s (both-left (fourBits s) (allFour ss) t) _)))
+    ∙ folds ss (both-right (fourBits s) (allFour ss) t) (acc * 16 + v) x
 
 pub folded : (x : ℕ) → foldedFrom 0 boxes x ≡ P (substitute 0 boxes x)
 unfolding boxes

@@ -1,5 +1,5 @@
--- The round key of each round: C and D there are those of PC-1, rotated by all left shifts up to it,
--- and stand so in C and D written twice.
+-- The round key of each round: C and D there are those of PC-1, rotated by all left shifts up to
+-- it, and stand so in C and D written twice.
 -- Assumes nothing.
 use mathlib.Core.Path.{_≡_, refl, sym, ap, ap₂, _∙_, subst}
 use mathlib.Core.List.{List, [], _∷_}
@@ -24,7 +24,9 @@ choice-lt key = permute-lt 64 key pc1
 -- three groups of bits, the last two of s and j bits
 regroup : (a b e s j : ℕ) → (a * 2 ^ s + b) * 2 ^ j + e ≡ a * 2 ^ (s + j) + (b * 2 ^ j + e)
 regroup a b e s j =
-    ap (λ (v : ℕ). v + e) (add-mul (a * 2 ^ s) b (2 ^ j) ∙ ap (λ (v : ℕ). v + b * 2 ^ j) (mul-assoc a (2 ^ s) (2 ^ j) ∙ ap (λ (p : ℕ). a * p) (sym (pow-add 2 s j))))
+    ap (λ (v : ℕ). v + e)
+    (add-mul (a * 2 ^ s) b (2 ^ j)
+    ∙ ap (λ (v : ℕ). v + b * 2 ^ j) (mul-assoc a (2 ^ s) (2 ^ j) ∙ ap (λ (p : ℕ). a * p) (sym (pow-add 2 s j))))
     ∙ add-assoc (a * 2 ^ (s + j)) (b * 2 ^ j) e
 
 joined-lt : {a b : ℕ} (m n : ℕ) → a < 2 ^ m → b < 2 ^ n → a * 2 ^ n + b < 2 ^ (m + n)

@@ -10,6 +10,7 @@ use lib.Dec.{T}
 use lib.ListN.{length, drop, getD, drop-of-length-le}
 use lib.Seq.{drop-cons}
 use lib.Bits.{bitXor, xor-lt, xor-zero-l, xor-shr, xor-mod}
+use Rattle.octets.specs.Numbers.{toBe}
 use Rattle.des.specs.Tables.{ip, fp, expansion, boxes}
 use Rattle.des.specs.Des.{permute, cipherF, rounds, crypt}
 use Rattle.des.specs.Inner.{spread, foldedAt}
@@ -60,8 +61,8 @@ module _ (r k w : ℕ) (h : r < 2 ^ 32) (e : w ≡ spread r) where
   unfolding cipherF expansion spread boxes
   joined-right s₁ s₂ s₃ s₄ s₅ s₆ s₇ s₈ e₁ e₂ e₃ e₄ e₅ e₆ e₇ e₈ =
       ap₂ bitXor (ap₂ bitXor (ap₂ bitXor (ap₂ bitXor (ap₂ bitXor (ap₂ bitXor (ap₂ bitXor
-      (sym (xor-zero-l s₁) ∙ ap (bitXor 0) (entry 0 7 tt e₁)) (entry 1 6 tt e₂)) (entry 2 5 tt e₃)) (entry 3 4 tt e₄)) (entry 4 3 tt e₅)) (entry 5 2 tt e₆))
-      (entry 6 1 tt e₇))
+      (sym (xor-zero-l s₁) ∙ ap (bitXor 0) (entry 0 7 tt e₁)) (entry 1 6 tt e₂)) (entry 2 5 tt e₃)) (entry 3 4 tt e₄))
+      (entry 4 3 tt e₅)) (entry 5 2 tt e₆)) (entry 6 1 tt e₇))
       (entry 7 0 {s = s₈} tt (e₈ ∙ ap₂ (λ (u v : ℕ). foldedAt 7 (bitXor u v % 64)) (sym (div-one w)) (sym (div-one k))))
       ∙ folded (bitXor (permute 32 expansion r) k)
 
@@ -97,3 +98,8 @@ all-done {ks} {i} {l} {r} x g h ey ev =
     ev
     ∙ ap (permute 64 fp)
     (ap (λ (t : List ℕ). rounds t l r) (sym (drop-of-length-le ks {i = i} h)) ∙ g .same ∙ ap (λ (y : ℕ). rounds ks (y / 2 ^ 32) (y % 2 ^ 32)) ey)
+
+-- the same as octets, under the round keys of a key
+pub encrypted : {ks us o : List ℕ} {i l r y v : ℕ} (x : ℕ) → Going ks (y / 2 ^ 32) (y % 2 ^ 32) i l r → length ks ≤ i → y ≡ permute 64 ip x
+    → v ≡ permute 64 fp (r * 2 ^ 32 + l) → o ≡ toBe 8 v → ks ≡ us → o ≡ toBe 8 (crypt us x)
+encrypted x g h ey ev eo e = eo ∙ ap (toBe 8) (all-done x g h ey ev ∙ ap (λ (t : List ℕ). crypt t x) e)

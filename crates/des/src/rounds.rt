@@ -1,5 +1,5 @@
-// The rounds: the cipher function f, and a block under given round keys. The table that they read is
-// lent to them.
+// The rounds: the cipher function f, and a block under given round keys. The table that they read
+// is lent to them.
 use crate::permutations;
 ghost use mathlib.Core.Path.{_≡_};
 ghost use mathlib.Core.List.{reverse};
@@ -18,7 +18,8 @@ fn spread_bits(r: u32) -> u64
     ((x % 2) << 33) ^ (x << 1) ^ (x >> 31)
 }
 
-// P of what the selection function i, counted from 0, gives for the six low bits of b, in its place.
+// P of what the selection function i, counted from 0, gives for the six low bits of b, put in its
+// place.
 fn folded_at(t: &[u32; 512], i: usize, b: u64) -> u32
     requires { ⌜ (i < 8) × (now t ≡ foldedTable) ⌝ }
     ensures { λ r. ⌜ r ≡ foldedAt i (b % 64) ⌝ }

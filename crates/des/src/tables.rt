@@ -1,11 +1,11 @@
 // The table of the rounds and that of the key schedule's rotations.
 ghost use mathlib.Core.Path.{_≡_};
-ghost use Prim.Native.Nat.{suc, _<_, _≤_};
+ghost use Prim.Native.Nat.{_<_, _≤_};
 ghost use Rattle.des.specs.Inner.{foldedTable, rotatedBy};
 
 // P folded into the selection functions S1 to S8: for each of them and each value of six bits, P of
-// what it gives, in its four bits. It is made by a function and lent to the rounds: a constant would
-// be made again on the stack at every indexing.
+// what it gives, put in its place. It is made by a function and lent to the rounds: a constant
+// would be made again on the stack at every indexing.
 pub(crate) fn folded() -> [u32; 512]
     ensures { λ r. ⌜ r ≡ foldedTable ⌝ }
 {

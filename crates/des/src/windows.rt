@@ -1,6 +1,6 @@
 // PC-2 by seven bits of C and the same seven bits of D: what it makes of them where all other bits
-// are clear. Each is a dense match on all values of seven bits, which the compiler keeps in read-only
-// data, so that it takes no stack.
+// are clear. Each is a dense match on all values of seven bits, which the compiler keeps in
+// read-only data, so that it takes no stack.
 ghost use mathlib.Core.Path.{_≡_};
 ghost use Prim.Native.Nat.{_%_};
 ghost use Rattle.des.specs.Inner.{chosenAt};

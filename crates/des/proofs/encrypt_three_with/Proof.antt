@@ -1,16 +1,13 @@
 -- `des::encrypt_three_with` meets its contract.
 -- Assumes nothing.
-use mathlib.Core.Path.{_≡_, refl, ap, ap₂, _∙_}
-use mathlib.Core.List.{List, _++_}
-use Prim.Native.Nat.{ℕ, _-_, _*_, _+_, _/_, _%_, _^_, _≤_}
+use mathlib.Core.Path.{ap₂, _∙_}
+use mathlib.Core.List.{_++_}
+use Prim.Native.Nat.{_-_, _+_, _/_, _%_, _^_, _≤_}
 use native.Mathlib.Numerals.{add-one}
 use native.Mathlib.Omega.{arith}
-use Rattle.octets.specs.Numbers.{toBe}
-use Rattle.des.specs.Tables.{ip, fp}
-use Rattle.des.specs.Des.{permute, crypt}
 use Rattle.des.specs.Inner.{keysOf}
 use Rattle.des.proofs.Keys.{sixteen}
-use Rattle.des.proofs.Round.{Going, begun, go-on, all-done}
+use Rattle.des.proofs.Round.{Going, begun, go-on, encrypted}
 use borrow.Author.Needs.{needs}
 use Rattle.des.proofs.encrypt_three_with.Statement.{statement}
 use Rattle.des.proofs.encrypt_three_with.Tie as tie
@@ -73,14 +70,11 @@ returns c =
     let n₁ = sixteen (cd₁ .choice-of .result) in
     let n₂ = sixteen (cd₂ .choice-of2 .result) in
     let n₃ = sixteen (cd₃ .choice-of3 .result) in
-    let under : List ℕ → List ℕ = λ ks. toBe 8 (crypt ks x) in
     let e = y .initial-permutation .ensures in
     c .joined .ensures
-    ∙ ap₂ _++_
-    (b₁ .u64-to-be .ensures ∙ ap (toBe 8) (all-done x (h .loop .inv .1) (omega arith) e (b₁ .before .finished .ensures)) ∙ ap under (cd₁ .choice-of .ensures .1))
-    (ap₂ _++_
-    (b₂ .u64-to-be2 .ensures ∙ ap (toBe 8) (all-done x (h .loop .inv .2) (omega arith) e (b₂ .before .finished2 .ensures)) ∙ ap under (cd₂ .choice-of2 .ensures .1))
-    (b₃ .u64-to-be3 .ensures ∙ ap (toBe 8) (all-done x (h .loop .inv .3) (omega arith) e (b₃ .before .finished3 .ensures)) ∙ ap under (cd₃ .choice-of3 .ensures .1)))
+    ∙ ap₂ _++_ (encrypted x (h .loop .inv .1) (omega arith) e (b₁ .before .finished .ensures) (b₁ .u64-to-be .ensures) (cd₁ .choice-of .ensures .1))
+    (ap₂ _++_ (encrypted x (h .loop .inv .2) (omega arith) e (b₂ .before .finished2 .ensures) (b₂ .u64-to-be2 .ensures) (cd₂ .choice-of2 .ensures .1))
+    (encrypted x (h .loop .inv .3) (omega arith) e (b₃ .before .finished3 .ensures) (b₃ .u64-to-be3 .ensures) (cd₃ .choice-of3 .ensures .1)))
 
 pub encrypt-three-with-spec : {M : Type 1} → statement M
 encrypt-three-with-spec =

@@ -1,15 +1,11 @@
 -- `des::encrypt_with` meets its contract.
 -- Assumes nothing.
-use mathlib.Core.Path.{_≡_, refl, ap, _∙_}
-use mathlib.Core.List.{List}
-use Prim.Native.Nat.{ℕ, _-_, _≤_}
+use Prim.Native.Nat.{_-_, _≤_}
 use native.Mathlib.Numerals.{add-one}
 use native.Mathlib.Omega.{arith}
-use Rattle.octets.specs.Numbers.{toBe}
-use Rattle.des.specs.Des.{crypt}
 use Rattle.des.specs.Inner.{keysOf}
 use Rattle.des.proofs.Keys.{sixteen}
-use Rattle.des.proofs.Round.{Going, begun, go-on, all-done}
+use Rattle.des.proofs.Round.{Going, begun, go-on, encrypted}
 use borrow.Author.Needs.{needs}
 use Rattle.des.proofs.encrypt_with.Statement.{statement}
 use Rattle.des.proofs.encrypt_with.Tie as tie
@@ -45,10 +41,8 @@ returns c =
     let key = y .before in
     let cd = key .choice-of .result in
     let n = sixteen cd in
-    c .u64-to-be .ensures
-    ∙ ap (toBe 8)
-    (all-done (key .before .args .x) (h .loop .inv .1) (omega arith) (y .initial-permutation .ensures) (f .finished .ensures)
-    ∙ ap (λ (ks : List ℕ). crypt ks (key .before .args .x)) (key .choice-of .ensures .1))
+    encrypted (key .before .args .x) (h .loop .inv .1) (omega arith) (y .initial-permutation .ensures) (f .finished .ensures) (c .u64-to-be .ensures)
+    (key .choice-of .ensures .1)
 
 pub encrypt-with-spec : {M : Type 1} → statement M
 encrypt-with-spec =

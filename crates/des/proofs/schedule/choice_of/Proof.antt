@@ -1,7 +1,6 @@
 -- `des::schedule::choice_of` meets its contract.
 -- Assumes nothing.
 use mathlib.Core.Path.{_≡_, ap, _∙_}
-use Prim.Native.Nat.{ℕ, _^_, _<_}
 use Rattle.octets.specs.Numbers.{fromBe}
 use Rattle.des.specs.Tables.{pc1}
 use Rattle.des.specs.Des.{permute, roundKeys, expandKey, scheduleOf}

@@ -1,6 +1,6 @@
 -- `des::schedule::choose_both` meets its contract.
 -- Assumes nothing.
-use mathlib.Core.Path.{_≡_, sym, ap, ap₂, _∙_}
+use mathlib.Core.Path.{sym, ap, ap₂, _∙_}
 use Prim.Native.Nat.{ℕ, _%_}
 use native.Mathlib.Nat.{div-one}
 use lib.Bits.{bitXor}

@@ -1,5 +1,5 @@
--- `des::tables::folded` meets its contract: the whole table is computed from the selection functions
--- and P.
+-- `des::tables::folded` meets its contract: the whole table is computed from the selection
+-- functions and P.
 -- Assumes nothing.
 use mathlib.Core.Path.{refl}
 use Rattle.des.specs.Tables.{permutation, boxes}
