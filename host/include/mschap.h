@@ -234,7 +234,7 @@ extern "C" {
 
 /* ---- the size of the stack to provide, in bytes (see STACK) */
 
-#define MSCHAP_STACK_SIZE 8192
+#define MSCHAP_STACK_SIZE 12288
 
 /* ---- values (see VALUES), and arrays that have types of their own so that a compiler tells them
         apart: what is in those four is the caller's to read and write */

@@ -17,23 +17,23 @@ unfolding setApart
 lin-apart n m l lg = lin-xor (lin-mod 64 (lin-shl n (lin-mask m lg))) (lin-mask l lg)
 
 -- n times seven bits, each in the top of an octet
-abbrev pub sevens : ℕ → ℕ → List ℕ
-sevens n x = map double (toDigits 7 n x)
+abbrev pub inOctets : ℕ → ℕ → List ℕ
+inOctets n x = map double (toDigits 7 n x)
 
-length-sevens : (n x : ℕ) → length (sevens n x) ≡ n
-length-sevens n x = length-map (toDigits 7 n x) double ∙ length-digits 7 n x
+length-octets : (n x : ℕ) → length (inOctets n x) ≡ n
+length-octets n x = length-map (toDigits 7 n x) double ∙ length-digits 7 n x
 
-small : (n x : ℕ) → fromBe (sevens n x) < 2 ^ (8 * n)
-small n x = subst (λ (k : ℕ). fromBe (sevens n x) < 2 ^ (8 * k)) (length-sevens n x) (fromBe-lt (sevens n x) (octets-double n x))
+small : (n x : ℕ) → fromBe (inOctets n x) < 2 ^ (8 * n)
+small n x = subst (λ (k : ℕ). fromBe (inOctets n x) < 2 ^ (8 * k)) (length-octets n x) (fromBe-lt (inOctets n x) (octets-double n x))
 
 -- one more seven bits before them
-one-more : (n x : ℕ) → fromBe (sevens (suc n) x) ≡ x / 2 ^ (7 * n) % 2 ^ 7 * 2 ^ 1 * 2 ^ (8 * n) + fromBe (sevens n x)
-one-more n x = ap (λ (k : ℕ). x / 2 ^ (7 * n) % 2 ^ 7 * 2 * 2 ^ (8 * k) + fromBe (sevens n x)) (length-sevens n x)
+octet-more : (n x : ℕ) → fromBe (inOctets (suc n) x) ≡ x / 2 ^ (7 * n) % 2 ^ 7 * 2 ^ 1 * 2 ^ (8 * n) + fromBe (inOctets n x)
+octet-more n x = ap (λ (k : ℕ). x / 2 ^ (7 * n) % 2 ^ 7 * 2 * 2 ^ (8 * k) + fromBe (inOctets n x)) (length-octets n x)
 
-lin-sevens : (n : ℕ) → Linear (λ x. fromBe (sevens n x))
-lin-sevens zero = record { law = λ a b. refl }
-lin-sevens (suc n) =
-    lin-same (one-more n) (lin-digits (8 * n) (lin-shl 1 (lin-mod 7 (lin-shr (7 * n) lin-id))) (lin-sevens n) (small n))
+lin-octets : (n : ℕ) → Linear (λ x. fromBe (inOctets n x))
+lin-octets zero = record { law = λ a b. refl }
+lin-octets (suc n) =
+    lin-same (octet-more n) (lin-digits (8 * n) (lin-shl 1 (lin-mod 7 (lin-shr (7 * n) lin-id))) (lin-octets n) (small n))
 
 -- the bits set apart by 28, by 14 and by 7, and one place up
 abbrev apart : ℕ → ℕ
@@ -42,7 +42,7 @@ apart x =
     (setApart 2 0x0FFF_C000_0FFF_C000 0x0000_3FFF_0000_3FFF (setApart 4 0x00FF_FFFF_F000_0000 0x0000_0000_0FFF_FFFF x))
     * 2 ^ 1 % 2 ^ 64
 
-pub expanded : (x : ℕ) → x < 2 ^ 64 → apart x ≡ fromBe (sevens 8 x)
+pub expanded : (x : ℕ) → x < 2 ^ 64 → apart x ≡ fromBe (inOctets 8 x)
 unfolding setApart
 expanded =
-    agree apart (λ x. fromBe (sevens 8 x)) (lin-mod 64 (lin-shl 1 (lin-apart 1 _ _ (lin-apart 2 _ _ (lin-apart 4 _ _ lin-id))))) (lin-sevens 8) 64 tt
+    agree apart (λ x. fromBe (inOctets 8 x)) (lin-mod 64 (lin-shl 1 (lin-apart 1 _ _ (lin-apart 2 _ _ (lin-apart 4 _ _ lin-id))))) (lin-octets 8) 64 tt

@@ -9,15 +9,16 @@ use native.Mathlib.Omega.{arith}
 use lib.Arith.{digits-lt}
 use lib.ListN.{length, getD}
 use lib.Pow.{pow-add, pow-pos, shl-shr, high, low, split, mod-pow-add, shr-lt}
+use Rattle.octets.specs.Numbers.{fromBe}
 use Rattle.des.specs.Tables.{pc1, pc2, shifts}
-use Rattle.des.specs.Des.{permute, rotate, keysFrom}
+use Rattle.des.specs.Des.{permute, rotate, keysFrom, roundKeys, expandKey, scheduleOf}
 use Rattle.des.specs.Inner.{shiftsOf, rotatedBy, keysOf}
 use Rattle.des.proofs.Permute.{permute-lt}
 
--- C and D are the halves of 56 bits
-pub choice-lt : (key : ℕ) → permute 64 pc1 key < 2 ^ 56
-unfolding pc1
-choice-lt key = permute-lt 64 key pc1
+-- the C and D of PC-1 for a key of seven octets: 56 bits, and the round keys from them
+pub chosen : {cd : ℕ} (key : List ℕ) → cd ≡ permute 64 pc1 (fromBe (expandKey key)) → (cd < 2 ^ 56) × (keysOf cd ≡ scheduleOf key)
+unfolding pc1 scheduleOf roundKeys
+chosen key e = (rw e (permute-lt 64 (fromBe (expandKey key)) pc1), ap keysOf e)
 
 -- ---- rotations
 

@@ -90,7 +90,7 @@ go-on {ks} {i = i} {l} {r} {k} {v} g h ek ev = record {
       ∙ g .same;
 }
 
--- after all rounds the inverse of IP makes the block under ks of the halves
+-- after all rounds the inverse of IP of the preoutput block R L is the block under ks
 pub all-done : {ks : List ℕ} {i l r y v : ℕ} (x : ℕ) → Going ks (y / 2 ^ 32) (y % 2 ^ 32) i l r → length ks ≤ i → y ≡ permute 64 ip x
     → v ≡ permute 64 fp (r * 2 ^ 32 + l) → v ≡ crypt ks x
 unfolding crypt

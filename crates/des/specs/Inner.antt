@@ -28,8 +28,8 @@ abbrev pub tableEntries : (ℕ → ℕ → ℕ) → ℕ → ℕ → ℕ → List
 tableEntries f m zero k = []
 tableEntries f m (suc n) k = f (k / m) (k % m) ∷ tableEntries f m n (suc k)
 
--- P folded into the selection function i, counted from 0: P of the four bits that it gives for the
--- six bits b, in their place among the 32
+-- P folded into the selection function i, counted from 0 ("The Cipher Function f"): P of the four
+-- bits that it gives for the six bits b, in their place among the 32
 abbrev pub foldedAt : ℕ → ℕ → ℕ
 foldedAt i b = permute 32 permutation (select (getD boxes i []) b * 2 ^ (4 * (7 - i)))
 
@@ -63,9 +63,10 @@ shiftsOf (suc n) [] = 0
 shiftsOf (suc n) (s ∷ ss) = s + shiftsOf n ss
 
 -- the places by which C and D are rotated in the round i, counted from 0: all left shifts up to it
+-- ("Key schedule")
 unfoldable pub rotatedBy : ℕ → ℕ
 rotatedBy i = shiftsOf (suc i) shifts
 
--- the round keys from the C and D that PC-1 gave, as one number of 56 bits
+-- the round keys from the C and D of PC-1, which are one number of 56 bits ("Key schedule")
 abbrev pub keysOf : ℕ → List ℕ
 keysOf cd = keysFrom shifts (cd / 2 ^ 28) (cd % 2 ^ 28)

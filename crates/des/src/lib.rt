@@ -79,8 +79,8 @@ pub fn decrypt(key: [u8; 7], block: [u8; 8]) -> [u8; 8]
     ensures { λ r. ⌜ r ≡ desDecrypt key block ⌝ }
 {
     let t = tables::folded();
-    let s = rounds::reversed(schedule::schedule_of(key));
-    octets::u64_to_be(rounds::crypt_block(&t, s, octets::u64_from_be(block)))
+    let keys = schedule::reversed(schedule::schedule_of(key));
+    octets::u64_to_be(rounds::crypt_block(&t, &keys, octets::u64_from_be(block)))
 }
 
 // Three blocks, one after the other.

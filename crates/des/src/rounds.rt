@@ -2,8 +2,8 @@
 // is lent to them.
 use crate::permutations;
 ghost use mathlib.Core.Path.{_≡_};
-ghost use mathlib.Core.List.{reverse};
 ghost use Prim.Native.Nat.{_+_, _*_, _%_, _<_};
+ghost use lib.ListN.{length};
 ghost use Rattle.des.specs.Tables.{fp};
 ghost use Rattle.des.specs.Des.{permute, cipherF, crypt};
 ghost use Rattle.des.specs.Inner.{spread, foldedAt, foldedTable};
@@ -46,11 +46,6 @@ pub(crate) fn cipher_function(t: &[u32; 512], r: u32, k: u64) -> u32
 
 // ---- a block under given round keys
 
-// The sixteen round keys, each of 48 bits.
-pub(crate) struct Schedule {
-    pub(crate) keys: [u64; 16],
-}
-
 fn wide(x: u32) -> u64
     ensures { λ r. ⌜ r ≡ x ⌝ }
 {
@@ -64,12 +59,11 @@ pub(crate) fn finished(l: u32, r: u32) -> u64
     permutations::final_permutation(wide(r) * 0x1_0000_0000 + wide(l))
 }
 
-// A block under the round keys in their order.
-pub(crate) fn crypt_block(t: &[u32; 512], s: Schedule, x: u64) -> u64
-    requires { ⌜ now t ≡ foldedTable ⌝ }
-    ensures { λ v. ⌜ v ≡ crypt (s .keys) x ⌝ }
+// A block under sixteen round keys in their order, each of 48 bits. They are lent: no array is here.
+pub(crate) fn crypt_block<'a>(t: &'a [u32; 512], keys: &'a [u64; 16], x: u64) -> u64
+    requires { ⌜ (now t ≡ foldedTable) × (length (now keys) ≡ 16) ⌝ }
+    ensures { λ v. ⌜ v ≡ crypt (now (keys .entry)) x ⌝ }
 {
-    let keys = s.keys;
     let y = permutations::initial_permutation(x);
     let mut l = (y / 0x1_0000_0000) as u32;
     let mut r = (y % 0x1_0000_0000) as u32;
@@ -81,31 +75,4 @@ pub(crate) fn crypt_block(t: &[u32; 512], s: Schedule, x: u64) -> u64
         i += 1;
     }
     finished(l, r)
-}
-
-// The round keys in the opposite order.
-pub(crate) fn reversed(s: Schedule) -> Schedule
-    ensures { λ r. ⌜ r .keys ≡ reverse (s .keys) ⌝ }
-{
-    let k = s.keys;
-    Schedule {
-        keys: [
-            k[15],
-            k[14],
-            k[13],
-            k[12],
-            k[11],
-            k[10],
-            k[9],
-            k[8],
-            k[7],
-            k[6],
-            k[5],
-            k[4],
-            k[3],
-            k[2],
-            k[1],
-            k[0],
-        ],
-    }
 }

@@ -1,9 +1,9 @@
 // The key schedule: PC-1, the round key of each round, and all sixteen.
 use crate::permutations;
-use crate::rounds::Schedule;
 use crate::tables;
 use crate::windows;
 ghost use mathlib.Core.Path.{_≡_};
+ghost use mathlib.Core.List.{reverse};
 ghost use Prim.Native.Nat.{_+_, _*_, _%_, _<_};
 ghost use lib.ListN.{getD};
 ghost use Rattle.octets.specs.Numbers.{fromBe};
@@ -87,16 +87,16 @@ pub(crate) fn round_key(cd: u64, i: usize) -> u64
     second_choice((c * 0x1000_0000 + c) >> s, (d * 0x1000_0000 + d) >> s)
 }
 
-// The C and D that PC-1 gives for a key of seven octets.
+// The C and D that PC-1 gives for a key of seven octets, one number of 56 bits.
 pub(crate) fn choice_of(key: [u8; 7]) -> u64
-    ensures { λ r. ⌜ (r < 0x0100_0000_0000_0000) × (keysOf r ≡ scheduleOf key) ⌝ }
+    ensures { λ r. ⌜ r ≡ permute 64 pc1 (fromBe (expandKey key)) ⌝ }
 {
     first_choice(key_number(key))
 }
 
-// The round keys of a key of seven octets.
-pub(crate) fn schedule_of(key: [u8; 7]) -> Schedule
-    ensures { λ r. ⌜ r .keys ≡ scheduleOf key ⌝ }
+// The sixteen round keys of a key of seven octets.
+pub(crate) fn schedule_of(key: [u8; 7]) -> [u64; 16]
+    ensures { λ r. ⌜ r ≡ scheduleOf key ⌝ }
 {
     let cd = choice_of(key);
     let mut keys = [0u64; 16];
@@ -105,5 +105,29 @@ pub(crate) fn schedule_of(key: [u8; 7]) -> Schedule
         keys[i] = round_key(cd, i);
         i += 1;
     }
-    Schedule { keys }
+    keys
+}
+
+// Round keys in the opposite order.
+pub(crate) fn reversed(k: [u64; 16]) -> [u64; 16]
+    ensures { λ r. ⌜ r ≡ reverse k ⌝ }
+{
+    [
+        k[15],
+        k[14],
+        k[13],
+        k[12],
+        k[11],
+        k[10],
+        k[9],
+        k[8],
+        k[7],
+        k[6],
+        k[5],
+        k[4],
+        k[3],
+        k[2],
+        k[1],
+        k[0],
+    ]
 }

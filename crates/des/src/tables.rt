@@ -526,7 +526,6 @@ pub(crate) fn folded() -> [u32; 512]
 }
 
 // The places by which C and D are rotated in the round i, counted from 0: all left shifts up to it.
-// A dense match is kept in read-only data: it takes no stack.
 pub(crate) fn rotated_by(i: usize) -> u32
     requires { ⌜ i < 16 ⌝ }
     ensures { λ r. ⌜ (r ≡ rotatedBy i) × (r ≤ 28) ⌝ }

@@ -124,7 +124,7 @@ pub const TEXT_MAX: usize = 768;
 pub const NAME_MAX: usize = 256;
 /// Bytes of stack that any call of the library may take, with room for the loader and a signal's
 /// handler.
-pub const STACK_SIZE: usize = 8192;
+pub const STACK_SIZE: usize = 12288;
 
 /// Bytes of a list of so many places.
 pub const fn list_size(places: usize) -> usize {

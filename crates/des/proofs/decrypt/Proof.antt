@@ -11,7 +11,7 @@ use Rattle.des.proofs.decrypt.Tie as tie
 returns : tie.Need-returns
 unfolding desDecrypt
 returns c =
-    let turned = c .before .before .before .before in
+    let turned = c .before .before .before .before .before in
     c .u64-to-be .ensures
     ∙ ap (toBe 8)
     (c .before .crypt-block .ensures

@@ -6,7 +6,7 @@ use Prim.Native.Nat.{_-_, _+_, _/_, _%_, _^_, _≤_}
 use native.Mathlib.Numerals.{add-one}
 use native.Mathlib.Omega.{arith}
 use Rattle.des.specs.Inner.{keysOf}
-use Rattle.des.proofs.Keys.{sixteen}
+use Rattle.des.proofs.Keys.{chosen, sixteen}
 use Rattle.des.proofs.Round.{Going, begun, go-on, encrypted}
 use borrow.Author.Needs.{needs}
 use Rattle.des.proofs.encrypt_three_with.Statement.{statement}
@@ -29,13 +29,19 @@ loop-holds c = (
 )
 
 round-key-requires : tie.Need-round-key-requires Inv-loop μ-loop
-round-key-requires c κs = (c .before .before .before .before .before .choice-of .ensures .0, search needs)
+round-key-requires c κs =
+    let cd₁ = c .before .before .before .before .before in
+    (chosen (cd₁ .before .args .k1) (cd₁ .choice-of .ensures) .0, search needs)
 
 round-key-requires-2 : tie.Need-round-key-requires-2 Inv-loop μ-loop
-round-key-requires-2 c κs = (c .before .before .before .before .before .before .choice-of2 .ensures .0, search needs)
+round-key-requires-2 c κs =
+    let cd₂ = c .before .before .before .before .before .before in
+    (chosen (cd₂ .before .before .args .k2) (cd₂ .choice-of2 .ensures) .0, search needs)
 
 round-key-requires-3 : tie.Need-round-key-requires-3 Inv-loop μ-loop
-round-key-requires-3 c κs = (c .before .before .before .before .before .before .before .choice-of3 .ensures .0, search needs)
+round-key-requires-3 c κs =
+    let cd₃ = c .before .before .before .before .before .before .before in
+    (chosen (cd₃ .before .before .before .args .k3) (cd₃ .choice-of3 .ensures) .0, search needs)
 
 loop-again : tie.Need-loop-again Inv-loop μ-loop
 loop-again c =
@@ -66,15 +72,16 @@ returns c =
     let cd₃ = y .before in
     let cd₂ = cd₃ .before in
     let cd₁ = cd₂ .before in
-    let x = cd₁ .before .args .x in
+    let a = cd₁ .before .args in
+    let x = a .x in
     let n₁ = sixteen (cd₁ .choice-of .result) in
     let n₂ = sixteen (cd₂ .choice-of2 .result) in
     let n₃ = sixteen (cd₃ .choice-of3 .result) in
     let e = y .initial-permutation .ensures in
     c .joined .ensures
-    ∙ ap₂ _++_ (encrypted x (h .loop .inv .1) (omega arith) e (b₁ .before .finished .ensures) (b₁ .u64-to-be .ensures) (cd₁ .choice-of .ensures .1))
-    (ap₂ _++_ (encrypted x (h .loop .inv .2) (omega arith) e (b₂ .before .finished2 .ensures) (b₂ .u64-to-be2 .ensures) (cd₂ .choice-of2 .ensures .1))
-    (encrypted x (h .loop .inv .3) (omega arith) e (b₃ .before .finished3 .ensures) (b₃ .u64-to-be3 .ensures) (cd₃ .choice-of3 .ensures .1)))
+    ∙ ap₂ _++_ (encrypted x (h .loop .inv .1) (omega arith) e (b₁ .before .finished .ensures) (b₁ .u64-to-be .ensures) (chosen (a .k1) (cd₁ .choice-of .ensures) .1))
+    (ap₂ _++_ (encrypted x (h .loop .inv .2) (omega arith) e (b₂ .before .finished2 .ensures) (b₂ .u64-to-be2 .ensures) (chosen (a .k2) (cd₂ .choice-of2 .ensures) .1))
+    (encrypted x (h .loop .inv .3) (omega arith) e (b₃ .before .finished3 .ensures) (b₃ .u64-to-be3 .ensures) (chosen (a .k3) (cd₃ .choice-of3 .ensures) .1)))
 
 pub encrypt-three-with-spec : {M : Type 1} → statement M
 encrypt-three-with-spec =

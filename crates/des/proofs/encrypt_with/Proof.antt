@@ -4,7 +4,7 @@ use Prim.Native.Nat.{_-_, _≤_}
 use native.Mathlib.Numerals.{add-one}
 use native.Mathlib.Omega.{arith}
 use Rattle.des.specs.Inner.{keysOf}
-use Rattle.des.proofs.Keys.{sixteen}
+use Rattle.des.proofs.Keys.{chosen, sixteen}
 use Rattle.des.proofs.Round.{Going, begun, go-on, encrypted}
 use borrow.Author.Needs.{needs}
 use Rattle.des.proofs.encrypt_with.Statement.{statement}
@@ -20,7 +20,9 @@ loop-holds : tie.Need-loop-holds Inv-loop μ-loop
 loop-holds c = (search needs, begun _ _ _ (search needs) (search needs))
 
 round-key-requires : tie.Need-round-key-requires Inv-loop μ-loop
-round-key-requires c κs = (c .before .before .before .choice-of .ensures .0, search needs)
+round-key-requires c κs =
+    let cd = c .before .before .before in
+    (chosen (cd .before .args .key) (cd .choice-of .ensures) .0, search needs)
 
 loop-again : tie.Need-loop-again Inv-loop μ-loop
 loop-again c =
@@ -42,7 +44,7 @@ returns c =
     let cd = key .choice-of .result in
     let n = sixteen cd in
     encrypted (key .before .args .x) (h .loop .inv .1) (omega arith) (y .initial-permutation .ensures) (f .finished .ensures) (c .u64-to-be .ensures)
-    (key .choice-of .ensures .1)
+    (chosen (key .before .args .key) (key .choice-of .ensures) .1)
 
 pub encrypt-with-spec : {M : Type 1} → statement M
 encrypt-with-spec =

@@ -1,44 +1,36 @@
 -- `des::rounds::crypt_block` meets its contract.
 -- Assumes nothing.
-use mathlib.Core.Path.{_≡_, refl}
+use mathlib.Core.Path.{refl}
 use Prim.Native.Nat.{_-_, _≤_}
 use native.Mathlib.Numerals.{add-one}
 use native.Mathlib.Omega.{arith}
-use lib.ListN.{length}
 use Rattle.des.proofs.Round.{Going, begun, go-on, all-done}
 use borrow.Author.Needs.{needs}
 use Rattle.des.proofs.rounds.crypt_block.Statement.{statement}
 use Rattle.des.proofs.rounds.crypt_block.Tie as tie
 
 abbrev Inv-loop : tie.InvT-loop
-Inv-loop t x keys y l₀ r₀ i₀ l r i = (i ≤ 16) × Going keys l₀ r₀ i l r
+Inv-loop t keys x y l₀ r₀ i₀ l r i = (i ≤ 16) × Going keys l₀ r₀ i l r
 
 abbrev μ-loop : tie.MeasureT-loop
-μ-loop t x keys y l₀ r₀ i₀ l r i = 16 - i
+μ-loop t keys x y l₀ r₀ i₀ l r i = 16 - i
 
 loop-holds : tie.Need-loop-holds Inv-loop μ-loop
 loop-holds c = (search needs, begun _ _ _ (search needs) (search needs))
 
-sixteen : (c : tie.Start Inv-loop μ-loop) → length (c .args .s .keys) ≡ 16
-sixteen c = search needs
-
 loop-again : tie.Need-loop-again Inv-loop μ-loop
 loop-again c =
-    let h = c .before .before in
-    let s = h .before .before .before in
-    let n = sixteen s in
-    let i = h .loop .i in (
-      search needs,
-      rw (add-one i) (go-on (h .loop .inv .1) (omega arith) refl (c .cipher-function .ensures)),
-    )
+    let h = c .before .before .before in
+    let n = h .before .before .pre .1 in
+    let i = h .loop .i in
+    (search needs, rw (add-one i) (go-on (h .loop .inv .1) (omega arith) refl (c .cipher-function .ensures)))
 
 returns : tie.Need-returns Inv-loop μ-loop
 returns c =
     let h = c .before .before in
-    let s = h .before .before .before in
-    let n = sixteen s in
-    all-done (s .args .x) (h .loop .inv .1) (omega arith) (h .before .initial-permutation .ensures)
-    (c .finished .ensures)
+    let s = h .before .before in
+    let n = s .pre .1 in
+    all-done (s .args .x) (h .loop .inv .1) (omega arith) (h .before .initial-permutation .ensures) (c .finished .ensures)
 
 pub crypt-block-spec : {M : Type 1} → statement M
 crypt-block-spec =

@@ -8,7 +8,7 @@ use Rattle.octets.specs.Numbers.{fromBe}
 use Rattle.octets.proofs.Listed.{written}
 use Rattle.des.specs.Des.{expandKey}
 use Rattle.des.specs.Inner.{setApart}
-use Rattle.des.proofs.Expanded.{sevens, expanded}
+use Rattle.des.proofs.Expanded.{inOctets, expanded}
 use borrow.Author.Needs.{needs}
 use Rattle.des.proofs.schedule.key_number.Statement.{statement}
 use Rattle.des.proofs.schedule.key_number.Tie as tie
@@ -25,7 +25,7 @@ returns c =
     ∙ ap (setApart 1 0x3F80_3F80_3F80_3F80 0x007F_007F_007F_007F)
     (c .before .set-apart2 .ensures ∙ ap (setApart 2 0x0FFF_C000_0FFF_C000 0x0000_3FFF_0000_3FFF) (c .before .before .set-apart .ensures)))
     ∙ expanded (x .u64-from-be .result) (search needs)
-    ∙ ap (λ (v : ℕ). fromBe (sevens 8 v)) e
+    ∙ ap (λ (v : ℕ). fromBe (inOctets 8 v)) e
 
 pub key-number-spec : {M : Type 1} → statement M
 key-number-spec =

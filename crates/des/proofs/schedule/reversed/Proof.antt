@@ -1,16 +1,16 @@
--- `des::rounds::reversed` meets its contract.
+-- `des::schedule::reversed` meets its contract.
 -- Assumes nothing.
 use mathlib.Core.Path.{_≡_, sym, ap}
 use mathlib.Core.List.{reverse}
 use lib.ListN.{length}
 use Rattle.octets.proofs.Listed.{written}
 use borrow.Author.Needs.{needs}
-use Rattle.des.proofs.rounds.reversed.Statement.{statement}
-use Rattle.des.proofs.rounds.reversed.Tie as tie
+use Rattle.des.proofs.schedule.reversed.Statement.{statement}
+use Rattle.des.proofs.schedule.reversed.Tie as tie
 
 returns : tie.Need-returns
 returns c =
-    let k = c .before .args .s .keys in
+    let k = c .args .t1 in
     let n : length k ≡ 16 = search needs in
     sym (ap reverse (written 16 k n))
 
