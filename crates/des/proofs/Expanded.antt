@@ -1,5 +1,5 @@
--- The 56 bits of a key, set apart by 28, by 14 and by 7, are the key in the top seven bits of eight
--- octets.
+-- The 56 bits of a key, set apart in groups of 28, of 14 and of 7, are the key in the top seven bits
+-- of eight octets.
 -- Assumes nothing.
 use mathlib.Core.Path.{_≡_, refl, ap, _∙_, subst}
 use mathlib.Core.List.{List, map}
@@ -27,15 +27,15 @@ small : (n x : ℕ) → fromBe (inOctets n x) < 2 ^ (8 * n)
 small n x = subst (λ (k : ℕ). fromBe (inOctets n x) < 2 ^ (8 * k)) (length-octets n x) (fromBe-lt (inOctets n x) (octets-double n x))
 
 -- one more seven bits before them
-octet-more : (n x : ℕ) → fromBe (inOctets (suc n) x) ≡ x / 2 ^ (7 * n) % 2 ^ 7 * 2 ^ 1 * 2 ^ (8 * n) + fromBe (inOctets n x)
-octet-more n x = ap (λ (k : ℕ). x / 2 ^ (7 * n) % 2 ^ 7 * 2 * 2 ^ (8 * k) + fromBe (inOctets n x)) (length-octets n x)
+next-octet : (n x : ℕ) → fromBe (inOctets (suc n) x) ≡ x / 2 ^ (7 * n) % 2 ^ 7 * 2 ^ 1 * 2 ^ (8 * n) + fromBe (inOctets n x)
+next-octet n x = ap (λ (k : ℕ). x / 2 ^ (7 * n) % 2 ^ 7 * 2 * 2 ^ (8 * k) + fromBe (inOctets n x)) (length-octets n x)
 
 lin-octets : (n : ℕ) → Linear (λ x. fromBe (inOctets n x))
 lin-octets zero = record { law = λ a b. refl }
 lin-octets (suc n) =
-    lin-same (octet-more n) (lin-digits (8 * n) (lin-shl 1 (lin-mod 7 (lin-shr (7 * n) lin-id))) (lin-octets n) (small n))
+    lin-same (next-octet n) (lin-digits (8 * n) (lin-shl 1 (lin-mod 7 (lin-shr (7 * n) lin-id))) (lin-octets n) (small n))
 
--- the bits set apart by 28, by 14 and by 7, and one place up
+-- the bits set apart in groups of 28, of 14 and of 7, and moved one place up
 abbrev apart : ℕ → ℕ
 apart x =
     setApart 1 0x3F80_3F80_3F80_3F80 0x007F_007F_007F_007F

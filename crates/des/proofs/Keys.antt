@@ -16,9 +16,9 @@ use Rattle.des.specs.Inner.{shiftsOf, rotatedBy, keysOf}
 use Rattle.des.proofs.Permute.{permute-lt}
 
 -- the C and D of PC-1 for a key of seven octets: 56 bits, and the round keys from them
-pub chosen : {cd : ℕ} (key : List ℕ) → cd ≡ permute 64 pc1 (fromBe (expandKey key)) → (cd < 2 ^ 56) × (keysOf cd ≡ scheduleOf key)
+pub choice-keys : {cd : ℕ} (key : List ℕ) → cd ≡ permute 64 pc1 (fromBe (expandKey key)) → (cd < 2 ^ 56) × (keysOf cd ≡ scheduleOf key)
 unfolding pc1 scheduleOf roundKeys
-chosen key e = (rw e (permute-lt 64 (fromBe (expandKey key)) pc1), ap keysOf e)
+choice-keys key e = (rw e (permute-lt 64 (fromBe (expandKey key)) pc1), ap keysOf e)
 
 -- ---- rotations
 

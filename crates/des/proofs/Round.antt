@@ -69,19 +69,19 @@ module _ (r k w : ℕ) (h : r < 2 ^ 32) (e : w ≡ spread r) where
 -- ---- the rounds
 
 -- L and R after i rounds under ks from L₀ and R₀
-pub record Going (ks : List ℕ) (l₀ r₀ i l r : ℕ) : Type 0 where
+pub record AfterRounds (ks : List ℕ) (l₀ r₀ i l r : ℕ) : Type 0 where
   pub left : l < 2 ^ 32
   pub right : r < 2 ^ 32
   pub same : rounds (drop i ks) l r ≡ rounds ks l₀ r₀
 
 -- no round yet
-pub begun : (ks : List ℕ) (l r : ℕ) → l < 2 ^ 32 → r < 2 ^ 32 → Going ks l r 0 l r
-begun ks l r hl hr = record { left = hl; right = hr; same = refl }
+pub no-rounds : (ks : List ℕ) (l r : ℕ) → l < 2 ^ 32 → r < 2 ^ 32 → AfterRounds ks l r 0 l r
+no-rounds ks l r hl hr = record { left = hl; right = hr; same = refl }
 
 -- one more round
-pub go-on : {ks : List ℕ} {l₀ r₀ i l r k v : ℕ} → Going ks l₀ r₀ i l r → i < length ks → k ≡ getD ks i 0 → v ≡ cipherF r k
-    → Going ks l₀ r₀ (suc i) r (bitXor l v)
-go-on {ks} {i = i} {l} {r} {k} {v} g h ek ev = record {
+pub one-round : {ks : List ℕ} {l₀ r₀ i l r k v : ℕ} → AfterRounds ks l₀ r₀ i l r → i < length ks → k ≡ getD ks i 0 → v ≡ cipherF r k
+    → AfterRounds ks l₀ r₀ (suc i) r (bitXor l v)
+one-round {ks} {i = i} {l} {r} {k} {v} g h ek ev = record {
   left = g .right;
   right = xor-lt 32 l v (g .left) (rw ev (f-lt r k));
   same =
@@ -91,15 +91,15 @@ go-on {ks} {i = i} {l} {r} {k} {v} g h ek ev = record {
 }
 
 -- after all rounds the inverse of IP of the preoutput block R L is the block under ks
-pub all-done : {ks : List ℕ} {i l r y v : ℕ} (x : ℕ) → Going ks (y / 2 ^ 32) (y % 2 ^ 32) i l r → length ks ≤ i → y ≡ permute 64 ip x
+pub all-rounds : {ks : List ℕ} {i l r y v : ℕ} (x : ℕ) → AfterRounds ks (y / 2 ^ 32) (y % 2 ^ 32) i l r → length ks ≤ i → y ≡ permute 64 ip x
     → v ≡ permute 64 fp (r * 2 ^ 32 + l) → v ≡ crypt ks x
 unfolding crypt
-all-done {ks} {i} {l} {r} x g h ey ev =
+all-rounds {ks} {i} {l} {r} x g h ey ev =
     ev
     ∙ ap (permute 64 fp)
     (ap (λ (t : List ℕ). rounds t l r) (sym (drop-of-length-le ks {i = i} h)) ∙ g .same ∙ ap (λ (y : ℕ). rounds ks (y / 2 ^ 32) (y % 2 ^ 32)) ey)
 
 -- the same as octets, under the round keys of a key
-pub encrypted : {ks us o : List ℕ} {i l r y v : ℕ} (x : ℕ) → Going ks (y / 2 ^ 32) (y % 2 ^ 32) i l r → length ks ≤ i → y ≡ permute 64 ip x
+pub encrypted-octets : {ks us o : List ℕ} {i l r y v : ℕ} (x : ℕ) → AfterRounds ks (y / 2 ^ 32) (y % 2 ^ 32) i l r → length ks ≤ i → y ≡ permute 64 ip x
     → v ≡ permute 64 fp (r * 2 ^ 32 + l) → o ≡ toBe 8 v → ks ≡ us → o ≡ toBe 8 (crypt us x)
-encrypted x g h ey ev eo e = eo ∙ ap (toBe 8) (all-done x g h ey ev ∙ ap (λ (t : List ℕ). crypt t x) e)
+encrypted-octets x g h ey ev eo e = eo ∙ ap (toBe 8) (all-rounds x g h ey ev ∙ ap (λ (t : List ℕ). crypt t x) e)

@@ -63,7 +63,7 @@ fn encrypt_with(t: &[u32; 512], key: [u8; 7], x: u64) -> [u8; 8]
         r = next;
         i += 1;
     }
-    octets::u64_to_be(rounds::finished(l, r))
+    octets::u64_to_be(rounds::output_block(l, r))
 }
 
 // A block under a key.
@@ -125,9 +125,9 @@ fn encrypt_three_with(t: &[u32; 512], k1: [u8; 7], k2: [u8; 7], k3: [u8; 7], x: 
         i += 1;
     }
     joined(
-        octets::u64_to_be(rounds::finished(l1, r1)),
-        octets::u64_to_be(rounds::finished(l2, r2)),
-        octets::u64_to_be(rounds::finished(l3, r3)),
+        octets::u64_to_be(rounds::output_block(l1, r1)),
+        octets::u64_to_be(rounds::output_block(l2, r2)),
+        octets::u64_to_be(rounds::output_block(l3, r3)),
     )
 }
 

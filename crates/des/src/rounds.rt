@@ -52,14 +52,15 @@ fn wide(x: u32) -> u64
     x as u64
 }
 
-// The inverse of IP of the preoutput block R L.
-pub(crate) fn finished(l: u32, r: u32) -> u64
+// The output block: the inverse of IP of the preoutput block R L.
+pub(crate) fn output_block(l: u32, r: u32) -> u64
     ensures { λ v. ⌜ v ≡ permute 64 fp (r * 0x1_0000_0000 + l) ⌝ }
 {
     permutations::final_permutation(wide(r) * 0x1_0000_0000 + wide(l))
 }
 
-// A block under sixteen round keys in their order, each of 48 bits. They are lent: no array is here.
+// A block under sixteen round keys in their order, each of 48 bits. They are lent, so that none is
+// copied.
 pub(crate) fn crypt_block<'a>(t: &'a [u32; 512], keys: &'a [u64; 16], x: u64) -> u64
     requires { ⌜ (now t ≡ foldedTable) × (length (now keys) ≡ 16) ⌝ }
     ensures { λ v. ⌜ v ≡ crypt (now (keys .entry)) x ⌝ }
@@ -74,5 +75,5 @@ pub(crate) fn crypt_block<'a>(t: &'a [u32; 512], keys: &'a [u64; 16], x: u64) ->
         r = next;
         i += 1;
     }
-    finished(l, r)
+    output_block(l, r)
 }

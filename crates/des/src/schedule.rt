@@ -22,7 +22,7 @@ fn set_apart(x: u64, n: u32, m: u64, l: u64) -> u64
 }
 
 // The 56 bits of a key in the top seven bits of eight octets, the parity bits clear, as one number:
-// they are set apart by 28, by 14 and by 7.
+// they are set apart in groups of 28, of 14 and of 7.
 pub(crate) fn key_number(key: [u8; 7]) -> u64
     ensures { λ r. ⌜ r ≡ fromBe (expandKey key) ⌝ }
 {

@@ -7,8 +7,9 @@ use Rattle.des.proofs.rounds.cipher_function.Tie as tie
 
 returns : tie.Need-returns
 returns c =
-    let s = c .before .before .before .before .before .before .before .before .before in
-    joined-right (s .args .r) (s .args .k) _ (s .fits .r .fits) (c .before .before .before .before .before .before .before .before .spread-bits .ensures) _ _ _ _ _ _ _ _
+    let w = c .before .before .before .before .before .before .before .before in
+    let s = w .before in
+    joined-right (s .args .r) (s .args .k) _ (s .fits .r .fits) (w .spread-bits .ensures) _ _ _ _ _ _ _ _
     (c .before .before .before .before .before .before .before .folded-at .ensures)
     (c .before .before .before .before .before .before .folded-at2 .ensures)
     (c .before .before .before .before .before .folded-at3 .ensures)

@@ -8,7 +8,7 @@ use native.Mathlib.Omega.{arith}
 use lib.ListN.{length, take, length-set}
 use lib.Seq.{take-suc, take-suc-set, take-all}
 use Rattle.des.specs.Inner.{keysOf}
-use Rattle.des.proofs.Keys.{chosen, sixteen}
+use Rattle.des.proofs.Keys.{choice-keys, sixteen}
 use borrow.Author.Needs.{needs}
 use Rattle.des.proofs.schedule.schedule_of.Statement.{statement}
 use Rattle.des.proofs.schedule.schedule_of.Tie as tie
@@ -25,7 +25,7 @@ loop-holds c = (search needs, refl, refl)
 round-key-requires : tie.Need-round-key-requires Inv-loop μ-loop
 round-key-requires c κs =
     let cd = c .before .before in
-    (chosen (cd .before .args .key) (cd .choice-of .ensures) .0, search needs)
+    (choice-keys (cd .before .args .key) (cd .choice-of .ensures) .0, search needs)
 
 loop-again : tie.Need-loop-again Inv-loop μ-loop
 loop-again c =
@@ -47,7 +47,7 @@ returns c =
     let i = h .loop .i in
     let n = sixteen (h .before .choice-of .result) in
     sym (take-all i (h .loop .keys) (omega arith)) ∙ h .loop .inv .2 ∙ take-all i (keysOf (h .before .choice-of .result)) (omega arith)
-    ∙ chosen (h .before .before .args .key) (h .before .choice-of .ensures) .1
+    ∙ choice-keys (h .before .before .args .key) (h .before .choice-of .ensures) .1
 
 pub schedule-of-spec : {M : Type 1} → statement M
 schedule-of-spec =
