@@ -15,6 +15,7 @@ pub mod packet;
 pub mod peer;
 pub mod rc4;
 pub mod script;
+pub mod smbpasswd;
 
 /// The challenge's first octet grows by 23 modulo 256; the other seven stay.
 pub fn grown(challenge: &[u8; 8]) -> [u8; 8] {

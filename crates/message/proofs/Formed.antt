@@ -10,10 +10,10 @@ use native.Mathlib.Omega.{arith}
 use borrow.Author.Tests.{leb-true}
 use lib.Dec.{eqb, leb}
 use lib.ListN.{length, length-map, drop, getD}
-use Rattle.octets.specs.Digits.{digitOf}
+use Rattle.octets.specs.Digits.{digitOf, allBelow}
 use Rattle.message.specs.declared.Place.{Place}
 use Rattle.message.specs.declared.Place.the-variants.{At}
-use Rattle.message.specs.Message.{allBelow, digitsOf, isField, fieldOf, fieldC, orElse, firstField}
+use Rattle.message.specs.Message.{digitsOf, isField, fieldOf, fieldC, orElse, firstField}
 use Rattle.message.specs.Inner.{wordAt, digitsAt, IfSome, Small, Eight}
 
 module _ (letter base low high : ℕ) where

@@ -11,12 +11,12 @@ use native.Mathlib.Omega.{arith}
 use borrow.Author.Tests.{lt-ltb, lt-leb, ne-eqb, eqb-true, ltb-true, ltb-false, leb-false}
 use lib.Dec.{eqb, leb, ltb}
 use lib.ListN.{length}
-use Rattle.octets.specs.Digits.{digitOf, hexOf}
+use Rattle.octets.specs.Digits.{digitOf, hexOf, numberFrom}
 use Rattle.octets.proofs.Digits.{digit-back}
 use Rattle.message.specs.declared.Call.{Call}
 use Rattle.message.specs.declared.Call.the-variants.{Retry, ChangeTwo, ChangeOne, End}
 use Rattle.message.specs.declared.Reading.{Reading}
-use Rattle.message.specs.Message.{words, isField, fieldOf, firstField, fieldE, numberFrom, callFits, calledFor, verdictRefusal, verdictValues, noChallenge, refusedWith, failedWith, readFields, readMessage, isNone, messageRefusal, fieldValues, messageValues, textOf}
+use Rattle.message.specs.Message.{words, isField, fieldOf, firstField, fieldE, callFits, calledFor, verdictRefusal, verdictValues, noChallenge, refusedWith, failedWith, readFields, readMessage, isNone, messageRefusal, fieldValues, messageValues, textOf}
 
 -- ---- the number and the values of what is read
 

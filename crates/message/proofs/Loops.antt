@@ -12,35 +12,9 @@ use lib.Arith.{digits-lt}
 use lib.Dec.{ltb, lit<}
 use lib.ListN.{length, length-map, take, drop, getD, set, length-set, drop-of-length-le}
 use lib.Seq.{drop-cons, take-suc-set, append-snoc, take-all}
-use Rattle.octets.specs.Digits.{digitOf}
-use Rattle.message.specs.Message.{allBelow, numberFrom, pairs}
+use Rattle.octets.specs.Digits.{digitOf, allBelow, numberFrom, pairs}
+use Rattle.octets.proofs.DigitLoop.{left, left-cons, left-end, below-first}
 use Rattle.message.specs.Inner.{Small, Eight}
-
--- the values of the digits from the place k on
-abbrev pub left : List ℕ → ℕ → List ℕ
-left ds k = map digitOf (drop k ds)
-
-left-cons : (ds : List ℕ) (k : ℕ) → k < length ds → left ds k ≡ digitOf (getD ds k 0) ∷ left ds (k + 1)
-left-cons ds k h = rw (add-one, drop-cons ds k 0)
-
-left-end : (ds : List ℕ) (k : ℕ) → length ds ≤ k → left ds k ≡ []
-left-end ds k h = ap (map digitOf) (drop-of-length-le ds h)
-
--- ---- whether they are digits
-
-module _ (base : ℕ) (ds : List ℕ) (k : ℕ) where
-  abbrev pub Judged : Type 0
-  Judged = allBelow base (left ds k) ≡ allBelow base (map digitOf ds)
-
-  module _ (inv : Judged) {d : ℕ} (e : d ≡ digitOf (getD ds k 0)) (h : k < length ds) where
-    pub no-digit : base ≤ d → false ≡ allBelow base (map digitOf ds)
-    no-digit b = rw (left-cons ds k h, ← e, le-ltb d base b) at inv
-
-    pub one-digit : d < base → allBelow base (left ds (k + 1)) ≡ allBelow base (map digitOf ds)
-    one-digit b = rw (left-cons ds k h, ← e, lt-ltb d base b) at inv
-
-  pub all-digits : Judged → length ds ≤ k → true ≡ allBelow base (map digitOf ds)
-  all-digits inv h = sym (ap (allBelow base) (left-end ds k h)) ∙ inv
 
 -- ---- their number
 
@@ -52,10 +26,6 @@ pub record Counted (base : ℕ) (ds : List ℕ) (v k : ℕ) : Type 0 where
 
 pub none-counted : (base : ℕ) (ds : List ℕ) → Small base (map digitOf ds) → Counted base ds 0 0
 none-counted base ds s = record { small = rw (pow-zero base) (lit< tt); value = refl; below = s .below }
-
--- the first of values that are all below the base, and the others
-below-first : (base d : ℕ) (ds : List ℕ) → allBelow base (d ∷ ds) ≡ true → (d < base) × (allBelow base ds ≡ true)
-below-first base d ds e = let both = and-eq-true-iff (ltb d base) (allBelow base ds) .0 e in (ltb-true d base (both .0), both .1)
 
 module _ {base : ℕ} {ds : List ℕ} {v k : ℕ} (inv : Counted base ds v k) {d : ℕ} (e : d ≡ digitOf (getD ds k 0)) (h : k < length ds) where
   first-left : (d < base) × (allBelow base (left ds (k + 1)) ≡ true)

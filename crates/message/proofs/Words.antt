@@ -1,20 +1,17 @@
--- The words of a message against its octets: the first word of a text, what the others tell, and
--- the search for the end of a word.
+-- The words of a message against its octets: the first word of a text, and what the others tell.
 -- Assumes nothing.
 use mathlib.Core.Path.{_≡_, refl, sym, ap, _∙_}
 use mathlib.Core.Bool.{Bool, true, false, cond}
-use mathlib.Core.List.{List, [], _∷_, _++_, append-nil}
-use Prim.Native.Nat.{ℕ, suc, _+_, _-_, _≤_, _<_}
-use native.Mathlib.Nat.{sub-self}
-use native.Mathlib.Numerals.{add-one}
+use mathlib.Core.List.{List, [], _∷_}
+use Prim.Native.Nat.{ℕ, suc, _+_, _-_, _≤_}
 use native.Mathlib.Omega.{arith}
 use borrow.Author.Tests.{eq-eqb, ne-eqb, eqb-true, eqb-false}
 use lib.Dec.{eqb}
-use lib.ListN.{length, drop, getD, drop-of-length-le, length-drop}
-use lib.Seq.{drop-cons, drop-drop, append-snoc}
+use lib.ListN.{length, drop, getD, length-drop}
+use lib.Seq.{drop-drop, take-all}
 use Rattle.octets.specs.Parts.{part}
-use Rattle.octets.proofs.Parts.{part-join}
-use Rattle.message.specs.Message.{withFirst, words, isField, fieldOf}
+use Rattle.octets.specs.Split.{before, withFirst}
+use Rattle.message.specs.Message.{words, isField, fieldOf}
 use Rattle.message.specs.Inner.{ParsedFields, parsedIn, firstWord, wordAt}
 
 -- ---- the first word, and the others
@@ -47,6 +44,17 @@ first-and-others (x ∷ m) = which (eqb x 32) (words m)
     which true ws = refl
     which false [] = refl
     which false (w ∷ ws) = refl
+
+-- it is what stands before the first space
+first-before : (m : List ℕ) → before 32 m ≡ firstWord m
+unfolding words
+first-before [] = refl
+first-before (x ∷ m) = which (eqb x 32) refl (first-before m)
+  where
+    which : (space : Bool) → eqb x 32 ≡ space → before 32 m ≡ firstWord m
+        → cond space [] (x ∷ before 32 m) ≡ firstWord (x ∷ m)
+    which true e h = sym (first-space x m (eqb-true x 32 e))
+    which false e h = ap (λ (w : List ℕ). x ∷ w) h ∙ sym (first-other x m (eqb-false x 32 e))
 
 length-first : (m : List ℕ) → length (firstWord m) ≤ length m
 unfolding words
@@ -93,6 +101,12 @@ module _ (m : List ℕ) (from : ℕ) where
   pub length-word : length (wordAt m from) ≤ length m - from
   length-word = rw length-drop at (length-first (drop from m))
 
+  -- what stands before the first space from a place on, up to the end of the message
+  pub word-before : before 32 (part from (length m) m) ≡ wordAt m from
+  word-before =
+      ap (before 32) (take-all (length m) (drop from m) (omega (arith, length-drop from m)))
+      ∙ first-before (drop from m)
+
   -- the words from a place on are the word there, and others that tell what those behind it tell
   pub word-and-others : words (drop from m) ≡ wordAt m from ∷ drop 1 (words (drop from m))
   word-and-others = first-and-others (drop from m)
@@ -103,51 +117,3 @@ module _ (m : List ℕ) (from : ℕ) where
       let n = length (wordAt m from) in
       let k : from + suc n ≡ from + n + 1 = omega arith in
       others (drop from m) ∙ rw (drop-drop (suc n) from m, k)
-
--- ---- the search for the end of a word
-
--- the octets of m from one place up to another are the beginning of the word at the first
-pub record Begun (m : List ℕ) (from to : ℕ) : Type 0 where
-  pub ahead : from ≤ to
-  pub begins : part from (to - from) m ++ wordAt m to ≡ wordAt m from
-
-pub begun : (m : List ℕ) (from : ℕ) → Begun m from from
-begun m from = record { ahead = omega arith; begins = rw (sub-self from) }
-
--- the octet at a place of the message
-here : (m : List ℕ) (at : ℕ) → at < length m → drop at m ≡ getD m at 0 ∷ drop (at + 1) m
-here m at h = rw add-one (drop-cons m at 0 h)
-
-module _ (m : List ℕ) (from to : ℕ) (b : Begun m from to) where
-  next : to < length m → part from (to + 1 - from) m ≡ part from (to - from) m ++ getD m to 0 ∷ []
-  next h =
-      let k : to + 1 - from ≡ to - from + 1 = omega arith in
-      let n : from + (to - from) ≡ to = omega arith in
-      rw k (sym (part-join from (to - from) 1 m) ∙ rw (n, here m to h))
-
-  pub goes-on : to < length m → (getD m to 0 ≡ 32 → ⊥) → Begun m from (to + 1)
-  goes-on h n =
-      let passed = part from (to - from) m in
-      let x = getD m to 0 in
-      let one : wordAt m to ≡ x ∷ wordAt m (to + 1) =
-      ap firstWord (here m to h) ∙ first-other x (drop (to + 1) m) n in
-      record {
-        ahead = omega arith;
-        begins =
-            ap (λ (w : List ℕ). w ++ wordAt m (to + 1)) (next h)
-            ∙ append-snoc passed x (wordAt m (to + 1))
-            ∙ ap (λ (w : List ℕ). passed ++ w) (sym one)
-            ∙ b .begins;
-      }
-
-  ended : wordAt m to ≡ [] → part from (to - from) m ≡ wordAt m from
-  ended e =
-      let passed = part from (to - from) m in
-      sym (append-nil passed) ∙ ap (λ (w : List ℕ). passed ++ w) (sym e) ∙ b .begins
-
-  pub at-space : to < length m → getD m to 0 ≡ 32 → part from (to - from) m ≡ wordAt m from
-  at-space h e = ended (ap firstWord (here m to h) ∙ first-space (getD m to 0) (drop (to + 1) m) e)
-
-  pub at-end : length m ≤ to → part from (to - from) m ≡ wordAt m from
-  unfolding words
-  at-end h = ended (ap firstWord (drop-of-length-le m h))

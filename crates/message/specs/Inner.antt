@@ -7,13 +7,14 @@ use mathlib.Core.Option.{Option, none, some}
 use mathlib.Core.Path.{_≡_}
 use Prim.Native.Nat.{ℕ, _+_, _^_, _≤_, _<_}
 use lib.ListN.{length, drop, getD}
+use Rattle.octets.specs.Digits.{allBelow}
 use Rattle.message.specs.declared.Place.{Place}
 use Rattle.message.specs.declared.Place.the-variants.{At, Nowhere}
 use Rattle.message.specs.declared.WordKind.{WordKind}
 use Rattle.message.specs.declared.WordKind.the-variants.{Error, Retry, Version, Challenge}
 use Rattle.message.specs.declared.WordKind.the-variants.{Text}
 use Rattle.message.specs.declared.Fields.{Fields}
-use Rattle.message.specs.Message.{words, allBelow, digitsOf, orElse, firstField}
+use Rattle.message.specs.Message.{words, digitsOf, orElse, firstField}
 use Rattle.message.specs.Message.{fieldE, fieldR, fieldV, fieldC}
 
 -- ---- fields

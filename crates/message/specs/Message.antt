@@ -7,7 +7,8 @@ use mathlib.Core.Option.{Option, none, some}
 use Prim.Native.Nat.{ℕ, _+_, _*_, _/_, _%_}
 use lib.Dec.{eqb, leb, ltb}
 use lib.ListN.{length, drop, replicate}
-use Rattle.octets.specs.Digits.{digitOf, hexOf}
+use Rattle.octets.specs.Digits.{digitOf, hexOf, allBelow, numberFrom, pairs}
+use Rattle.octets.specs.Split.{withFirst}
 use Rattle.message.specs.Reasons.{authenticationFailure, passwordExpired}
 use Rattle.message.specs.declared.Call.{Call}
 use Rattle.message.specs.declared.Call.the-variants.{Retry, ChangeTwo, ChangeOne, End}
@@ -18,21 +19,12 @@ use Rattle.message.specs.declared.Reading.{Reading}
 
 -- ---- words
 
-abbrev pub withFirst : ℕ → List (List ℕ) → List (List ℕ)
-withFirst x [] = (x ∷ []) ∷ []
-withFirst x (w ∷ ws) = (x ∷ w) ∷ ws
-
 -- the text between spaces (octet 32 alone); two spaces in a row have the empty word between them
 unfoldable pub words : List ℕ → List (List ℕ)
 words [] = [] ∷ []
 words (x ∷ m) = cond (eqb x 32) ([] ∷ words m) (withFirst x (words m))
 
 -- ---- fields
-
--- each value is below the base (an octet that is no digit has the value 16)
-abbrev pub allBelow : ℕ → List ℕ → Bool
-allBelow base [] = true
-allBelow base (d ∷ ds) = ltb d base && allBelow base ds
 
 -- the values of what stands after a letter and '='
 abbrev pub digitsOf : List ℕ → List ℕ
@@ -72,21 +64,10 @@ abbrev pub firstField : (List ℕ → Option (List ℕ)) → List (List ℕ) →
 firstField f [] = none
 firstField f (w ∷ ws) = orElse (f w) (firstField f ws)
 
--- the number that digit values make after n
-abbrev pub numberFrom : ℕ → ℕ → List ℕ → ℕ
-numberFrom base n [] = n
-numberFrom base n (d ∷ ds) = numberFrom base (n * base + d) ds
-
 -- the number of a field, and what stands for a missing one
 abbrev pub numberOr : ℕ → ℕ → Option (List ℕ) → ℕ
 numberOr base missing none = missing
 numberOr base missing (some ds) = numberFrom base 0 ds
-
--- hexadecimal digit values in pairs, as octets
-abbrev pub pairs : List ℕ → List ℕ
-pairs [] = []
-pairs (x ∷ []) = []
-pairs (x ∷ y ∷ ds) = (x * 16 + y) ∷ pairs ds
 
 -- ---- the verdict
 

@@ -7,8 +7,8 @@ ghost use mathlib.Core.Bool.{true};
 ghost use mathlib.Core.List.{map};
 ghost use Prim.Native.Nat.{_%_, _≤_, _<_};
 ghost use lib.ListN.{length, drop};
-ghost use Rattle.octets.specs.Digits.{digitOf, hexOf};
-ghost use Rattle.message.specs.Message.{longestMessage, words, allBelow, isField, firstField, fieldE, numberFrom, numberOr, pairs, calledFor, verdictRefusal, verdictValues, noChallenge, newChallengeFrom, succeeded, refusedWith, readFields, readMessage, messageRefusal, messageValues, textOf};
+ghost use Rattle.octets.specs.Digits.{digitOf, hexOf, numberFrom, pairs};
+ghost use Rattle.message.specs.Message.{longestMessage, words, isField, firstField, fieldE, numberOr, calledFor, verdictRefusal, verdictValues, noChallenge, newChallengeFrom, succeeded, refusedWith, readFields, readMessage, messageRefusal, messageValues, textOf};
 ghost use Rattle.message.specs.Inner.{wordKindOf, isNowhere, lacks, isNew, withPlace, Noted};
 ghost use Rattle.message.specs.Inner.{digitsAt, parsedAt, parsedIn, completed, wordAt};
 ghost use Rattle.message.specs.Inner.{IfSome, Small, Eight};
@@ -90,19 +90,6 @@ fn digits_of(word: &[u8]) -> &[u8]
     octets::part_of(word, 2, word.len())
 }
 
-fn are_digits(digits: &[u8], base: u8) -> bool
-    ensures { λ r. ⌜ r ≡ allBelow base (map digitOf (now (digits .entry))) ⌝ }
-{
-    let mut i = 0;
-    while i < digits.len() {
-        if base <= octets::digit_value(digits[i]) {
-            return false;
-        }
-        i += 1;
-    }
-    true
-}
-
 // The number that digits make.
 fn number(digits: &[u8], base: u64) -> u64
     requires { ⌜ (0 < base) × Small base (map digitOf (now digits)) ⌝ }
@@ -156,7 +143,7 @@ fn is_field(word: &[u8], letter: u8, base: u8, low: usize, high: usize) -> bool
     if high < digits.len() {
         return false;
     }
-    are_digits(digits, base)
+    octets::are_digits(digits, base)
 }
 
 // What a word is.
@@ -243,14 +230,7 @@ fn note(word: &[u8], from: usize, f: Fields) -> Fields
 fn word_at(message: &[u8], from: usize) -> &[u8]
     ensures { λ r. ⌜ now r ≡ wordAt (now (message .entry)) from ⌝ }
 {
-    let mut to = from;
-    while to < message.len() {
-        if message[to] == b' ' {
-            break;
-        }
-        to += 1;
-    }
-    octets::part_of(message, from, to - from)
+    octets::up_to(octets::part_of(message, from, message.len()), b' ')
 }
 
 // ---- the walk: the two reading states

@@ -11,7 +11,8 @@ use lib.Dec.{eqb, ltb}
 use lib.ListN.{length}
 use Rattle.octets.specs.Parts.{part, fixed}
 use Rattle.octets.proofs.Parts.{length-fixed}
-use Rattle.message.specs.Message.{words, firstField, fieldE, fieldC, pairs, newChallengeFrom}
+use Rattle.octets.specs.Digits.{pairs}
+use Rattle.message.specs.Message.{words, firstField, fieldE, fieldC, newChallengeFrom}
 use Rattle.message.specs.Message.{readFields, readMessage}
 use Rattle.message.specs.Inner.{IfSome, Eight}
 use Rattle.message.specs.declared.Call.{Call}

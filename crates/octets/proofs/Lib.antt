@@ -5,3 +5,5 @@ pub mod Laid
 pub mod Numbers
 pub mod Digits
 pub mod Listed
+pub mod Split
+pub mod DigitLoop

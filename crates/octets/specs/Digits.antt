@@ -1,7 +1,8 @@
 -- ASCII digits.
 -- Assumes nothing: these are definitions.
-use mathlib.Core.Bool.{Bool, cond, _&&_}
-use Prim.Native.Nat.{ℕ, _+_, _-_}
+use mathlib.Core.Bool.{Bool, true, cond, _&&_}
+use mathlib.Core.List.{List, [], _∷_}
+use Prim.Native.Nat.{ℕ, _+_, _-_, _*_}
 use lib.Dec.{leb, ltb}
 
 abbrev pub between : ℕ → ℕ → ℕ → Bool
@@ -18,3 +19,19 @@ digitOf c =
 -- the upper-case hexadecimal digit of a value below 16, which below 10 is the decimal digit
 unfoldable pub hexOf : ℕ → ℕ
 hexOf v = cond (ltb v 10) (v + 48) (v + 55)
+
+-- each value is below the base (an octet that is no digit has the value 16)
+abbrev pub allBelow : ℕ → List ℕ → Bool
+allBelow base [] = true
+allBelow base (d ∷ ds) = ltb d base && allBelow base ds
+
+-- the number that digit values make after n
+abbrev pub numberFrom : ℕ → ℕ → List ℕ → ℕ
+numberFrom base n [] = n
+numberFrom base n (d ∷ ds) = numberFrom base (n * base + d) ds
+
+-- hexadecimal digit values in pairs, as octets
+abbrev pub pairs : List ℕ → List ℕ
+pairs [] = []
+pairs (x ∷ []) = []
+pairs (x ∷ y ∷ ds) = (x * 16 + y) ∷ pairs ds

@@ -2,11 +2,12 @@
 // function is total.
 ghost use mathlib.Core.Path.{_≡_};
 ghost use mathlib.Core.Bool.{cond, _&&_};
-ghost use mathlib.Core.List.{[], _∷_};
+ghost use mathlib.Core.List.{[], _∷_, map};
 ghost use Prim.Native.Nat.{_%_, _<_, min};
 ghost use Rattle.octets.specs.Parts.{part, over, overAt, fixed, agrees};
 ghost use Rattle.octets.specs.Numbers.{fromBe, toBe, fromLe, toLe};
-ghost use Rattle.octets.specs.Digits.{between, digitOf, hexOf};
+ghost use Rattle.octets.specs.Digits.{between, digitOf, hexOf, allBelow};
+ghost use Rattle.octets.specs.Split.{before};
 
 // ---- parts
 
@@ -23,6 +24,20 @@ pub fn part_of(s: &[u8], at: usize, n: usize) -> &[u8]
     let a = least(at, s.len());
     let e = a + least(n, s.len() - a);
     &s[a..e]
+}
+
+// What stands before the first octet c of s, or all of s where it has none.
+pub fn up_to(s: &[u8], c: u8) -> &[u8]
+    ensures { λ r. ⌜ now r ≡ before c (now (s .entry)) ⌝ }
+{
+    let mut i = 0;
+    while i < s.len() {
+        if s[i] == c {
+            break;
+        }
+        i += 1;
+    }
+    part_of(s, 0, i)
 }
 
 // The seven octets of s from the place at on, as for a DES key; 0 for those that s does not reach.
@@ -237,6 +252,20 @@ pub fn digit_value(octet: u8) -> u8
         return octet - 87;
     }
     16
+}
+
+// Whether all are digits of the base.
+pub fn are_digits(digits: &[u8], base: u8) -> bool
+    ensures { λ r. ⌜ r ≡ allBelow base (map digitOf (now (digits .entry))) ⌝ }
+{
+    let mut i = 0;
+    while i < digits.len() {
+        if base <= digit_value(digits[i]) {
+            return false;
+        }
+        i += 1;
+    }
+    true
 }
 
 // The upper-case hexadecimal digit of value, of which the low four bits count.

@@ -2,7 +2,6 @@ pub mod Fields
 pub mod Framing
 pub mod Padding
 pub mod Writing
-pub mod Split
 pub mod Places
 pub mod Refusals
 pub mod ReadBack

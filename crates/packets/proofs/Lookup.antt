@@ -9,26 +9,12 @@ use native.Mathlib.Omega.{arith}
 use borrow.Author.Tests.{le-ltb, eq-eqb}
 use lib.Dec.{eqb}
 use lib.ListN.{length}
+use Rattle.octets.proofs.Split.{cut}
 use Rattle.packets.specs.Frame.{octet}
 use Rattle.packets.specs.Response.{responsePacket}
-use Rattle.packets.specs.Name.{isSplit, beforeSplit, afterSplit, isBadResponse, domainOf, accountOf}
+use Rattle.packets.specs.Name.{isSplit, isBadResponse, domainOf, accountOf}
 use Rattle.packets.specs.declared.Response.{Response}
 use Rattle.packets.proofs.ReadBack.{ResponseBack, response-back}
-
--- the parts of a name by its first backslash
-pub record Parts (n d a : List ℕ) : Type 0 where
-  pub split : isSplit n ≡ true
-  pub before : beforeSplit n ≡ d
-  pub after : afterSplit n ≡ a
-
-pub split-parts : (d a : List ℕ) → isSplit d ≡ false → Parts (d ++ (92 ∷ a)) d a
-split-parts [] a e = record { split = refl; before = refl; after = refl }
-split-parts (x ∷ d) a e = which (eqb x 92) refl e (split-parts d a)
-  where
-    which : (b : Bool) → eqb x 92 ≡ b → (b || isSplit d) ≡ false → (isSplit d ≡ false → Parts (d ++ (92 ∷ a)) d a) → Parts (x ∷ (d ++ (92 ∷ a))) (x ∷ d) a
-    which true e f g = absurd (false≢true (sym f))
-    which false e f g =
-        let r = g f in record { split = simp e (r .split); before = simp e (ap (λ (l : List ℕ). x ∷ l) (r .before)); after = simp e (r .after) }
 
 module _ (id : ℕ) (f : Response) (name t home : List ℕ) (lm : length (f .lm) ≡ 24) (nt : length (f .nt) ≡ 24) (flag : f .flag < 2)
     (least : 1 ≤ length name) (most : length name ≤ 256) where
@@ -48,8 +34,8 @@ module _ (id : ℕ) (f : Response) (name t home : List ℕ) (lm : length (f .lm)
   unfolding domainOf accountOf
   lookup-parts d a e h =
       let n = read .name ∙ e in
-      let s = split-parts d a h in
-      (simp (fit, n, s .split) (s .before), simp (fit, n, s .split) (s .after))
+      let s = cut 92 d a h in
+      (simp (fit, n, s .holds-it) (s .before-it), simp (fit, n, s .holds-it) (s .behind-it))
 
   -- without one: the home domain, and the whole name
   pub lookup-home : isSplit name ≡ false

@@ -11,12 +11,12 @@ use lib.Dec.{eqb, ltb}
 use lib.ListN.{length, take, drop, length-take, length-drop}
 use lib.Seq.{take-take, take-add, drop-drop, drop-at, length-take-le}
 use Rattle.octets.specs.Parts.{part}
+use Rattle.octets.proofs.Split.{place, held, take-place, drop-place}
 use Rattle.packets.specs.Frame.{octet, lengthOf, badFrame}
 use Rattle.packets.specs.Response.{readName, badResponseFlag}
 use Rattle.packets.specs.Name.{isSplit, beforeSplit, afterSplit, isBadResponse, noPart, partFrom, domainPart, accountPart, domainOf, accountOf}
 use Rattle.packets.specs.declared.Part.{Part}
 use Rattle.packets.proofs.Framing.{frame-bounds}
-use Rattle.packets.proofs.Split.{place, is-split, take-place, drop-place}
 
 -- what stands at a part of the packet
 abbrev pub cut : Part → List ℕ → List ℕ
@@ -36,23 +36,23 @@ module _ (p : List ℕ) where
   unfolding domainPart accountPart
   part-unfit u = (simp u, simp u)
 
-  module _ (u : isBadResponse p ≡ false) {k : ℕ} (e : k ≡ place (readName p)) where
+  module _ (u : isBadResponse p ≡ false) {k : ℕ} (e : k ≡ place 92 (readName p)) where
     pub part-split : k < length (readName p) → (record { offset = 54; length = k } ≡ domainPart p) × (partFrom (55 + k) p ≡ accountPart p)
     unfolding domainPart accountPart
     part-split h =
         let n = readName p in
-        let s : isSplit n ≡ true = is-split n ∙ lt-ltb (place n) (length n) (omega arith) in
+        let s : isSplit n ≡ true = held 92 n ∙ lt-ltb (place 92 n) (length n) (omega arith) in
         (simp (u, s, e), simp (u, s, e))
 
     pub part-whole : length (readName p) ≤ k → (noPart ≡ domainPart p) × (partFrom 54 p ≡ accountPart p)
     unfolding domainPart accountPart
     part-whole h =
-        let s : isSplit (readName p) ≡ false = is-split (readName p) ∙ le-ltb (place (readName p)) (length (readName p)) (omega arith) in
+        let s : isSplit (readName p) ≡ false = held 92 (readName p) ∙ le-ltb (place 92 (readName p)) (length (readName p)) (omega arith) in
         (simp (u, s), simp (u, s))
 
   -- a backslash stands within the name
-  inside : isSplit (readName p) ≡ true → place (readName p) < length (readName p)
-  inside s = ltb-true (place (readName p)) (length (readName p)) (sym (is-split (readName p)) ∙ s)
+  inside : isSplit (readName p) ≡ true → place 92 (readName p) < length (readName p)
+  inside s = ltb-true (place 92 (readName p)) (length (readName p)) (sym (held 92 (readName p)) ∙ s)
 
   name-bounds : (length (readName p) ≤ lengthOf p - 54) × (length (readName p) ≤ length p - 54)
   name-bounds = omega (arith, length-take (lengthOf p - 54) (drop 54 p), length-drop 54 p)
@@ -67,16 +67,16 @@ module _ (p : List ℕ) where
       n : List ℕ
       n = readName p
 
-      behind : isSplit n ≡ true → cut (partFrom (55 + place n) p) p ≡ afterSplit n
+      behind : isSplit n ≡ true → cut (partFrom (55 + place 92 n) p) p ≡ afterSplit n
       behind s =
-          let k = place n in
+          let k = place 92 n in
           let count : lengthOf p - (55 + k) ≡ lengthOf p - 54 - suc k = omega arith in
           let from : 55 + k ≡ 54 + suc k = omega arith in
           ap₂ (λ (i j : ℕ). take i (drop j p)) count from ∙ ap (take (lengthOf p - 54 - suc k)) (sym (drop-drop (suc k) 54 p))
-          ∙ sym (drop-take (suc k) (lengthOf p - 54) (drop 54 p) (inside s)) ∙ drop-place n
+          ∙ sym (drop-take (suc k) (lengthOf p - 54) (drop 54 p) (inside s)) ∙ drop-place 92 n
 
       by : (u s : Bool) → isSplit n ≡ s
-          → cut (cond u noPart (cond s (partFrom (55 + place n) p) (partFrom 54 p))) p ≡ cond u [] (cond s (afterSplit n) n)
+          → cut (cond u noPart (cond s (partFrom (55 + place 92 n) p) (partFrom 54 p))) p ≡ cond u [] (cond s (afterSplit n) n)
       by true s e = refl
       by false true e = behind e
       by false false e = refl
@@ -91,14 +91,14 @@ module _ (p : List ℕ) where
         n = readName p
 
         at : Bool → Bool → Part
-        at u s = cond u noPart (cond s (record { offset = 54; length = place n }) noPart)
+        at u s = cond u noPart (cond s (record { offset = 54; length = place 92 n }) noPart)
 
         by : (u s : Bool) → isSplit n ≡ s → (at u s .offset ≡ 0 → ⊥) → cut (at u s) p ≡ cond u [] (cond s (beforeSplit n) home)
         by true s e h = absurd (h refl)
         by false true e h =
             let i = inside e in
             let b = name-bounds in
-            sym (take-take (place n) (lengthOf p - 54) (drop 54 p) (omega arith)) ∙ take-place n
+            sym (take-take (place 92 n) (lengthOf p - 54) (drop 54 p) (omega arith)) ∙ take-place 92 n
         by false false e h = absurd (h refl)
 
     -- where it is not, and the packet is not refused, it is the home domain

@@ -1,11 +1,12 @@
 -- The two parts of a Response's name, for the lookup (document 01, "Frame and packets"): split at
 -- its first backslash, which is in neither.
 -- Assumes nothing: these are definitions.
-use mathlib.Core.Bool.{Bool, false, cond, not, _||_}
-use mathlib.Core.List.{List, [], _∷_}
+use mathlib.Core.Bool.{Bool, cond, not, _||_}
+use mathlib.Core.List.{List, []}
 use Prim.Native.Nat.{ℕ, _+_, _-_}
 use lib.Dec.{eqb}
 use lib.ListN.{length}
+use Rattle.octets.specs.Split.{holds, before, behind}
 use Rattle.packets.specs.Codes.{responseCode}
 use Rattle.packets.specs.Frame.{octet, lengthOf, badFrame}
 use Rattle.packets.specs.Sizes.{nameOffset}
@@ -14,17 +15,14 @@ use Rattle.packets.specs.declared.Part.{Part}
 
 -- a backslash is octet 92
 abbrev pub isSplit : List ℕ → Bool
-isSplit [] = false
-isSplit (x ∷ n) = eqb x 92 || isSplit n
+isSplit n = holds 92 n
 
 -- what stands before the first backslash, and what stands behind it
 abbrev pub beforeSplit : List ℕ → List ℕ
-beforeSplit [] = []
-beforeSplit (x ∷ n) = cond (eqb x 92) [] (x ∷ beforeSplit n)
+beforeSplit n = before 92 n
 
 abbrev pub afterSplit : List ℕ → List ℕ
-afterSplit [] = []
-afterSplit (x ∷ n) = cond (eqb x 92) n (afterSplit n)
+afterSplit n = behind 92 n
 
 -- the packet by itself fails the check of 3, 4 (code 2 awaited), 6 or 7
 abbrev pub isBadResponse : List ℕ → Bool

@@ -24,14 +24,7 @@ fn is_bad_response(packet: &[u8]) -> bool
 fn split_at(name: &[u8]) -> usize
     ensures { λ r. ⌜ r ≡ length (beforeSplit (now (name .entry))) ⌝ }
 {
-    let mut i = 0;
-    while i < name.len() {
-        if name[i] == b'\\' {
-            return i;
-        }
-        i += 1;
-    }
-    i
+    octets::up_to(name, b'\\').len()
 }
 
 // No part of the packet.

@@ -8,8 +8,8 @@ use borrow.Author.Needs.{needs}
 use borrow.Author.Tests.{eq-eqb, ne-eqb, le-leb, lt-leb}
 use lib.ListN.{length, take, drop, length-drop}
 use lib.Seq.{take-all}
-use Rattle.octets.specs.Digits.{digitOf}
-use Rattle.message.specs.Message.{allBelow}
+use Rattle.octets.specs.Digits.{digitOf, allBelow}
+
 use Rattle.message.proofs.Formed.{short, long}
 use Rattle.message.proofs.is_field.Statement.{statement}
 use Rattle.message.proofs.is_field.Tie as tie

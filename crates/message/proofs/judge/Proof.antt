@@ -7,7 +7,8 @@ use Prim.Native.Nat.{ℕ}
 use lib.Dec.{lit<, lit≤}
 use borrow.Author.Needs.{needs}
 use Rattle.message.specs.declared.Place.{Place}
-use Rattle.message.specs.Message.{words, digitsOf, firstField, fieldE, fieldR, fieldV, fieldC, numberFrom, numberOr, newChallengeFrom}
+use Rattle.octets.specs.Digits.{numberFrom}
+use Rattle.message.specs.Message.{words, digitsOf, firstField, fieldE, fieldR, fieldV, fieldC, numberOr, newChallengeFrom}
 use Rattle.message.specs.Inner.{ParsedFields, wordAt, digitsAt, IfSome, Small, Eight}
 use Rattle.message.proofs.Formed.{first-small, first-eight}
 use Rattle.message.proofs.judge.Statement.{statement}

@@ -4,7 +4,7 @@ use mathlib.Core.Path.{sym, ap, _∙_}
 use native.Mathlib.Omega.{arith}
 use borrow.Author.Needs.{needs}
 use lib.ListN.{length}
-use Rattle.packets.proofs.Split.{place}
+use Rattle.octets.proofs.Split.{place}
 use Rattle.packets.proofs.Places.{part-unfit, part-split, part-whole}
 use Rattle.packets.proofs.names.account_part.Statement.{statement}
 use Rattle.packets.proofs.names.account_part.Tie as tie
@@ -19,14 +19,14 @@ returns-2 c =
     let p = c .before .before .before .before .before .before .before .args .packet .now in
     let u = sym (c .before .before .before .before .before .is-bad-response .ensures) ∙ c .before .before .before .before .if1 .left in
     let e = c .before .before .before .name .ensures in
-    c .part-from .ensures ∙ part-split p u (c .before .before .split-at .ensures ∙ ap place e) (omega (arith, ap length e)) .1
+    c .part-from .ensures ∙ part-split p u (c .before .before .split-at .ensures ∙ ap (place 92) e) (omega (arith, ap length e)) .1
 
 returns-3 : tie.Need-returns-3
 returns-3 c =
     let p = c .before .before .before .before .before .before .before .args .packet .now in
     let u = sym (c .before .before .before .before .before .is-bad-response .ensures) ∙ c .before .before .before .before .if1 .left in
     let e = c .before .before .before .name .ensures in
-    c .part-from2 .ensures ∙ part-whole p u (c .before .before .split-at .ensures ∙ ap place e) (omega (arith, ap length e)) .1
+    c .part-from2 .ensures ∙ part-whole p u (c .before .before .split-at .ensures ∙ ap (place 92) e) (omega (arith, ap length e)) .1
 
 pub account-part-spec : {M : Type 1} → statement M
 account-part-spec =

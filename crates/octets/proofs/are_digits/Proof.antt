@@ -1,13 +1,13 @@
--- `message::are_digits` meets its contract. The loop's invariant: the octets from i on are digits
+-- `octets::are_digits` meets its contract. The loop's invariant: the octets from i on are digits
 -- exactly where all are.
 -- Assumes nothing.
 use Prim.Native.Nat.{_-_}
 use mathlib.Core.Path.{refl}
 use borrow.Author.Needs.{needs}
 use lib.ListN.{length}
-use Rattle.message.proofs.Loops.{Judged, no-digit, one-digit, all-digits}
-use Rattle.message.proofs.are_digits.Statement.{statement}
-use Rattle.message.proofs.are_digits.Tie as tie
+use Rattle.octets.proofs.DigitLoop.{Judged, no-digit, one-digit, all-digits}
+use Rattle.octets.proofs.are_digits.Statement.{statement}
+use Rattle.octets.proofs.are_digits.Tie as tie
 
 abbrev Inv-loop : tie.InvT-loop
 Inv-loop digits base i₀ i = Judged base digits i
