@@ -111,13 +111,7 @@ fn octets_of(digits: &[u8]) -> [u8; 8]
     ensures { λ r. ⌜ r ≡ pairs (map digitOf (now (digits .entry))) ⌝ }
 {
     let mut out = [0u8; 8];
-    let mut i: usize = 0;
-    while i < 8 {
-        let high = octets::digit_value(digits[2 * i]);
-        let low = octets::digit_value(digits[2 * i + 1]);
-        out[i] = high * 16 + low;
-        i += 1;
-    }
+    octets::decode_hex(digits, &mut out);
     out
 }
 

@@ -7,3 +7,4 @@ pub mod Digits
 pub mod Listed
 pub mod Split
 pub mod DigitLoop
+pub mod HexText

@@ -5,6 +5,7 @@ use mathlib.Core.Bool.{Bool, true, false, _&&_, false≢true, and-true, and-fals
 use mathlib.Core.List.{List, [], _∷_, _++_, append-assoc, append-nil}
 use Prim.Native.Nat.{ℕ, zero, suc, _+_, _-_, _≤_, _<_, min}
 use native.Mathlib.Nat.{not-suc-le-zero, le-of-suc-le-suc, zero-min, min-zero, suc-min-suc, add-sub-cancel-left, zero-add, suc-add}
+use native.Mathlib.Numerals.{add-one}
 use native.Mathlib.Omega.{arith}
 use borrow.Author.Tests.{eq-eqb, ne-eqb, eqb-true, eqb-false, leb-true, leb-false}
 use lib.Dec.{eqb, leb}
@@ -157,6 +158,12 @@ over-turn xs l i h k =
     ap₂ (λ (a b : List ℕ). a ++ over (drop (suc i) xs) b) (take-suc-set l i x k) (drop-set-lt (suc i) l i x (omega arith))
     ∙ append-snoc (take i l) x (over (drop (suc i) xs) (drop (suc i) l))
     ∙ ap₂ (λ (a b : List ℕ). take i l ++ over a b) (sym (drop-cons xs i 0 h)) (sym (drop-cons l i 0 k))
+
+-- the same, with the octet to be stored under a name of its own
+pub over-step : (xs l : List ℕ) (i v : ℕ) → v ≡ getD xs i 0 → i < length xs → i < length l
+    → take (i + 1) (set l i v) ++ over (drop (i + 1) xs) (drop (i + 1) (set l i v)) ≡ take i l ++ over (drop i xs) (drop i l)
+over-step xs l i v e h k =
+    ap₂ (λ (n w : ℕ). take n (set l i w) ++ over (drop n xs) (drop n (set l i w))) (add-one i) e ∙ over-turn xs l i h k
 
 pub over-end : (xs l : List ℕ) (i : ℕ) → min (length l) (length xs) ≤ i → take i l ++ over (drop i xs) (drop i l) ≡ l
 over-end xs l i h = which (leb (length xs) i) refl

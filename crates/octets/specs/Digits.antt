@@ -2,7 +2,7 @@
 -- Assumes nothing: these are definitions.
 use mathlib.Core.Bool.{Bool, true, cond, _&&_}
 use mathlib.Core.List.{List, [], _∷_}
-use Prim.Native.Nat.{ℕ, _+_, _-_, _*_}
+use Prim.Native.Nat.{ℕ, _+_, _-_, _*_, _/_, _%_}
 use lib.Dec.{leb, ltb}
 
 abbrev pub between : ℕ → ℕ → ℕ → Bool
@@ -35,3 +35,8 @@ abbrev pub pairs : List ℕ → List ℕ
 pairs [] = []
 pairs (x ∷ []) = []
 pairs (x ∷ y ∷ ds) = (x * 16 + y) ∷ pairs ds
+
+-- each octet as two upper-case hexadecimal digits
+abbrev pub hexText : List ℕ → List ℕ
+hexText [] = []
+hexText (x ∷ l) = hexOf (x / 16 % 16) ∷ hexOf (x % 16) ∷ hexText l

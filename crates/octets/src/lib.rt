@@ -1,5 +1,10 @@
 // Lists of octets: parts, copies, agreement, numbers of two, four and eight octets, digits. Every
 // function is total.
+mod hex;
+
+pub use hex::decode_hex;
+pub use hex::encode_hex;
+
 ghost use mathlib.Core.Path.{_≡_};
 ghost use mathlib.Core.Bool.{cond, _&&_};
 ghost use mathlib.Core.List.{[], _∷_, map};
@@ -11,7 +16,7 @@ ghost use Rattle.octets.specs.Split.{before};
 
 // ---- parts
 
-fn least(a: usize, b: usize) -> usize
+pub(crate) fn least(a: usize, b: usize) -> usize
     ensures { λ r. ⌜ r ≡ min a b ⌝ }
 {
     if a < b { a } else { b }
@@ -159,6 +164,24 @@ pub fn u16_to_be(x: u16) -> [u8; 2]
     ensures { λ r. ⌜ r ≡ toBe 2 x ⌝ }
 {
     [(x / 256 % 256) as u8, (x % 256) as u8]
+}
+
+// Four octets, the most significant first.
+pub fn u32_from_be(a: u8, b: u8, c: u8, d: u8) -> u32
+    ensures { λ r. ⌜ r ≡ fromBe (a ∷ b ∷ c ∷ d ∷ []) ⌝ }
+{
+    a as u32 * 16777216 + b as u32 * 65536 + c as u32 * 256 + d as u32
+}
+
+pub fn u32_to_be(x: u32) -> [u8; 4]
+    ensures { λ r. ⌜ r ≡ toBe 4 x ⌝ }
+{
+    [
+        (x / 0x0100_0000 % 256) as u8,
+        (x / 0x0001_0000 % 256) as u8,
+        (x / 0x0100 % 256) as u8,
+        (x % 256) as u8,
+    ]
 }
 
 // Four octets, the least significant first.
