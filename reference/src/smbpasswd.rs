@@ -647,7 +647,7 @@ pub mod samples {
     pub fn damaged(file: &[u8], random: &mut Random) -> Vec<u8> {
         let mut file = file.to_vec();
         for _ in 0..random.between(1, 3) {
-            match random.below(14) {
+            match random.below(15) {
                 0 => field_by_one(&mut file, random),
                 1 => separator(&mut file, random),
                 2 => insert(&mut file, random, b":\n"),
@@ -664,6 +664,7 @@ pub mod samples {
                 }
                 11 => empty_line(&mut file, random),
                 12 => carriage_return(&mut file, random),
+                13 => limit(&mut file, random),
                 _ => other_octet(&mut file, random),
             }
         }
@@ -710,6 +711,14 @@ pub mod samples {
             Some(at) => file.insert(at, file[at]),
             None => file.insert(field.start, random.pick(b"0AX [")),
         }
+    }
+
+    /// A name or uid with no octet, with the most that it may have or with one more.
+    fn limit(file: &mut Vec<u8>, random: &mut Random) {
+        let (number, most, octet) = random.pick(&[(0, 256, b'n'), (1, 10, b'7')]);
+        let field = field(file, random, number);
+        let size = random.pick(&[0, most, most + 1]);
+        file.splice(field, vec![octet; size]);
     }
 
     /// A colon or LF removed, doubled or moved by one place.
