@@ -37,6 +37,10 @@ part-cut at n l {a} {k} ea ek =
 pub part-join : (a k j : ℕ) (l : List ℕ) → part a k l ++ part (a + k) j l ≡ part a (k + j) l
 part-join a k j l = sym (take-add k j (drop a l) ∙ ap (λ (x : List ℕ). part a k l ++ take j x) (drop-drop k a l))
 
+-- all from a place on
+pub part-rest : (a : ℕ) (l : List ℕ) → part a (length l) l ≡ drop a l
+part-rest a l = take-all (length l) (drop a l) (omega (arith, length-drop a l))
+
 pub drop-replicate : (n k : ℕ) → drop {A = ℕ} n (replicate (n + k) 0) ≡ replicate k 0
 drop-replicate n k =
     ap (drop n) (sym (replicate-append-replicate n k 0))

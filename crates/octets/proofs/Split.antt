@@ -10,7 +10,9 @@ use borrow.Author.Tests.{eq-eqb, ne-eqb, eqb-true, lt-ltb}
 use lib.Dec.{eqb, ltb, leb·suc-suc}
 use lib.ListN.{length, take, drop, getD, drop-of-length-le}
 use lib.Seq.{drop-cons}
+use Rattle.octets.specs.Parts.{part}
 use Rattle.octets.specs.Split.{holds, before, behind}
+use Rattle.octets.proofs.Parts.{part-rest}
 
 -- how many octets stand before it, or in all where there is none
 abbrev pub place : ℕ → List ℕ → ℕ
@@ -64,6 +66,10 @@ module _ (c : ℕ) where
           → drop (length (cond b [] (x ∷ before c l))) l ≡ cond b l (behind c l)
       which true e = refl
       which false e = e
+
+  -- all that stands behind it
+  pub part-behind : (l : List ℕ) → part (place c l + 1) (length l) l ≡ behind c l
+  part-behind l = part-rest (place c l + 1) l ∙ ap (λ (k : ℕ). drop k l) (add-one (place c l)) ∙ drop-place l
 
   pub place-le : (l : List ℕ) → place c l ≤ length l
   place-le [] = omega arith

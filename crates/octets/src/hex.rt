@@ -52,7 +52,7 @@ fn octet_at(s: &[u8], i: usize) -> u8
 pub fn decode_hex(s: &[u8], out: &mut [u8])
     ensures { λ _. ⌜ now (out .exit)
         ≡ cond (allBelow 16 (map digitOf (now (s .entry))))
-            (over (pairs (map digitOf (now (s .entry)))) (now (out .entry))) (now (out .entry)) ⌝ }
+        (over (pairs (map digitOf (now (s .entry)))) (now (out .entry))) (now (out .entry)) ⌝ }
 {
     if !are_digits(s, 16) {
         return;

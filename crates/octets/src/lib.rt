@@ -4,7 +4,6 @@ mod hex;
 
 pub use hex::decode_hex;
 pub use hex::encode_hex;
-
 ghost use mathlib.Core.Path.{_≡_};
 ghost use mathlib.Core.Bool.{cond, _&&_};
 ghost use mathlib.Core.List.{[], _∷_, map};

@@ -9,7 +9,6 @@ use borrow.Author.Tests.{eq-eqb, ne-eqb, le-leb, lt-leb}
 use lib.ListN.{length, take, drop, length-drop}
 use lib.Seq.{take-all}
 use Rattle.octets.specs.Digits.{digitOf, allBelow}
-
 use Rattle.message.proofs.Formed.{short, long}
 use Rattle.message.proofs.is_field.Statement.{statement}
 use Rattle.message.proofs.is_field.Tie as tie

@@ -1,0 +1,7 @@
+pub mod FieldLaws
+pub mod LineLaws
+pub mod Digits
+pub mod Search
+pub mod Counting
+pub mod Numbers
+pub mod Heading
