@@ -5,3 +5,4 @@ pub mod Search
 pub mod Counting
 pub mod Numbers
 pub mod Heading
+pub mod Writing
