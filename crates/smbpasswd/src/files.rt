@@ -12,7 +12,7 @@ ghost use mathlib.Core.Path.{_≡_};
 ghost use Rattle.octets.specs.Digits.{hexText};
 ghost use Rattle.octets.specs.Numbers.{toBe};
 ghost use Rattle.octets.specs.Parts.{overAt};
-ghost use Rattle.smbpasswd.specs.File.{placeOf, lookupAt, findIn};
+ghost use Rattle.smbpasswd.specs.File.{placeOf, placeRefusal, placeOffset, lookupAt, findIn};
 ghost use Rattle.smbpasswd.specs.Write.{hashText, writtenAt, writtenIn};
 ghost use Rattle.smbpasswd.specs.Inner.{oneMore, oneBad, afterLine, LineThere};
 ghost use Rattle.smbpasswd.specs.declared.Place.the-variants.{Line};
@@ -151,4 +151,30 @@ pub fn write_back(file: &mut [u8], name: &[u8], account: accounts::Account, pres
     let place = locate(file, name);
     write_at(file, place, account, present);
     place
+}
+
+// ---- what a place says
+
+// The refusal number of a place; 0 is none.
+pub fn refusal_of(place: Place) -> u8
+    ensures { λ r. ⌜ r ≡ placeRefusal place ⌝ }
+{
+    match place {
+        Place::Nowhere => 0,
+        Place::Line(_) => 0,
+        Place::Doubled(_) => 15,
+        Place::Malformed(_) => 14,
+    }
+}
+
+// Its offset; 0 where there is none.
+pub fn offset_of(place: Place) -> usize
+    ensures { λ r. ⌜ r ≡ placeOffset place ⌝ }
+{
+    match place {
+        Place::Nowhere => 0,
+        Place::Line(at) => at,
+        Place::Doubled(at) => at,
+        Place::Malformed(at) => at,
+    }
 }

@@ -9,6 +9,8 @@ mod texts;
 
 pub use files::find;
 pub use files::locate;
+pub use files::offset_of;
+pub use files::refusal_of;
 pub use files::write_back;
 pub use summaries::count;
 pub use summaries::summarize;

@@ -1,0 +1,119 @@
+// The functions for C over an account file in a caller's buffer: an account looked up, a changed
+// record written back, the accounts counted. They stand beneath `mschap`, which exports them.
+use layouts::BAD_ARGUMENT;
+use layouts::RECORD_SIZE;
+use layouts::decode_record;
+use layouts::is_encoded_record;
+use layouts::put_record;
+use smbpasswd::Place;
+ghost use mathlib.Core.Path.{_≡_};
+ghost use Rattle.account_files.specs.Calls.{writeNumber, FindCall, WriteCall, CountCall};
+ghost use Rattle.account_files.specs.Inner.{AccountCall};
+
+// ---- looked up
+
+// The record of a name, and where its line starts. 14 and 15 have an offset too.
+#[no_mangle]
+pub extern "C" fn mschap_find_account(
+    file: &[u8],
+    name: &[u8],
+    present: u32,
+    max_age: u32,
+    out: &mut [u8],
+    offset: &mut usize,
+) -> u32
+    ensures { λ r. ⌜ FindCall (now (file .entry)) (now (name .entry)) present «max_age»
+        (now (out .entry)) (now (offset .entry)) r (now (out .exit)) (now (offset .exit)) ⌝ }
+{
+    if out.len() != RECORD_SIZE {
+        return BAD_ARGUMENT;
+    }
+    let found = smbpasswd::find(file, name, present, max_age);
+    let place = found.place;
+    let lookup = found.lookup;
+    *offset = smbpasswd::offset_of(place);
+    put_record(smbpasswd::refusal_of(place), lookup, out)
+}
+
+// ---- written back
+
+// The number of a place to which a record was to be written: 103 where there is no such account.
+fn write_number(place: Place) -> u32
+    ensures { λ r. ⌜ r ≡ writeNumber place ⌝ }
+{
+    match place {
+        Place::Nowhere => 103,
+        Place::Line(_) => 0,
+        Place::Doubled(_) => 15,
+        Place::Malformed(_) => 14,
+    }
+}
+
+fn write_account(
+    file: &mut [u8],
+    name: &[u8],
+    account: accounts::Account,
+    present: u32,
+    offset: &mut usize,
+) -> u32
+    ensures { λ r. ⌜ AccountCall (now (file .entry)) (now (name .entry)) account present
+        (now (offset .entry)) r (now (file .exit)) (now (offset .exit)) ⌝ }
+{
+    let place = smbpasswd::write_back(file, name, account, present);
+    let number = write_number(place);
+    if number == 103 {
+        return number;
+    }
+    *offset = smbpasswd::offset_of(place);
+    number
+}
+
+// Writes a record back into the line of its name. 102: it is the record of no account.
+#[no_mangle]
+pub extern "C" fn mschap_write_account(
+    file: &mut [u8],
+    name: &[u8],
+    bytes: &[u8],
+    present: u32,
+    offset: &mut usize,
+) -> u32
+    ensures { λ r. ⌜ WriteCall (now (file .entry)) (now (name .entry)) (now (bytes .entry)) present
+        (now (offset .entry)) r (now (file .exit)) (now (offset .exit)) ⌝ }
+{
+    if !is_encoded_record(bytes) {
+        return BAD_ARGUMENT;
+    }
+    let lookup = decode_record(bytes);
+    if !lookup.found {
+        return 102;
+    }
+    let account = lookup.account;
+    write_account(file, name, account, present, offset)
+}
+
+// ---- counted
+
+// The lines, those of another form, and the accounts that are disabled, expired and without an NT
+// hash.
+#[no_mangle]
+pub extern "C" fn mschap_count_accounts(
+    file: &[u8],
+    present: u32,
+    max_age: u32,
+    lines: &mut u64,
+    bad: &mut u64,
+    disabled: &mut u64,
+    expired: &mut u64,
+    no_nt: &mut u64,
+) -> u32
+    ensures { λ r. ⌜ CountCall (now (file .entry)) present «max_age» r (now (lines .exit))
+        (now (bad .exit)) (now (disabled .exit)) (now (expired .exit)) (now («no_nt» .exit)) ⌝ }
+{
+    let k = smbpasswd::count(file, present, max_age);
+    *lines = k.lines as u64;
+    *bad = k.bad as u64;
+    *disabled = k.disabled as u64;
+    *expired = k.expired as u64;
+    *no_nt = k.no_nt as u64;
+    0
+}
