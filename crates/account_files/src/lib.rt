@@ -1,5 +1,6 @@
-// The functions for C over an account file in a caller's buffer: an account looked up, a changed
-// record written back, the accounts counted. They stand beneath `mschap`, which exports them.
+// An account file in a buffer of C's: an account looked up, a changed record written back, the
+// accounts counted. What a call returns and leaves is said here; `mschap` exports the three under
+// their names in C. Every public function is total.
 use layouts::BAD_ARGUMENT;
 use layouts::RECORD_SIZE;
 use layouts::decode_record;
@@ -13,8 +14,7 @@ ghost use Rattle.account_files.specs.Inner.{AccountCall};
 // ---- looked up
 
 // The record of a name, and where its line starts. 14 and 15 have an offset too.
-#[no_mangle]
-pub extern "C" fn mschap_find_account(
+pub fn find_account(
     file: &[u8],
     name: &[u8],
     present: u32,
@@ -49,7 +49,7 @@ fn write_number(place: Place) -> u32
     }
 }
 
-fn write_account(
+fn write_back(
     file: &mut [u8],
     name: &[u8],
     account: accounts::Account,
@@ -69,8 +69,7 @@ fn write_account(
 }
 
 // Writes a record back into the line of its name. 102: it is the record of no account.
-#[no_mangle]
-pub extern "C" fn mschap_write_account(
+pub fn write_account(
     file: &mut [u8],
     name: &[u8],
     bytes: &[u8],
@@ -88,15 +87,14 @@ pub extern "C" fn mschap_write_account(
         return 102;
     }
     let account = lookup.account;
-    write_account(file, name, account, present, offset)
+    write_back(file, name, account, present, offset)
 }
 
 // ---- counted
 
 // The lines, those of another form, and the accounts that are disabled, expired and without an NT
 // hash.
-#[no_mangle]
-pub extern "C" fn mschap_count_accounts(
+pub fn count_accounts(
     file: &[u8],
     present: u32,
     max_age: u32,

@@ -1,5 +1,6 @@
 // MS-CHAP for C: each exported function has its own name there, and host/include/mschap.h declares
 // it.
+mod account_files;
 mod ciphers;
 mod conversations;
 mod lists;

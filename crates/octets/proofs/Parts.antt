@@ -9,7 +9,7 @@ use native.Mathlib.Numerals.{add-one}
 use native.Mathlib.Omega.{arith}
 use borrow.Author.Tests.{eq-eqb, ne-eqb, eqb-true, eqb-false, leb-true, leb-false}
 use lib.Dec.{eqb, leb}
-use lib.ListN.{length, length-append, length-drop, length-replicate, replicate, replicate-append-replicate, take, drop, getD, set, take-append-drop, drop-of-length-le}
+use lib.ListN.{length, length-append, length-drop, length-take, length-replicate, replicate, replicate-append-replicate, take, drop, getD, set, take-append-drop, drop-of-length-le}
 use lib.Seq.{drop-cons, take-suc-set, drop-set-lt, append-snoc, take-at, drop-at, take-all, drop-append-le, drop-drop, take-add, length-take-le, take-append-seam, drop-append-seam}
 use lib.Bits.{bitOr, bitXor, or-add-and, and-le-l, and-le-r, xor-self}
 use Rattle.octets.specs.Parts.{part, over, overAt, fixed, agrees}
@@ -45,6 +45,14 @@ pub drop-replicate : (n k : ℕ) → drop {A = ℕ} n (replicate (n + k) 0) ≡ 
 drop-replicate n k =
     ap (drop n) (sym (replicate-append-replicate n k 0))
     ∙ ap (λ (i : ℕ). drop i (replicate n 0 ++ replicate k 0)) (sym (length-replicate {A = ℕ} n 0)) ∙ drop-append-seam (replicate n 0) (replicate k 0)
+
+-- the front of a list, without its own front
+pub drop-take : (j m : ℕ) (l : List ℕ) → j ≤ length (take m l) → drop j (take m l) ≡ take (m - j) (drop j l)
+drop-take j m l h =
+    let b = length-take m l in
+    let e : m ≡ j + (m - j) = omega arith in
+    ap (λ (i : ℕ). drop j (take i l)) e ∙ ap (drop j) (take-add j (m - j) l)
+    ∙ drop-at (take j l) (take (m - j) (drop j l)) j (length-take-le j l (omega arith))
 
 -- ---- over
 

@@ -11,6 +11,7 @@ use lib.Dec.{eqb, ltb}
 use lib.ListN.{length, take, drop, length-take, length-drop}
 use lib.Seq.{take-take, take-add, drop-drop, drop-at, length-take-le}
 use Rattle.octets.specs.Parts.{part}
+use Rattle.octets.proofs.Parts.{drop-take}
 use Rattle.octets.proofs.Split.{place, held, take-place, drop-place}
 use Rattle.packets.specs.Frame.{octet, lengthOf, badFrame}
 use Rattle.packets.specs.Response.{readName, badResponseFlag}
@@ -21,13 +22,6 @@ use Rattle.packets.proofs.Framing.{frame-bounds}
 -- what stands at a part of the packet
 abbrev pub cut : Part → List ℕ → List ℕ
 cut a p = part (a .offset) (a .length) p
-
-drop-take : (j m : ℕ) (l : List ℕ) → j ≤ length (take m l) → drop j (take m l) ≡ take (m - j) (drop j l)
-drop-take j m l h =
-    let b = length-take m l in
-    let e : m ≡ j + (m - j) = omega arith in
-    ap (λ (i : ℕ). drop j (take i l)) e ∙ ap (drop j) (take-add j (m - j) l)
-    ∙ drop-at (take j l) (take (m - j) (drop j l)) j (length-take-le j l (omega arith))
 
 module _ (p : List ℕ) where
   -- ---- by the name

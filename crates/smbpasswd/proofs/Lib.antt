@@ -6,3 +6,6 @@ pub mod Counting
 pub mod Numbers
 pub mod Heading
 pub mod Writing
+pub mod ChangedLine
+pub mod ChangedFile
+pub mod ReadBack

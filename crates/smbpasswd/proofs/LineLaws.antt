@@ -125,3 +125,7 @@ none-fails test (x ∷ xs) e = which (test (x .line)) refl e (none-fails test xs
 pub all-both : (P Q : Placed → Type 0) (xs : List Placed) → All P xs → All Q xs → All (λ x. P x × Q x) xs
 all-both P Q [] p q = tt
 all-both P Q (x ∷ xs) p q = ((p .0, q .0), all-both P Q xs (p .1) (q .1))
+
+pub all-first : (P Q : Placed → Type 0) (xs : List Placed) → All (λ x. P x × Q x) xs → All P xs
+all-first P Q [] h = tt
+all-first P Q (x ∷ xs) h = (h .0 .0, all-first P Q xs (h .1))

@@ -1,61 +1,48 @@
 -- `account_files::write_account` meets its contract.
 -- Assumes nothing.
-use mathlib.Core.Bool.{true, false}
-use mathlib.Core.Path.{_≡_, refl, sym, ap, _∙_}
-use native.Mathlib.Omega.{arith}
+use mathlib.Core.Bool.{true}
+use mathlib.Core.Path.{_≡_, sym, ap, _∙_}
 use borrow.Author.Needs.{needs}
-use Rattle.smbpasswd.specs.File.{placeOf, placeOffset}
-use Rattle.smbpasswd.specs.declared.Place.{Place}
-use Rattle.smbpasswd.specs.declared.Place.the-variants.{Nowhere, Line, Doubled, Malformed}
-use Rattle.account_files.specs.Calls.{writeNumber, isSomewhere}
+use borrow.Author.Tests.{not-true, not-false}
+use Rattle.accounts.specs.declared.Lookup.{Lookup}
+use Rattle.layouts.specs.Records.{isEncodedRecord}
+use Rattle.smbpasswd.specs.Write.{writtenIn}
 use Rattle.account_files.proofs.write_account.Statement.{statement}
 use Rattle.account_files.proofs.write_account.Tie as tie
 
--- whether a place has an offset, by its number
-somewhere : (p : Place) → (writeNumber p ≡ 103 → ⊥) → isSomewhere p ≡ true
-somewhere Nowhere h = absurd (h refl)
-somewhere (Line at) h = refl
-somewhere (Doubled at) h = refl
-somewhere (Malformed at) h = refl
-
-nowhere : (p : Place) → writeNumber p ≡ 103 → isSomewhere p ≡ false
-nowhere Nowhere h = refl
-nowhere (Line at) h = absurd (omega (arith, h))
-nowhere (Doubled at) h = absurd (omega (arith, h))
-nowhere (Malformed at) h = absurd (omega (arith, h))
-
--- the number is that of the place of the name
-number : (c : tie.After-write-number)
-    → let a = c .before .before .before .before .before .before .before .args in
-    c .write-number .result ≡ writeNumber (placeOf (a .name .now) (a .file .now))
-number c = c .write-number .ensures ∙ ap writeNumber (c .before .before .before .write-back .ensures .0)
-
 returns : tie.Need-returns
 returns c =
-    let n = c .before in
-    let w = n .before .before .before in
-    let a = w .before .before .before .before .args in
-    let p = placeOf (a .name .now) (a .file .now) in
-    record {
-      number = number n;
-      written = w .write-back .ensures .1;
-      offsets = rw (nowhere p (sym (number n) ∙ c .if1 .taken));
-    }
+    let bad = sym (c .before .is-encoded-record .ensures) ∙ not-true _ (c .if1 .taken) in
+    record { number = rw bad; written = rw bad; offsets = rw bad }
+
+-- the record is valid
+valid : (c : tie.Else1) → isEncodedRecord (c .before .before .before .before .before .args .bytes .now) ≡ true
+valid c = sym (c .before .is-encoded-record .ensures) ∙ not-false _ (c .if1 .left)
 
 returns-2 : tie.Need-returns-2
 returns-2 c =
-    let k = c .before in
-    let n = k .before in
-    let w = n .before .before .before in
-    let a = w .before .before .before .before .args in
-    let p = placeOf (a .name .now) (a .file .now) in
+    let d = c .before .before in
+    let good = valid (d .before) in
+    let none = sym (ap (λ (l : Lookup). l .found) (d .decode-record .ensures)) ∙ not-true _ (c .if2 .taken) in
+    record { number = rw (good, none); written = rw (good, none); offsets = rw (good, none) }
+
+returns-3 : tie.Need-returns-3
+returns-3 c =
+    let w = c .before .before in
+    let p = w .before .before .before .before in
+    let d = p .before .before in
+    let good = valid (d .before) in
+    let e = d .decode-record .ensures in
+    let some = sym (ap (λ (l : Lookup). l .found) e) ∙ not-false _ (p .if2 .left) in
+    let a = d .before .before .before .before .before .before .args in
+    let call = w .write-back .ensures in
     record {
-      number = number n;
-      written = w .write-back .ensures .1;
-      offsets = rw (somewhere p (λ e. k .if1 .left (number n ∙ e))) (c .offset-of .ensures ∙ ap placeOffset (w .write-back .ensures .0));
+      number = rw (good, some) (call .number);
+      written = rw (good, some) (call .written ∙ ap (λ (l : Lookup). writtenIn (a .name .now) (l .account) (a .present) (a .file .now)) e);
+      offsets = rw (good, some) (call .offsets);
     }
 
 pub write-account-spec : {M : Type 1} → statement M
 write-account-spec =
     tie.close
-    (tie.spec (λ c κs. search needs) (λ c κs. search needs) (λ c. search needs) returns (λ c κs. search needs) (λ c. search needs) returns-2)
+    (tie.spec (λ c κs. search needs) returns (λ c κs. search needs) returns-2 (λ c κs. search needs) (λ c. search needs) returns-3)

@@ -1,4 +1,4 @@
--- `account_files::mschap_find_account` meets its contract.
+-- `account_files::find_account` meets its contract.
 -- Assumes nothing.
 use mathlib.Core.Path.{refl, ap, _∙_}
 use borrow.Author.Needs.{needs}
@@ -7,8 +7,8 @@ use Rattle.layouts.specs.Records.{encodeRecord}
 use Rattle.layouts.proofs.Filling.{fills-as, refused-argument}
 use Rattle.smbpasswd.specs.File.{placeRefusal, placeOffset, findIn}
 use Rattle.smbpasswd.specs.declared.Found.{Found}
-use Rattle.account_files.proofs.mschap_find_account.Statement.{statement}
-use Rattle.account_files.proofs.mschap_find_account.Tie as tie
+use Rattle.account_files.proofs.find_account.Statement.{statement}
+use Rattle.account_files.proofs.find_account.Tie as tie
 
 returns : tie.Need-returns
 returns c = record { answer = refused-argument (ne-eqb _ _ (c .if1 .taken)); offsets = rw (ne-eqb _ _ (c .if1 .taken)) }
@@ -29,7 +29,7 @@ returns-2 c =
       offsets = rw (eq-eqb _ _ (passed .if1 .left)) (offset .offset-of .ensures ∙ ap placeOffset place);
     }
 
-pub mschap-find-account-spec : {M : Type 1} → statement M
-mschap-find-account-spec =
+pub find-account-spec : {M : Type 1} → statement M
+find-account-spec =
     tie.close
     (tie.spec returns (λ c κs. search needs) (λ c κs. search needs) (λ c κs. search needs) (λ c κs. search needs) (λ c. search needs) returns-2)

@@ -1,10 +1,10 @@
--- `account_files::mschap_count_accounts` meets its contract.
+-- `account_files::count_accounts` meets its contract.
 -- Assumes nothing.
 use mathlib.Core.Path.{refl, ap}
 use borrow.Author.Needs.{needs}
 use Rattle.smbpasswd.specs.declared.Counts.{Counts}
-use Rattle.account_files.proofs.mschap_count_accounts.Statement.{statement}
-use Rattle.account_files.proofs.mschap_count_accounts.Tie as tie
+use Rattle.account_files.proofs.count_accounts.Statement.{statement}
+use Rattle.account_files.proofs.count_accounts.Tie as tie
 
 returns : tie.Need-returns
 returns c =
@@ -18,5 +18,5 @@ returns c =
       withoutNt = ap (λ (k : Counts). k .«no_nt») e;
     }
 
-pub mschap-count-accounts-spec : {M : Type 1} → statement M
-mschap-count-accounts-spec = tie.close (tie.spec (λ c κs. search needs) returns)
+pub count-accounts-spec : {M : Type 1} → statement M
+count-accounts-spec = tie.close (tie.spec (λ c κs. search needs) returns)
