@@ -2,8 +2,9 @@
  * Bad lengths at the C interface, and null pointers with length 0: each function of mschap.h is
  * called with the right sizes, and then with each of its buffers passed as NULL and 0, with one
  * byte less and with one more. What it returns is in the table. Where that is not MSCHAP_OK, every
- * buffer must be unchanged, and so must be the numbers whose pointers have no size. Each buffer has
- * its own memory of exactly its size, so that valgrind sees any byte that is touched beyond it.
+ * buffer must be unchanged, and so must be the numbers whose pointers have no size, but for the
+ * offset of a line for which an account file is refused. Each buffer has its own memory of exactly
+ * its size, so that valgrind sees any byte that is touched beyond it.
  */
 #include <mschap.h>
 #include <stdio.h>
@@ -22,12 +23,12 @@ struct argument {
 #define BEFORE 0x5a5a
 static uint32_t flags, call;
 static uint64_t reason;
-static size_t length;
+static size_t length, offset;
 
 static void before(void)
 {
     flags = call = BEFORE;
-    reason = length = BEFORE;
+    reason = length = offset = BEFORE;
 }
 
 /* Refused: the number is as it was. Else it is the right one. */
@@ -75,6 +76,48 @@ static size_t read_record(struct argument *r)
     before();
     uint32_t number = mschap_read_record(BUFFER(0), &flags, BUFFER(1), BUFFER(2));
     return checked(number, flags, BOTH);
+}
+#define ACCOUNT \
+    "b:1:XXXXXXXXXXXXXXXXXXXXXXXXXXXXXXXX:FC156AF7EDCD6C0EDDE3337D427F4EAC:[U          ]:" \
+    "LCT-00000001:"
+/* The line of the account is the first. What is malformed, if anything, is the last of them. */
+static size_t placed(uint32_t number, size_t last)
+{
+    if (number == MSCHAP_BAD_LINE || number == MSCHAP_DOUBLED_NAME)
+        return offset == (number == MSCHAP_BAD_LINE ? last : 0) ? number : WRONG;
+    return checked(number, offset, 0);
+}
+static size_t find_account(struct argument *r)
+{
+    before();
+    return placed(mschap_find_account(BUFFER(0), BUFFER(1), 5, 5, BUFFER(2), &offset), 0);
+}
+static size_t find_account_two(struct argument *r)
+{
+    before();
+    return placed(mschap_find_account(BUFFER(0), BUFFER(1), 5, 5, BUFFER(2), &offset),
+                  sizeof ACCOUNT);
+}
+static size_t write_account(struct argument *r)
+{
+    before();
+    return placed(mschap_write_account(BUFFER(0), BUFFER(1), BUFFER(2), 5, &offset), 0);
+}
+static size_t write_account_two(struct argument *r)
+{
+    before();
+    return placed(mschap_write_account(BUFFER(0), BUFFER(1), BUFFER(2), 5, &offset),
+                  sizeof ACCOUNT);
+}
+/* Returns the five counts as digits: of lines, of bad ones, and so on. */
+static size_t count_accounts(struct argument *r)
+{
+    uint64_t lines = 9, bad = 9, disabled = 9, expired = 9, no_nt = 9;
+    uint32_t number = mschap_count_accounts(BUFFER(0), 7, 5, &lines, &bad, &disabled, &expired,
+                                            &no_nt);
+    if (number != MSCHAP_OK)
+        return number;
+    return lines * 10000 + bad * 1000 + disabled * 100 + expired * 10 + no_nt;
 }
 static size_t make_list(struct argument *r) { return mschap_make_list(BUFFER(0)); }
 static size_t list_used(struct argument *r) { return mschap_list_used(BUFFER(0)); }
@@ -152,6 +195,8 @@ static const uint8_t password[517] = {'W', 1, 0, 4, 'a', 0, 0xe4, 0};
 static const uint8_t unpaired[517] = {'W', 1, 0, 2, 0, 0xd8};
 static const uint8_t record[42] = {'R', 1, 1, 1, [20] = 1};
 static const uint8_t nobody[42] = {'R', 1};
+static const uint8_t one_line[98] = ACCOUNT, two_lines[196] = ACCOUNT "\n" ACCOUNT;
+static const uint8_t name[2] = {'b', 'x'};
 static const uint8_t none_used[29] = {'L', 1, 0, 0};
 static const uint8_t one_used[37] = {'L', 1, 0, 1}; /* by the challenge of bytes 0 */
 static const uint8_t opened[59] = {'C', 2, 2, 1, 7, 2}; /* it awaits a Response, identifier 7 */
@@ -204,6 +249,18 @@ static const struct function {
      {{zeros, 16, FIXED}, {zeros, 16, FIXED}, {NULL, 41, FIXED}}},
     {"read_record", read_record, 0, BAD,
      {{record, 41, FIXED}, {NULL, 16, FIXED}, {NULL, 16, FIXED}}},
+    /* a byte less is the colon behind the sixth field of the last line */
+    {"find_account", find_account, 0, BAD,
+     {{one_line, 97, 0, 14, 0}, {name, 1, 0, 0, 0}, {NULL, 41, FIXED}}},
+    {"find_account, doubled", find_account_two, 15, BAD,
+     {{two_lines, 195, 0, 14, 15}, {name, 1, 0, 0, 0}, {NULL, 41, FIXED}}},
+    {"write_account", write_account, 0, BAD,
+     {{one_line, 97, 103, 14, 0}, {name, 1, 103, 103, 103}, {record, 41, FIXED}}},
+    {"write_account, doubled", write_account_two, 15, BAD,
+     {{two_lines, 195, 103, 14, 15}, {name, 1, 103, 103, 103}, {record, 41, FIXED}}},
+    {"write_account, nobody", write_account, 102, BAD,
+     {{one_line, 97, 102, 102, 102}, {name, 1, 102, 102, 102}, {nobody, 41, FIXED}}},
+    {"count_accounts", count_accounts, 20020, 0, {{two_lines, 195, 0, 21010, 20020}}},
     {"make_list", make_list, 0, 24, {{NULL, 28, 24, 24, 24}}},
     {"list_used", list_used, 1, NOT, {{one_used, 36, TOLD}}},
     /* no place used, and three to be used */

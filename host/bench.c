@@ -2,8 +2,14 @@
  * How long the library takes, next to OpenSSL's libcrypto where its headers are installed
  * (HAVE_OPENSSL): medians of interleaved batches. Exit status 1 where the two do not give the same
  * bytes, or a call is not answered as it should be. tests/bench.sh compiles and runs it.
+ *
+ *     bench FILE [WHAT COMMAND EMPTY] ..
+ *
+ * FILE is where an account file is written, which COMMAND counts as the library does, and prints
+ * the five numbers in a line. EMPTY is the command of a program that does nothing: its time is
+ * taken off.
  */
-#define _XOPEN_SOURCE 700 /* clock_gettime, which C11 alone hides */
+#define _XOPEN_SOURCE 700 /* clock_gettime and popen, which C11 alone hides */
 
 #include <mschap.h>
 #include <stdio.h>
@@ -31,6 +37,13 @@
 #define NEARLY (MSCHAP_LIST_PLACES - SPENT) /* used places that leave room for one opening */
 #define FEW 8
 #define MESSAGE 256 /* bytes, the longest that is read */
+#define ACCOUNTS 10000 /* in the account file */
+#define LINE_MOST 128 /* bytes of a line, at least */
+#define PRESENT 1794795342u /* the time that the accounts are looked up at */
+#define MAX_AGE (90 * 24 * 3600)
+#define RUNS 9 /* of what is compared over the account file */
+#define RUN_NS 2e7
+#define COMMANDS 4 /* at most */
 
 /* Where the layouts have what follows from call to call: to set it there takes no time that a
    caller would not take. */
@@ -540,13 +553,174 @@ static void fill(struct opening *o, const struct work *w, size_t places, size_t 
     o->answer = answer;
 }
 
-int main(void)
+/* ---- the account file */
+
+static uint8_t file[ACCOUNTS * LINE_MOST];
+static size_t file_size, last_line;
+static char last_name[16];
+/* lines, bad ones, disabled, expired, with no NT hash: as the file was made */
+static uint64_t made[5];
+
+static uint32_t draw_below(uint32_t limit)
+{
+    static uint32_t drawn = 5;
+    drawn = drawn * 1664525 + 1013904223;
+    return (uint32_t)((uint64_t)drawn * limit >> 32);
+}
+
+/* Lines as Samba writes them: names of 3 to 12 letters, no two the same, and no LM hash. One in 50
+   has no NT hash either, one in 20 is disabled, one in 10 never expires, and half of the passwords
+   are too old. */
+static void make_file(void)
+{
+    for (uint32_t i = 0; i < ACCOUNTS; i++) {
+        char name[16], nt[33] = "XXXXXXXXXXXXXXXXXXXXXXXXXXXXXXXX", flags[12] = "U          ";
+        uint32_t size = draw_below(10), age = draw_below(2 * MAX_AGE);
+        int has_nt = draw_below(50) > 0, disabled = draw_below(20) == 0;
+        int never = draw_below(10) == 0;
+        for (uint32_t k = 0; k < size; k++)
+            name[k] = (char)('a' + draw_below(26));
+        sprintf(name + size, "%c%c%c", (char)('a' + i / 676), (char)('a' + i / 26 % 26),
+                (char)('a' + i % 26));
+        for (int k = 0; k < 32 && has_nt; k++)
+            nt[k] = "0123456789ABCDEF"[draw_below(16)];
+        if (disabled)
+            memcpy(flags, "DU", 2);
+        if (never)
+            flags[2] = 'X';
+        strcpy(last_name, name);
+        last_line = file_size;
+        file_size += (size_t)sprintf((char *)file + file_size,
+                                     "%s:%u:XXXXXXXXXXXXXXXXXXXXXXXXXXXXXXXX:%s:[%s]:LCT-%08X:\n",
+                                     name, 1000 + i, nt, flags, PRESENT - age);
+        made[0]++;
+        made[2] += disabled;
+        made[3] += !never && age > MAX_AGE;
+        made[4] += !has_nt;
+    }
+}
+
+/* The time follows from the call before, and changes no answer. */
+static void look_up(const char *name, size_t at, uint32_t found, struct work *w, long calls)
+{
+    mschap_record record;
+    mschap_nthash nt;
+    mschap_lmhash lm;
+    size_t offset = 0;
+    uint32_t flags = 0;
+    while (calls-- > 0) {
+        w->wrong |= mschap_find_account(file, file_size, (const uint8_t *)name, strlen(name),
+                                        PRESENT + (offset == 1), MAX_AGE,
+                                        &record, sizeof record, &offset);
+        w->wrong |= mschap_read_record(&record, sizeof record, &flags, &nt, sizeof nt,
+                                       &lm, sizeof lm);
+        w->wrong |= offset != at || (flags & MSCHAP_FOUND) != found;
+    }
+}
+
+static void find_last(struct work *w, long calls)
+{
+    look_up(last_name, last_line, MSCHAP_FOUND, w, calls);
+}
+
+static void find_none(struct work *w, long calls)
+{
+    look_up("nobody77", 0, 0, w, calls);
+}
+
+static void count_all(struct work *w, long calls)
+{
+    uint64_t lines = 0, bad, disabled, expired, no_nt;
+    while (calls-- > 0) {
+        w->wrong |= mschap_count_accounts(file, file_size, PRESENT + (lines == 1), MAX_AGE,
+                                          &lines, &bad, &disabled, &expired, &no_nt);
+        w->wrong |= lines != made[0] || bad != made[1] || disabled != made[2]
+                    || expired != made[3] || no_nt != made[4];
+    }
+}
+
+static const struct { const char *what; batch *run; } passes[] = {
+    {"find_account, the last name", find_last},
+    {"find_account, no such name", find_none},
+    {"count_accounts", count_all},
+};
+
+#define PASSES (sizeof passes / sizeof passes[0])
+
+/* The time of a command, from its start to its end, and whether it prints the counts. */
+static double command_ns(const char *command, int counts, uint32_t *wrong)
+{
+    char printed[128] = "", expected[128] = "";
+    double start = now_ns(), ns;
+    FILE *from = popen(command, "r");
+    if (from == NULL) {
+        *wrong = 1;
+        return 0;
+    }
+    printed[fread(printed, 1, sizeof printed - 1, from)] = '\0';
+    *wrong |= pclose(from) != 0;
+    ns = now_ns() - start;
+    if (counts)
+        sprintf(expected, "%u %u %u %u %u\n", (unsigned)made[0], (unsigned)made[1],
+                (unsigned)made[2], (unsigned)made[3], (unsigned)made[4]);
+    *wrong |= strcmp(printed, expected) != 0;
+    return ns;
+}
+
+static double an_octet(double *ns)
+{
+    qsort(ns, RUNS, sizeof *ns, ascending);
+    return ns[RUNS / 2] / (double)file_size;
+}
+
+/* Runs of ours and of the commands, in turn. Returns 0 where all is as it should be. */
+static uint32_t over_the_file(const char *path, char **commands, int count)
+{
+    static double ours[PASSES][RUNS], theirs[COMMANDS][RUNS];
+    static struct work w;
+    long calls[PASSES];
+    double ns = 0;
+    FILE *to = fopen(path, "w");
+    if (to == NULL || fwrite(file, 1, file_size, to) != file_size || fclose(to) != 0)
+        return 1;
+    for (size_t p = 0; p < PASSES; p++)
+        calls[p] = 1 + (long)(RUN_NS / timed(passes[p].run, &w, 1));
+    for (int run = 0; run < RUNS; run++) {
+        for (size_t p = 0; p < PASSES; p++)
+            ours[p][run] = timed(passes[p].run, &w, calls[p]) / (double)calls[p];
+        for (int c = 0; c < count; c++)
+            theirs[c][run] = command_ns(commands[3 * c + 1], 1, &w.wrong)
+                             - command_ns(commands[3 * c + 2], 0, &w.wrong);
+    }
+    printf("\naccount file of %d accounts, %lu octets: medians of %d runs in turn\n\n",
+           ACCOUNTS, (unsigned long)file_size, RUNS);
+    printf("%-30s%14s%10s\n", "", "ns an octet", "ratio");
+    for (size_t p = 0; p < PASSES; p++) {
+        ns = an_octet(ours[p]); /* at last that of the count */
+        printf("%-30s%14.2f%10s\n", passes[p].what, ns, "-");
+    }
+    for (int c = 0; c < count; c++) {
+        double their_ns = an_octet(theirs[c]);
+        printf("%-30s%14.2f%10.3f\n", commands[3 * c], their_ns, ns / their_ns);
+    }
+    if (count > 0)
+        printf("\nthe others: the whole program that counts the same, less one that does nothing;"
+               " ratio of\ncount_accounts to it\n");
+    return w.wrong;
+}
+
+int main(int argc, char **argv)
 {
     static struct work ours, theirs;
     struct work *works[2] = {&ours, &theirs};
     double ns[LINES][2];
     uint32_t x = 1320;
 
+    if (argc < 2 || argc > 2 + 3 * COMMANDS || (argc - 2) % 3 != 0) {
+        printf("usage: bench FILE [WHAT COMMAND EMPTY] ..\n");
+        return 1;
+    }
+    make_file();
     begin(&ours);
     if (prepare(&ours)) {
         printf("the packets to be judged could not be made\n");
@@ -628,5 +802,10 @@ int main(void)
     /* Unused places are not looked at, so their number must not matter. */
     printf("opening, none of 4,096 used / none of 8 used: %.2f\n",
            ns[OPEN_EMPTY][OURS] / ns[OPEN_FEW][OURS]);
+
+    if (over_the_file(argv[1], argv + 2, (argc - 2) / 3)) {
+        printf("an answer over the account file is not the expected one\n");
+        return 1;
+    }
     return 0;
 }

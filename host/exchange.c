@@ -3,13 +3,13 @@
  * calls.h from the header's declarations and compiles this file once for each pair that a compiler
  * lets pass: FUNCTION is the function's number, PAIR that of the pair. Here are the arguments, all
  * valid but for the exchange, in memory that may be written. Exit status 1 if the call is not
- * refused or a byte is changed, 3 if there was nothing to exchange.
+ * refused or a byte is changed (other than the header says), 3 if there was nothing to exchange.
  */
 #include <mschap.h>
 #include <stdio.h>
 #include <string.h>
 
-#define GROUPS 6
+#define GROUPS 8
 #define LARGE 4096 /* bytes of memory for each buffer, so that the size of any other one fits */
 #define FILL 0xa5
 
@@ -17,6 +17,7 @@
 static union { uint8_t bytes[LARGE]; uint64_t aligned; } memory[GROUPS];
 static size_t size[GROUPS];
 static uint32_t number[GROUPS];
+static int offset_at; /* which argument is the offset of a bad line; 0 if none is */
 
 #include "calls.h"
 
@@ -125,6 +126,9 @@ static int give_all(int turn)
     static const uint32_t terms[] = {MSCHAP_TERMS, MSCHAP_TERMS | MSCHAP_RETRIES(7),
                                      MSCHAP_TERMS | MSCHAP_RETRIES(0) | MSCHAP_LM_REFUSED};
     const size_t hash = MSCHAP_HASH_SIZE;
+    static const uint8_t file[] =
+        "#\nUser:1001:XXXXXXXXXXXXXXXXXXXXXXXXXXXXXXXX:FC156AF7EDCD6C0EDDE3337D427F4EAC:"
+        "[U          ]:LCT-6AFA674D:\n";
     memset(memory, FILL, sizeof memory);
     if (named("mschap_make_password") || named("mschap_make_password_utf16")) {
         put(0, "password", 8);
@@ -147,6 +151,23 @@ static int give_all(int turn)
         give_record(0);
         give_out(2, hash, turn);
         give_out(3, hash, turn);
+    } else if (named("mschap_find_account")) {
+        put(0, file, sizeof file - 1);
+        put(1, "User", 4);
+        number[2] = 1794795342;
+        number[3] = 7776000;
+        give_out(4, MSCHAP_RECORD_SIZE, turn);
+        offset_at = 5;
+    } else if (named("mschap_write_account")) {
+        put(0, file, sizeof file - 1);
+        put(1, "User", 4);
+        give_record(2);
+        number[3] = 1794795342;
+        offset_at = 4;
+    } else if (named("mschap_count_accounts")) {
+        put(0, file, sizeof file - 1);
+        number[1] = 1794795342;
+        number[2] = 7776000;
     } else if (named("mschap_open")) {
         number[0] = identifiers[turn % 3];
         number[1] = terms[turn % 3];
@@ -225,6 +246,8 @@ int main(void)
             printf("exchange: %s, %s: accepted\n", NAME, WHAT);
             return 1;
         }
+        if (offset_at && (answer == MSCHAP_BAD_LINE || answer == MSCHAP_DOUBLED_NAME))
+            memcpy(&memory[offset_at], before + offset_at * sizeof *memory, sizeof(size_t));
         if (memcmp(before, memory, sizeof memory) != 0) {
             printf("exchange: %s, %s: refused with %u, and memory is changed\n", NAME, WHAT,
                    (unsigned)answer);

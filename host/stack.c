@@ -323,6 +323,176 @@ static void try_records(void)
     }
 }
 
+/* ---- account files: the arguments are file, name and record */
+
+static uint32_t now, max_age;
+static uint64_t counts[5];
+
+CALL(mschap_find_account, BUFFER(0), BUFFER(1), now, max_age, BUFFER(2), &length)
+CALL(mschap_write_account, BUFFER(0), BUFFER(1), BUFFER(2), now, &length)
+CALL(mschap_count_accounts, BUFFER(0), now, max_age, &counts[0], &counts[1], &counts[2],
+     &counts[3], &counts[4])
+
+#define NAMED 0 /* the fields of a line that are not always the same */
+#define LM_HASH 2
+#define NT_HASH 3
+#define LINE_FLAGS 4
+#define CHANGED 5
+
+static const char *fields[] = {"", "4294967295", "XXXXXXXXXXXXXXXXXXXXXXXXXXXXXXXX",
+                               "FC156AF7EDCD6C0EDDE3337D427F4EAC", "[U          ]",
+                               "LCT-6AFA674D"};
+
+static void add_text(const char *text, size_t size)
+{
+    memcpy(given[0].octets + given[0].size, text, size);
+    given[0].size += size;
+}
+
+/* A line with a name of n bytes, and the fields as they are. */
+static void add_line(char letter, size_t n)
+{
+    memset(given[0].octets + given[0].size, letter, n);
+    given[0].size += n;
+    for (size_t f = 0; f < LENGTH(fields); f++) {
+        if (f != NAMED)
+            add_text(fields[f], strlen(fields[f]));
+        add_text(":", 1);
+    }
+    add_text("\n", 1);
+}
+
+/* The record to be written: with both hashes, one of them or none, or of nobody. */
+static void give_account(int found, int has_nt, int has_lm)
+{
+    uint8_t *record = give(2, MSCHAP_RECORD_SIZE);
+    record[0] = 'R';
+    record[1] = MSCHAP_RECORD_LAYOUT;
+    record[FOUND] = (uint8_t)found;
+    record[NT] = (uint8_t)has_nt;
+    record[LM] = (uint8_t)has_lm;
+    memset(record + FLAGS, 1, 4);
+}
+
+static void try_file(size_t found, size_t written)
+{
+    give_account(1, draw() % 2, draw() % 2);
+    TRY(mschap_find_account, found);
+    TRY(mschap_write_account, written);
+    TRY(mschap_count_accounts, MSCHAP_OK);
+}
+
+/* A name on one line of three, on none and on two. */
+static void try_account(size_t n)
+{
+    const size_t bad = n == 0 || n > MSCHAP_NAME_MAX ? MSCHAP_BAD_LINE : 0;
+    give(0, 0);
+    add_line('a', n);
+    add_line('b', 3);
+    add_line('c', 256);
+    memset(give(1, n), 'a', n);
+    try_file(bad, bad);
+    if (n > 0)
+        given[1].octets[n - 1] = 'b'; /* the same but for its end */
+    try_file(bad, bad ? bad : MSCHAP_NO_ACCOUNT);
+    if (n > 0)
+        given[1].octets[n - 1] = 'a';
+    add_line('a', n);
+    try_file(bad ? bad : MSCHAP_DOUBLED_NAME, bad ? bad : MSCHAP_DOUBLED_NAME);
+    add_text("junk", 4);
+    try_file(MSCHAP_BAD_LINE, MSCHAP_BAD_LINE);
+}
+
+/* Each byte of a line in turn is another one, or the line ends there. */
+static void try_damaged(size_t n)
+{
+    static const uint8_t others[] = {':', '\n', '#', 'X', 'x', 'N', '*', ' ', 0, 255};
+    size_t size;
+    give(0, 0);
+    add_line('a', n);
+    add_line('b', n);
+    size = given[0].size;
+    memset(give(1, n), 'b', n);
+    for (size_t i = 0; i < size; i++) {
+        uint8_t kept = given[0].octets[i];
+        for (size_t k = 0; k < LENGTH(others); k++) {
+            given[0].octets[i] = others[k];
+            try_file(ANY, ANY);
+        }
+        given[0].octets[i] = kept;
+        given[0].size = i;
+        try_file(ANY, ANY);
+        given[0].size = size;
+    }
+}
+
+/* As many copies of a text as there is room for. */
+static void try_copies(const char *text)
+{
+    give(0, 0);
+    while (given[0].size + strlen(text) <= LARGEST)
+        add_text(text, strlen(text));
+    try_file(ANY, ANY);
+}
+
+static void try_accounts(void)
+{
+    static const char *const hashes[] = {
+        "XXXXXXXXXXXXXXXXXXXXXXXXXXXXXXXX", "NO PASSWORDXXXXXXXXXXXXXXXXXXXXX",
+        "0123456789ABCDEFabcdef0123456789", "FFFFFFFFFFFFFFFFFFFFFFFFFFFFFFFF",
+        "********************************",
+    };
+    static const char *const marks[] = {"[U          ]", "[DX         ]", "[          D]"};
+    static const char *const changes[] = {"LCT-00000000", "LCT-00000001", "LCT-ffffffff"};
+    static const char *const copies[] = {
+        "\n", "#\n", ":", "a", "::::::\n", "#", "X", "a:1:XXXXXXXXXXXXXXXXXXXXXXXXXXXXXXXX:",
+        "a:1:XXXXXXXXXXXXXXXXXXXXXXXXXXXXXXXX:FC156AF7EDCD6C0EDDE3337D427F4EAC:[DX         ]:"
+        "LCT-00000001:\n",
+    };
+    now = 1794795342;
+    max_age = 7776000;
+    for (size_t n = 0; n <= MSCHAP_NAME_MAX + 1; n++)
+        try_account(n);
+    for (size_t lm = 0; lm < LENGTH(hashes); lm++)
+        for (size_t nt = 0; nt < LENGTH(hashes); nt++)
+            for (size_t m = 0; m < LENGTH(marks); m++) {
+                size_t bad = hashes[lm][0] == '*' || hashes[nt][0] == '*' ? MSCHAP_BAD_LINE : 0;
+                fields[LM_HASH] = hashes[lm];
+                fields[NT_HASH] = hashes[nt];
+                fields[LINE_FLAGS] = marks[m];
+                fields[CHANGED] = changes[(lm + nt) % LENGTH(changes)];
+                give(0, 0);
+                add_line('a', 12);
+                memset(give(1, 12), 'a', 12);
+                try_file(bad, bad);
+                for (int kind = 0; kind < 8; kind++) {
+                    int found = kind & 1;
+                    give_account(found, kind >> 1 & 1, kind >> 2);
+                    TRY(mschap_write_account, found ? bad : MSCHAP_NO_RECORD);
+                }
+                given[2].octets[NT] = 2; /* no value */
+                TRY(mschap_write_account, MSCHAP_BAD_ARGUMENT);
+                given[2].size--;
+                TRY(mschap_find_account, MSCHAP_BAD_ARGUMENT);
+            }
+    fields[LM_HASH] = hashes[0];
+    fields[NT_HASH] = hashes[2];
+    try_damaged(1);
+    try_damaged(12);
+    for (size_t c = 0; c < LENGTH(copies); c++)
+        for (size_t n = 0; n <= 1; n++) {
+            memset(give(1, n), 'a', n);
+            try_copies(copies[c]);
+        }
+    for (int k = 0; k < DRAWN; k++) {
+        give(1, draw());
+        give(0, draw() * 128u);
+        for (size_t i = 0; i < given[0].size && k % 2; i++)
+            given[0].octets[i] = (uint8_t)":\n#XDLCT-09afAF[] "[draw() % 19];
+        try_file(ANY, ANY);
+    }
+}
+
 /* ---- openings */
 
 CALL(mschap_make_list, BUFFER(1))
@@ -827,6 +997,7 @@ static void *try_all(void *unused)
     try_ciphers();
     try_passwords();
     try_records();
+    try_accounts();
     try_openings();
     try_steps();
     try_peer();

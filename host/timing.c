@@ -3,6 +3,9 @@
  * and the last try, and for each fault of a change, and prints a line for each call: R of the
  * reply or its reason, and the way. The time is not to tell which way it was, so tests/timing.sh
  * counts the instructions of each call. Exit status 1 where a call does not draw its reply.
+ *
+ * With the argument mschap_find_account it calls that instead, with names that are in a file and
+ * names that are not: the time is not to tell where a name is, nor how much of a name is right.
  */
 #include <mschap.h>
 #include <stdio.h>
@@ -254,6 +257,47 @@ static void all_faults(void)
     not_accepted(MSCHAP_FAULT_RESPONSE_WRONG);
 }
 
+static const uint8_t file[] =
+    "anna0001:1001:XXXXXXXXXXXXXXXXXXXXXXXXXXXXXXXX:FC156AF7EDCD6C0EDDE3337D427F4EAC:"
+    "[U          ]:LCT-6AFA674D:\n"
+    "anna0002:1002:XXXXXXXXXXXXXXXXXXXXXXXXXXXXXXXX:FC156AF7EDCD6C0EDDE3337D427F4EAC:"
+    "[U          ]:LCT-6AFA674D:\n"
+    "# a comment\n"
+    "otto0003:1003:XXXXXXXXXXXXXXXXXXXXXXXXXXXXXXXX:FC156AF7EDCD6C0EDDE3337D427F4EAC:"
+    "[U          ]:LCT-6AFA674D:\n"
+    "zora0004:1004:XXXXXXXXXXXXXXXXXXXXXXXXXXXXXXXX:FC156AF7EDCD6C0EDDE3337D427F4EAC:"
+    "[U          ]:LCT-6AFA674D:\n";
+
+static void looked_up(const char *name, const char *group, const char *way)
+{
+    mschap_nthash nt;
+    mschap_lmhash lm;
+    size_t offset;
+    uint32_t flags = 0, number;
+    number = mschap_find_account(file, sizeof file - 1, (const uint8_t *)name, strlen(name),
+                                 1794795342, 7776000, &found, sizeof found, &offset);
+    number |= mschap_read_record(&found, sizeof found, &flags, &nt, sizeof nt, &lm, sizeof lm);
+    if (number != MSCHAP_OK || (flags & MSCHAP_FOUND) != (group[0] == 'f')) {
+        fprintf(stderr, "timing: a lookup, %s: another record than %s\n", way, group);
+        failed = 1;
+    }
+    printf("%s %s\n", group, way);
+}
+
+/* Names of one length: a shorter or longer one takes less, as it is compared with none. */
+static void all_lookups(void)
+{
+    looked_up("anna0001", "found", "on the first line");
+    looked_up("anna0002", "found", "on the second line");
+    looked_up("otto0003", "found", "behind a comment");
+    looked_up("zora0004", "found", "on the last line");
+    looked_up("xxxxxxxx", "none", "no letter right");
+    looked_up("anna0003", "none", "all but the last letter right");
+    looked_up("bnna0001", "none", "all but the first letter right");
+    looked_up("annaxxxx", "none", "the first half right");
+    looked_up("#a comme", "none", "as a comment");
+}
+
 /* The change from the password to an empty one, as our peer writes it. */
 static void write_right_change(const mschap_password *password)
 {
@@ -275,13 +319,17 @@ static void write_right_change(const mschap_password *password)
                                   right_change, sizeof right_change) != MSCHAP_OK;
 }
 
-int main(void)
+int main(int argc, char **argv)
 {
     static const uint8_t text[] = {'M', 'y', 'P', 'w'};
     static const uint8_t tries[] = {2, 1, 0}; /* retries left: the first try to the last */
     mschap_password password;
     size_t i;
 
+    if (argc == 2 && strcmp(argv[1], "mschap_find_account") == 0) {
+        all_lookups();
+        return failed;
+    }
     failed |= mschap_make_password(text, sizeof text, &password, sizeof password) != MSCHAP_OK;
     failed |= mschap_nt_hash(&password, sizeof password, &nt_hash, sizeof nt_hash) != MSCHAP_OK;
     failed |= mschap_lm_hash(text, sizeof text, &lm_hash, sizeof lm_hash) != MSCHAP_OK;

@@ -1,8 +1,9 @@
 #!/bin/sh
 # The examples in host/ and host/examples do what they say: the one in one program prints the same
 # each time; authenticator and peer talk through pipes, over some runs that share the files of a
-# folder; and the script in Python, where that is installed, plays both ends. Run in the repository,
-# once `make lib` has written target/mschap.
+# folder, and a change of a password changes its own bytes of the account file alone; and the script
+# in Python, where that is installed, plays both ends. Run in the repository, once `make lib` has
+# written target/mschap.
 set -eu
 folder=target/mschap
 scratch=$(mktemp -d)
@@ -74,20 +75,74 @@ converse() {
         "$scratch/peer.log" > "$scratch/said" || :
     diff "$scratch/expected" "$scratch/said" || fail 'the peer says otherwise'
 }
+
+# An account, and its password.
+add() {
+    $run "$scratch/authenticator" "$scratch/accounts" "$1" "$2" 2> "$scratch/add.log"
+}
+# A field of the account's line, as cut counts them.
+accounts=$scratch/accounts/smbpasswd
+field() {
+    LC_ALL=C sed -n '/^J.*rgen:/p' "$1" | cut -d : -f "$2"
+}
+# A copy of the file, and when it was made.
+keep() {
+    cp "$accounts" "$scratch/kept"
+    since=$(date +%s)
+}
+# Since then the account has another NT hash, the one of an account with that password, and its last
+# change was meanwhile; every other byte of the file is as it was.
+changed() {
+    for copy in kept accounts/smbpasswd; do
+        LC_ALL=C sed -E '/^J.*rgen:/s/(:[0-9X]*:)[0-9A-F]{32}(:[^:]*:LCT-)[0-9A-F]{8}:/\1\2:/' \
+            "$scratch/$copy" > "$scratch/${copy##*/}.rest"
+    done
+    cmp "$scratch/kept.rest" "$scratch/smbpasswd.rest" || fail 'other bytes of the file are changed'
+    if cmp -s "$scratch/kept" "$scratch/kept.rest"; then
+        fail 'no account in the file'
+    fi
+    rm -rf "$scratch/other"
+    mkdir "$scratch/other"
+    "$scratch/authenticator" "$scratch/other" 'Jürgen' "$1"
+    [ "$(field "$accounts" 4)" = "$(field "$scratch/other/smbpasswd" 4)" ] \
+        && [ "$(field "$accounts" 4)" != "$(field "$scratch/kept" 4)" ] \
+        || fail "the NT hash is not that of $1"
+    last=$(field "$accounts" 6)
+    [ $((0x${last#LCT-})) -ge "$since" ] && [ $((0x${last#LCT-})) -le "$(date +%s)" ] \
+        || fail "the last change is $last"
+}
 mkdir "$scratch/accounts"
-"$scratch/authenticator" "$scratch/accounts" 'Jürgen' 'Grün 1'
+# what another program wrote, with no end of the last line
+none=XXXXXXXXXXXXXXXXXXXXXXXXXXXXXXXX
+printf '# ours\nann:7:%s:%s:[D   X      ]:LCT-0000abcd:more: text\r\n' \
+    $none 0123456789abcdef0123456789abcdef > "$accounts"
+printf 'zoe:8:NO PASSWORD%s:%s:[NU         ]:LCT-00000000:' "${none%???????????}" $none \
+    >> "$accounts"
+keep
+add 'Jürgen' 'Grün 1'
+hash=$(field "$accounts" 4)
+printf '\nJürgen:1003:%s:%s:[U          ]:LCT-00000001:\n' $none "$hash" \
+    | cat "$scratch/kept" - | cmp - "$accounts" || fail 'the account is not added as it should be'
+keep
 converse 3 0 '691 648 0' in 'DOM\Jürgen' 'Blaugrün 🔑' 'grün 1' 'Grün 1'
 grep -q 'is changed' "$scratch/peer.log" || fail 'the password was not changed'
+changed 'Blaugrün 🔑'
+keep
 converse 6 0 0 in 'Jürgen' unused 'Blaugrün 🔑'
 converse 9 1 '691 691 691' 'not let in' 'DOM\Jürgen' unused 'Grün 1' 'Grün 1' 'Grün 1'
 converse 12 1 '691 691 691' 'not let in' 'nobody' unused 'Grün 1' 'Grün 1' 'Grün 1'
 # The phone that missed each reply, Success too; then one whose password has expired, first with the
 # old password mistyped in the change, which leaves the account as it was.
 converse 15 0 '691 0' in --lossy 'Jürgen' unused 'Grün 1' 'Blaugrün 🔑'
-"$scratch/authenticator" "$scratch/accounts" 'Jürgen' 'Grün 1'
+cmp "$scratch/kept" "$accounts" || fail 'the file is changed without a change of a password'
+add 'Jürgen' 'Grün 1'
+[ "$(field "$accounts" 4,6)" = "$hash:LCT-00000001" ] || fail 'the old password is not set again'
+keep
 converse 18 1 '648 709' 'not let in' --lossy --old 'grün 1' 'Jürgen' 'Blaugrün 🔑' 'Grün 1'
+cmp "$scratch/kept" "$accounts" || fail 'the file is changed by a change that is not accepted'
 converse 21 0 '691 648 0' in --lossy 'Jürgen' 'Blaugrün 🔑' 'grün 1' 'Grün 1'
 [ "$(grep -c '^no reply: sent again$' "$scratch/peer.log")" = 3 ] || fail 'no packet was sent again'
+changed 'Blaugrün 🔑'
 converse 24 0 0 in 'Jürgen' unused 'Blaugrün 🔑'
 
 # The list is stored before the Challenge is sent: where nothing can be sent, it has grown.
@@ -99,12 +154,11 @@ converse 30 0 0 in 'Jürgen' unused 'Blaugrün 🔑'
 
 [ ! -e "$scratch/accounts/new" ] || fail 'a temporary file is left'
 stored=$(find "$scratch/accounts" -type f | wc -l)
-[ "$stored" -eq 3 ] || fail "there are $stored files, and not list, lock and account"
+[ "$stored" -eq 3 ] || fail "there are $stored files, and not list, lock and accounts"
+[ "$(stat -c %a "$accounts")" = 600 ] || fail 'others can read the accounts'
 
-# A stored value of another version, and a list that is none.
-spoil() {
-    printf '\002' | dd of="$1" bs=1 seek=1 conv=notrunc 2> /dev/null
-}
+# A damaged account file serves nobody, even behind the account's own line, and names the place; nor
+# does a list that is of another version.
 refused() {
     "$scratch/authenticator" "$scratch/accounts" < "$scratch/to" > "$scratch/from" \
         2> "$scratch/authenticator.log" &
@@ -116,9 +170,27 @@ refused() {
     [ "$own_status" -eq 2 ] && grep -q "$1" "$scratch/authenticator.log" \
         || fail "exit status $own_status, and not a word of '$1'"
 }
-spoil "$scratch"/accounts/account-*
-refused 'no record'
-spoil "$scratch/accounts/issued"
+keep
+printf 'junk\n' >> "$accounts"
+refused "^smbpasswd: a malformed line at offset $(wc -c < "$scratch/kept")\$"
+for name in 'Jürgen' anew; do
+    status=0
+    add "$name" 'Grün 1' || status=$?
+    [ $status -eq 2 ] && grep -q 'a malformed line at' "$scratch/add.log" \
+        || fail "exit status $status where an account is added to a damaged file"
+done
+{ cat "$scratch/kept" && LC_ALL=C sed -n '/^J.*rgen:/p' "$scratch/kept"; } > "$accounts"
+first=$(LC_ALL=C grep -ab '^J.*rgen:' "$scratch/kept" | cut -d : -f 1)
+refused "^smbpasswd: the name is on two lines, first at offset $first\$"
+rm "$accounts"
+refused 'the account file cannot be read'
+cp "$scratch/kept" "$accounts"
+for name in '' '#Jürgen' 'Jür:gen'; do
+    status=0
+    add "$name" 'Grün 1' || status=$?
+    [ $status -eq 2 ] && cmp "$scratch/kept" "$accounts" || fail "the name '$name' is not refused"
+done
+printf '\002' | dd of="$scratch/accounts/issued" bs=1 seek=1 conv=notrunc 2> /dev/null
 refused 'the list is none'
 echo "examples: authenticator and peer talk, and go on after a restart (${run:-without valgrind})"
 

@@ -2,12 +2,13 @@
 # Two arguments of a call exchanged by mistake are found: for every function of the header and every
 # pair of its arguments (a buffer together with its size, a number, or a pointer to one), the call
 # with the two exchanged cannot be compiled or, if it can, is refused at run time and leaves all
-# memory as it was. So are calls in which the sizes of two buffers alone are exchanged, where the
-# memory of both is large enough for either, and the sizes are those that the header names (larger
-# ones may be right for both: no call can tell). Compiled as C99 with -pedantic-errors, where a
-# pointer to another type is an error; no argument is const, so that no qualifier helps. At the end
-# the same is tried with a header whose two hashes have one type, which must be found out. Run in
-# the repository, once `rt staticlib mschap` has written the archive.
+# memory as it was; but for those numbers of which the header says otherwise. So are calls in which
+# the sizes of two buffers alone are exchanged, where the memory of both is large enough for either,
+# and the sizes are those that the header names (larger ones may be right for both: no call can
+# tell). Compiled as C99 with -pedantic-errors, where a pointer to another type is an error; no
+# argument is const, so that no qualifier helps. At the end the same is tried with a header whose
+# two hashes have one type, which must be found out. Run in the repository, once `rt staticlib
+# mschap` has written the archive.
 set -eu
 archive=target/staticlib/libmschap.a
 work=target/exchange
@@ -113,10 +114,19 @@ compile() {
         "$archive" -o "$work/program" 2> "$work/errors"
 }
 
+# The numbers alike of which the header says that their exchange is not found: it is accepted.
+is_alike() {
+    case $1:$2 in
+        *:'now and max_age' | mschap_count_accounts:*) ;;
+        *) return 1 ;;
+    esac
+    ! "$work/program" > "$work/accepted" && grep -q ': accepted$' "$work/accepted"
+}
+
 # All pairs of the header in a folder. Says how many there are; exit status 1 if one is accepted.
 all() {
     generate "$1/mschap.h"
-    functions=0 pairs=0 types=0 refused=0 sizes=0 same=0
+    functions=0 pairs=0 types=0 refused=0 alike=0 sizes=0 same=0
     while read -r function pair name what; do
         if [ "$pair" -eq 0 ]; then
             functions=$((functions + 1))
@@ -146,6 +156,10 @@ all() {
         esac
         pairs=$((pairs + 1))
         if compile "$function" "$pair" "$1"; then
+            if is_alike "$name" "$what"; then
+                alike=$((alike + 1))
+                continue
+            fi
             "$work/program" || return 1
             refused=$((refused + 1))
         elif grep -Eq 'incompatible|makes (integer|pointer)' "$work/errors"; then
@@ -160,8 +174,13 @@ all() {
         echo "exchange: only $functions functions and $pairs pairs were found"
         return 1
     }
+    # the two times of two functions, and two of five counts
+    [ "$alike" -eq 12 ] && grep -q 'as they are numbers alike: now and max_age' "$1/mschap.h" || {
+        echo "exchange: $alike pairs are numbers alike, or the header does not say so"
+        return 1
+    }
     echo "exchange: $pairs pairs of $functions functions:" \
-        "$types cannot be compiled, $refused are refused"
+        "$types cannot be compiled, $refused are refused, $alike are numbers alike"
     echo "exchange: sizes alone: $sizes are refused, $same are the same size"
 }
 

@@ -19,13 +19,17 @@ quick=target/host-quick-start.c
 {
     cat <<'END'
 #include <mschap.h>
+#include <string.h>
 #include <sys/random.h>
-extern const uint8_t text[];
-extern const size_t text_size;
+#include <time.h>
+extern uint8_t *file;
+extern size_t file_size;
+extern uint32_t max_age;
 extern uint8_t packet[MSCHAP_CHANGE_PACKET];
 size_t receive(uint8_t *into);
 void send(const uint8_t *bytes, size_t bytes_size);
-void store(mschap_record record);
+void lock_and_read(uint8_t **bytes, size_t *bytes_size);
+void store_and_unlock(const uint8_t *bytes, size_t bytes_size);
 void note(const char *words);
 void decide(int in);
 void quick_start(void);

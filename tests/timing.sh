@@ -2,8 +2,10 @@
 # A Response that is not valid takes the same instructions in whatever way it is not: a wrong
 # response, no record, no hash, LM off. A change that is not accepted takes the same but for 8,
 # whatever its fault is: it comes from who knew the old password, and a branch of the compiler's is
-# let pass. host/timing.c makes one call for each way, and callgrind counts the instructions within
-# mschap_step. Calls with the same reply are compared.
+# let pass. A lookup in an account file takes the same wherever the name's line is, and for names of
+# one length that are on no line, however much of them is right. host/timing.c makes one call for
+# each way, and callgrind counts the instructions within mschap_step or mschap_find_account. Calls
+# with the same reply, or that find or do not find, are compared.
 # Run in the repository. Argument: the archive, if not the one that `rt staticlib mschap` writes.
 set -eu
 archive=${1:-target/staticlib/libmschap.a}
@@ -12,6 +14,7 @@ ${CC:-cc} -Wall -Wextra -Werror -std=c99 -pedantic -I host/include host/timing.c
     -o "$program"
 if ! command -v valgrind > /dev/null; then
     "$program" > /dev/null
+    "$program" mschap_find_account > /dev/null
     echo 'timing: skipped, as valgrind is not installed: no instructions were counted'
     exit 0
 fi
@@ -20,13 +23,15 @@ fi
 # since binding one at its first use would be counted.
 parts=$(mktemp -d)
 trap 'rm -rf "$parts"' EXIT
-LD_BIND_NOW=1 valgrind --quiet --tool=callgrind --callgrind-out-file="$parts/part" \
-    --toggle-collect=mschap_step --dump-after=mschap_step "$program" > "$parts/ways"
-call=0
-while read -r reply way; do
-    call=$((call + 1))
-    echo "$reply $(sed -n 's/^summary: //p' "$parts/part.$call") $way"
-done < "$parts/ways" > "$parts/counts"
+for function in mschap_step mschap_find_account; do
+    LD_BIND_NOW=1 valgrind --quiet --tool=callgrind --callgrind-out-file="$parts/$function" \
+        --toggle-collect=$function --dump-after=$function "$program" $function > "$parts/ways"
+    call=0
+    while read -r reply way; do
+        call=$((call + 1))
+        echo "$reply $(sed -n 's/^summary: //p' "$parts/$function.$call") $way"
+    done < "$parts/ways"
+done > "$parts/counts"
 
 awk '
     $2 !~ /^[1-9][0-9]*$/ { bad = 1 }
@@ -36,6 +41,7 @@ awk '
     { calls[$1]++; line[NR] = $0 }
     END {
         if (!("R=1" in calls) || !("R=0" in calls) || !("709" in calls)) bad = 1
+        if (!("found" in calls) || !("none" in calls)) bad = 1
         for (i = 1; i <= groups; i++)
             if (most[group[i]] - least[group[i]] > (group[i] == "709" ? 8 : 0)) bad = 1
         for (i = 1; bad && i <= NR; i++) print "timing: " line[i]

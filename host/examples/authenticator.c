@@ -1,26 +1,35 @@
 /*
  * An authenticator: it talks to one peer (peer.c) over standard input and output, and says on
- * standard error what happens. What has to outlast it is in files of a folder: the list of issued
- * challenges, and the record of each account.
+ * standard error what happens. What has to outlast it is in files of a folder: `issued`, the list
+ * of issued challenges, and `smbpasswd`, the accounts in the layout of Samba's smbpasswd(5).
  *
- *     authenticator FOLDER NAME PASSWORD    makes an account whose password must be changed
+ *     authenticator FOLDER NAME PASSWORD    gives an account a password that must be changed; makes
+ *                                           the account, if there is none of that name
  *     authenticator FOLDER                  lets a peer in, or not: exit status 0 or 1
  *
- * A real program does not take a password from the command line, where others can see it.
+ * Samba's own programs must not write the file meanwhile. A real program does not take a password
+ * from the command line, where others can see it.
  */
 #define _XOPEN_SOURCE 700 /* POSIX, with lockf */
 
 #include "pipe.h"
 #include <string.h>
+#include <sys/stat.h>
+#include <time.h>
 
 #define OPENINGS 100 /* that the list has room for, with the default of 2 retries */
 static uint8_t list[MSCHAP_LIST_SIZE(3 * OPENINGS)];
 
+#define ACCOUNTS "smbpasswd"
+#define MAX_AGE (90 * 24 * 3600) /* seconds: an older password must be changed */
+#define LONG_AGO 1               /* a time that is longer ago; one of 0 would never expire */
+#define FIRST_UID 1001
+
 /* A file's whole bytes. Returns 0 if there is no such file. */
-static int load(const char *file, void *bytes, size_t size)
+static int load(const char *path, void *bytes, size_t size)
 {
     uint8_t more;
-    int from = open(file, O_RDONLY);
+    int from = open(path, O_RDONLY);
     if (from < 0)
         return 0;
     if (!read_all(from, bytes, size) || read(from, &more, 1) != 0)
@@ -30,67 +39,145 @@ static int load(const char *file, void *bytes, size_t size)
 }
 
 /* Stores bytes so that a crash leaves the old file or the new one, and nothing between. */
-static void store(const char *file, const void *bytes, size_t size)
+static void store(const char *path, const void *bytes, size_t size)
 {
     static const char fresh[] = "new";
     int to = open(fresh, O_WRONLY | O_CREAT | O_TRUNC, 0600), folder = open(".", O_RDONLY);
     if (to < 0 || !write_all(to, bytes, size) || fsync(to) != 0 || close(to) != 0
-        || rename(fresh, file) != 0 || folder < 0 || fsync(folder) != 0)
+        || rename(fresh, path) != 0 || folder < 0 || fsync(folder) != 0)
         die("the folder cannot be written");
     close(folder);
 }
 
-/* The file of an account. Its name is whatever the peer sent, so it is spelled in digits and
-   letters that are safe in a file name; a longer name is that of nobody. */
-#define NAME_MOST 100
-static char file[2 * NAME_MOST + sizeof "account-"];
-
-static int name_file(const uint8_t *name, size_t size)
+/* All authenticators of the folder change its files one at a time: so there is a lock, on a file of
+   its own. To close it is to release it. */
+static int take_lock(void)
 {
-    static const char digits[] = "0123456789abcdef";
-    char *to;
-    if (size == 0 || size > NAME_MOST)
-        return 0;
-    to = file + sprintf(file, "account-");
-    for (; size > 0; size--, name++) {
-        *to++ = digits[*name >> 4];
-        *to++ = digits[*name & 15];
-    }
-    *to = '\0';
-    return 1;
+    int lock = open("lock", O_RDWR | O_CREAT, 0600);
+    if (lock < 0 || lockf(lock, F_LOCK, 0) != 0)
+        die("the folder cannot be locked");
+    return lock;
 }
 
-/* What the lookup of the name in a Response finds. */
+/* The bytes of the account file, as it was read last. */
+static uint8_t *file;
+static size_t file_size;
+
+/* Reads it, by flags of open. A lookup needs no lock: `store` leaves no half of a file. */
+static void read_accounts(int flags)
+{
+    struct stat status;
+    int from = open(ACCOUNTS, flags, 0600);
+    if (from < 0 || fstat(from, &status) != 0)
+        die("the account file cannot be read");
+    file_size = (size_t)status.st_size;
+    file = realloc(file, file_size > 0 ? file_size : 1);
+    if (file == NULL || !read_all(from, file, file_size))
+        die("the account file cannot be read");
+    close(from);
+}
+
+/* Serves nobody by a file that is damaged: the offset tells where it is to be mended. */
+static void die_of_file(uint32_t number, size_t offset)
+{
+    if (number == MSCHAP_BAD_LINE)
+        fprintf(stderr, ACCOUNTS ": a malformed line at offset %zu\n", offset);
+    else if (number == MSCHAP_DOUBLED_NAME)
+        fprintf(stderr, ACCOUNTS ": the name is on two lines, first at offset %zu\n", offset);
+    else
+        fprintf(stderr, ACCOUNTS ": the account is no longer there\n");
+    exit(2);
+}
+
+/* Whose Response it was: a change has no name. */
+static uint8_t name[MSCHAP_NAME_MAX];
+static size_t name_size;
+
+/* What the lookup of the name in a Response finds, without the domain before its backslash. */
 static void look_up(const uint8_t *packet, size_t size, mschap_record *record)
 {
-    size_t at = mschap_account_offset(packet, size), length = mschap_account_length(packet, size);
-    if (!name_file(packet + at, length) || !load(file, record, sizeof *record))
-        mschap_make_record(0, NULL, 0, NULL, 0, record, sizeof *record);
+    size_t offset;
+    uint32_t number;
+    name_size = mschap_account_length(packet, size);
+    memcpy(name, packet + mschap_account_offset(packet, size), name_size);
+    read_accounts(O_RDONLY);
+    number = mschap_find_account(file, file_size, name, name_size, (uint32_t)time(NULL), MAX_AGE,
+                                 record, sizeof *record, &offset);
+    if (number != MSCHAP_OK)
+        die_of_file(number, offset);
 }
 
-static void add_account(const char *name, const char *text)
+/* Writes a changed record into the file. It is read again, since another authenticator may have
+   written it after the lookup. */
+static void write_back(const mschap_record *record)
+{
+    size_t offset;
+    uint32_t number;
+    int lock = take_lock();
+    read_accounts(O_RDONLY);
+    number = mschap_write_account(file, file_size, name, name_size, record, sizeof *record,
+                                  (uint32_t)time(NULL), &offset);
+    if (number != MSCHAP_OK)
+        die_of_file(number, offset);
+    store(ACCOUNTS, file, file_size);
+    close(lock);
+}
+
+/* A line for an account behind the others, with no hash yet. The uid, which nothing here reads,
+   counts up. */
+static void append_line(const char *owner)
+{
+    static const char format[] = "%s%s:%lu:%s:%s:[U          ]:LCT-00000000:\n";
+    static const char none[] = "XXXXXXXXXXXXXXXXXXXXXXXXXXXXXXXX";
+    const char *end = file_size > 0 && file[file_size - 1] != '\n' ? "\n" : "";
+    uint64_t lines, bad, disabled, expired, no_nt;
+    unsigned long uid;
+    int size;
+    mschap_count_accounts(file, file_size, LONG_AGO, MAX_AGE,
+                          &lines, &bad, &disabled, &expired, &no_nt);
+    uid = FIRST_UID + (unsigned long)lines;
+    size = snprintf(NULL, 0, format, end, owner, uid, none, none);
+    if (size < 0 || (file = realloc(file, file_size + (size_t)size + sizeof "")) == NULL)
+        die("no memory");
+    sprintf((char *)file + file_size, format, end, owner, uid, none, none);
+    file_size += (size_t)size;
+}
+
+static void add_account(const char *owner, const char *text)
 {
     mschap_password password;
     mschap_nthash hash;
     mschap_record record;
+    size_t offset;
+    uint32_t number;
+    int lock = take_lock();
     make_password(text, &password);
-    if (!name_file((const uint8_t *)name, strlen(name))
-        || mschap_nt_hash(&password, sizeof password, &hash, sizeof hash) != MSCHAP_OK
-        || mschap_make_record(MSCHAP_FOUND | MSCHAP_HAS_NT_HASH | MSCHAP_EXPIRED,
-                              &hash, sizeof hash, NULL, 0, &record, sizeof record) != MSCHAP_OK)
+    if (mschap_nt_hash(&password, sizeof password, &hash, sizeof hash) != MSCHAP_OK
+        || mschap_make_record(MSCHAP_FOUND | MSCHAP_HAS_NT_HASH, &hash, sizeof hash, NULL, 0,
+                              &record, sizeof record) != MSCHAP_OK)
         die("no such account can be made");
-    store(file, &record, sizeof record);
+    read_accounts(O_RDONLY | O_CREAT);
+    number = mschap_write_account(file, file_size, (const uint8_t *)owner, strlen(owner),
+                                  &record, sizeof record, LONG_AGO, &offset);
+    if (number == MSCHAP_NO_ACCOUNT) {
+        append_line(owner);
+        if (mschap_write_account(file, file_size, (const uint8_t *)owner, strlen(owner),
+                                 &record, sizeof record, LONG_AGO, &offset) != MSCHAP_OK)
+            die("a name that no line can have");
+    } else if (number != MSCHAP_OK) {
+        die_of_file(number, offset);
+    }
+    store(ACCOUNTS, file, file_size);
+    close(lock);
 }
 
 /* Opens a conversation, and stores the list before anything is sent. All authenticators that know
-   these accounts use this list, one at a time: so there is a lock, on a file of its own. */
+   these accounts use this list. */
 static void open_conversation(mschap_conversation *talk, uint8_t *reply, size_t reply_size)
 {
     uint8_t challenge[MSCHAP_CHALLENGE_SIZE], identifier;
     uint32_t number;
-    int lock = open("lock", O_RDWR | O_CREAT, 0600);
-    if (lock < 0 || lockf(lock, F_LOCK, 0) != 0)
-        die("the list cannot be locked");
+    int lock = take_lock();
     if (!load("issued", list, sizeof list))
         mschap_make_list(list, sizeof list);
     draw(&identifier, sizeof identifier);
@@ -135,14 +222,13 @@ int main(int argc, char **argv)
             look_up(packet, size, &record);
         number = mschap_step(&talk, sizeof talk, packet, size, &record, sizeof record,
                              reply, sizeof reply, &answer, sizeof answer);
-        if (number == MSCHAP_BAD_ARGUMENT)
-            die("the account's file is no record that this library has made");
         if (number != MSCHAP_OK) {
             fprintf(stderr, "refused: %u\n", (unsigned)number);
             continue;
         }
+        /* A changed password is stored before the peer hears of it. */
         if (mschap_answer_record(&answer, sizeof answer, &record, sizeof record) == MSCHAP_OK)
-            store(file, &record, sizeof record);
+            write_back(&record);
         send_packet(reply, sizeof reply);
         fprintf(stderr, "reason: %u%s\n", (unsigned)mschap_answer_reason(&answer, sizeof answer),
                 mschap_answer_repeated(&answer, sizeof answer) ? ", again" : "");

@@ -2,29 +2,37 @@
  * mschap.h: MS-CHAP version 1 (RFC 2433) for C, over a library whose every function is proved
  * against its promise.
  *
- * QUICK START: the authenticator, with the account "user" and its password in UTF-8
+ * QUICK START: the authenticator, over the bytes of an account file (see ACCOUNT FILES)
  *
  *     static uint8_t list[MSCHAP_LIST_SIZE(300)];         // for 100 conversations, see mschap_open
  *     mschap_conversation talk;  mschap_record record;  mschap_answer answer;
- *     mschap_password password;  mschap_nthash hash;  uint32_t fault;
- *     uint8_t reply[MSCHAP_REPLY_SIZE], challenge[MSCHAP_CHALLENGE_SIZE];
+ *     uint8_t reply[MSCHAP_REPLY_SIZE], challenge[MSCHAP_CHALLENGE_SIZE], name[MSCHAP_NAME_MAX];
+ *     size_t name_size = 0, offset;  uint32_t number, fault;
  *
  *     mschap_make_list(list, sizeof list);                // once
- *     mschap_make_password(text, text_size, &password, sizeof password);
- *     mschap_nt_hash(&password, sizeof password, &hash, sizeof hash);
- *     mschap_make_record(MSCHAP_FOUND | MSCHAP_HAS_NT_HASH, &hash, sizeof hash, NULL, 0,
- *                        &record, sizeof record);
  *     getrandom(challenge, sizeof challenge, 0);          // unpredictable: from a CSPRNG
  *     mschap_open(1, MSCHAP_TERMS, challenge, sizeof challenge, list, sizeof list,
  *                 &talk, sizeof talk, reply, sizeof reply);   // old phones: see OLD PHONES
  *     send(reply, mschap_packet_length(reply, sizeof reply));
  *     while ((size = receive(packet)) != 0) {             // each packet, while the link is up
- *         // who it is: mschap_account_offset, mschap_account_length
+ *         if (mschap_conversation_awaits(&talk, sizeof talk) == MSCHAP_AWAITS_RESPONSE) {
+ *             name_size = mschap_account_length(packet, size);    // a change has no name: keep it
+ *             memcpy(name, packet + mschap_account_offset(packet, size), name_size);
+ *             if (mschap_find_account(file, file_size, name, name_size, time(NULL), max_age,
+ *                                     &record, sizeof record, &offset) != MSCHAP_OK)
+ *                 return;                                 // mend the file at that offset
+ *         }
  *         if (mschap_step(&talk, sizeof talk, packet, size, &record, sizeof record,
  *                         reply, sizeof reply, &answer, sizeof answer) != MSCHAP_OK)
  *             continue;                                   // refused: nothing has changed
- *         if (mschap_answer_record(&answer, sizeof answer, &record, sizeof record) == MSCHAP_OK)
- *             store(record);                              // an accepted change of the password
+ *         if (mschap_answer_record(&answer, sizeof answer, &record, sizeof record) == MSCHAP_OK) {
+ *             lock_and_read(&file, &file_size);           // an accepted change of the password
+ *             number = mschap_write_account(file, file_size, name, name_size,
+ *                                           &record, sizeof record, time(NULL), &offset);
+ *             store_and_unlock(file, file_size);          // as it was, if that is refused
+ *             if (number != MSCHAP_OK)
+ *                 return;                                 // the account is gone, or as above
+ *         }
  *         send(reply, mschap_packet_length(reply, sizeof reply));
  *         if (mschap_answer_repeated(&answer, sizeof answer))
  *             continue;                                   // the peer had missed the last reply
@@ -34,7 +42,9 @@
  *             decide(mschap_answer_reason(&answer, sizeof answer) == MSCHAP_SUCCESS); // in or not
  *     }
  *
- * Check each return value. examples/authenticator.c and examples/peer.c are whole programs.
+ * Check each return value. examples/authenticator.c and examples/peer.c are whole programs. Where
+ * accounts are kept in another way, mschap_make_record makes the record that a step takes, of the
+ * hash that mschap_make_password and mschap_nt_hash make of a password in UTF-8.
  *
  * OLD PHONES
  *   A phone that answers by LM alone is let in only by a conversation that asks for LM:
@@ -45,6 +55,46 @@
  *   phones out, and their right password draws MSCHAP_E_AUTHENTICATION_FAILURE, as a wrong one
  *   does. Ask for it on the benches that have such phones and nowhere else: RFC 2433 (section 6)
  *   deprecates LM, and where it is allowed an account with both hashes is as weak as its LM hash.
+ *
+ * ACCOUNT FILES
+ *   mschap_find_account, mschap_write_account and mschap_count_accounts take a file in the layout
+ *   of Samba's smbpasswd(5) whole, read or memory-mapped; nobody else may change its bytes during
+ *   the call. A line ends at a line feed or at the file's end, and one that begins with # is
+ *   skipped. Any other has six fields, each closed by a colon, of any bytes but colon and line
+ *   feed:
+ *       name              1 to MSCHAP_NAME_MAX bytes, upper and lower case being different
+ *       uid               1 to 10 digits, which are not used
+ *       LM hash, NT hash  32 hexadecimal digits of either case each; none, if the 32 bytes begin
+ *                         with X or NO PASSWORD
+ *       flags             [, 11 of them, ]: a D among them disables the account
+ *       last change       LCT- and 8 hexadecimal digits: the time in seconds, as now is
+ *   and behind the sixth colon anything, as the CR of a line end of Windows.
+ *
+ *   A password has expired if its last change is more than max_age before now, unless X is among
+ *   the flags, the last change is 0, or it is later than now. So one that is changed at time 0
+ *   never expires: set the clock first.
+ *
+ *   No other flag is read. With N, where Samba asks for no password, the NT hash decides as ever;
+ *   and whom Samba has locked out (L), or a machine (W), is let in as any other: to keep them out,
+ *   set D. Hours and dial-in are not in the file: their flags are clear in the record. Samba's
+ *   `lanman auth` is not known here: LM is off unless the terms of the conversation allow it.
+ *
+ *   One line of another form, an empty one too, refuses the whole file, whatever name is looked
+ *   up: the damaged line could be the account's own. A hash of 32 *, by which Samba marks one that
+ *   is not to be used, is another form: write 32 X. The offset is where the first such line starts.
+ *   At a shell, with it for OFFSET,
+ *       head -c OFFSET FILE | wc -l
+ *   counts the lines before it, and acctsum, a program of this project, prints `bad 1` for it alone
+ *   until each of its fields is mended:
+ *       { echo 0 0; tail -c +$((OFFSET + 1)) FILE | head -n 1; } | acctsum
+ *
+ *   mschap_write_account writes into the caller's bytes and nowhere else; so do not map the file
+ *   shared. To store them so that neither a crash nor another authenticator loses a change: take a
+ *   lock that all your programs take, read the file again, write the account, write the bytes to a
+ *   new file in the same folder, fsync it, rename it to the file's name, fsync the folder, release
+ *   the lock, and only then send the reply. Samba's programs (smbpasswd, pdbedit, smbd) know
+ *   nothing of that lock and write in place: see that none of them writes at the same time. A hash
+ *   is as good as its password: let nobody but the authenticator read the file, or the new one.
  *
  * LINKING
  *   `make lib` writes libmschap.a, libmschap.so, this header and mschap.pc below target/mschap, for
@@ -57,8 +107,9 @@
  *   A buffer is passed as a pointer and, right behind it, its size in bytes, which is sizeof for
  *   every type below. A const buffer is only read; any other is read or written as said at the
  *   function. No two buffers of a call may overlap, unless both are const. An empty buffer may have
- *   any pointer, NULL too. A pointer without a size (flags, length, call, reason) is never NULL,
- *   and no buffer of the call overlaps what it points to.
+ *   any pointer, NULL too. A pointer without a size (flags, length, call, reason, offset, lines and
+ *   the other counts) is never NULL, and neither a buffer of the call nor another such pointer
+ *   overlaps what it points to.
  *
  * VALUES
  *   Accounts, conversations and so on are passed as values of the types below: bytes that only this
@@ -69,12 +120,14 @@
  *   those that were stored before are refused. The others are as 0.2.0 stored them.
  *   Bytes are not signed: store values where nobody else writes.
  *   Arguments that are exchanged by mistake are refused, or are no C: GCC 14 says so by default,
- *   and other compilers with -Werror=incompatible-pointer-types.
+ *   and other compilers with -Werror=incompatible-pointer-types. Of these alone an exchange is not
+ *   found, as they are numbers alike: now and max_age, and the five counts of accounts.
  *
  * WHAT A FUNCTION RETURNS
  *   MSCHAP_OK (0), or the number of the first thing that is wrong, by the macros below.
  *   MSCHAP_BAD_ARGUMENT comes before any other. On every return but MSCHAP_OK, every buffer is
- *   unchanged, and so is whatever a pointer without a size points to.
+ *   unchanged, and so is whatever a pointer without a size points to, unless the function says
+ *   otherwise.
  *   A function that returns a value instead, as mschap_conversation_awaits, says so.
  *
  * STATE
@@ -106,8 +159,8 @@ extern "C" {
 
 /* ---- versions */
 
-#define MSCHAP_VERSION 0x000500      /* of this interface: major, minor, patch, a byte each */
-#define MSCHAP_VERSION_TEXT "0.5.0"
+#define MSCHAP_VERSION 0x000600      /* of this interface: major, minor, patch, a byte each */
+#define MSCHAP_VERSION_TEXT "0.6.0"
 
 /* of the layout of each kind of value */
 #define MSCHAP_RECORD_LAYOUT 1
@@ -133,6 +186,8 @@ extern "C" {
 #define MSCHAP_READING 11        /* no Challenge, Success or Failure, or one that cannot be read */
 #define MSCHAP_FILLER 12         /* a filler that is not MSCHAP_FILLER_SIZE bytes */
 #define MSCHAP_RETRIES_RANGE 13  /* over 7 retries */
+#define MSCHAP_BAD_LINE 14       /* a line of an account file is of another form */
+#define MSCHAP_DOUBLED_NAME 15   /* the name is on two lines of an account file, or more */
 #define MSCHAP_SPENT 16          /* the challenge or one of its successors was issued before */
 #define MSCHAP_LIST_FULL 17      /* too few places left in the list of issued challenges */
 #define MSCHAP_LIST 24           /* a bad list: its size, or more places used than it has */
@@ -140,7 +195,9 @@ extern "C" {
                                     function takes, bytes that no value has, or a number (terms,
                                     identifier, flags) that is none */
 #define MSCHAP_MALFORMED 101     /* text that is not UTF-8, or characters that are not UTF-16 */
-#define MSCHAP_NO_RECORD 102     /* the answer has no record to be stored */
+#define MSCHAP_NO_RECORD 102     /* the answer has no record to be stored, or the record is that of
+                                    no account */
+#define MSCHAP_NO_ACCOUNT 103    /* the name is on no line of the account file */
 
 /* What a function that returns a value returns instead, if it was passed an invalid one. */
 #define MSCHAP_INVALID 0xffffffffu
@@ -326,6 +383,48 @@ uint32_t mschap_read_record(const mschap_record *record, size_t record_size,
                             mschap_nthash *nt_hash, size_t nt_hash_size,
                             mschap_lmhash *lm_hash, size_t lm_hash_size);
 
+/* ---- account files (see ACCOUNT FILES): now is the present time, and max_age how old a password
+        may be, both in seconds */
+
+/* Looks an account up by the exact bytes of its name, in one pass over the whole file. Writes the
+   record, which mschap_step takes as it is, and into *offset where the name's line starts. For a
+   name on no line that is the record of no account, without MSCHAP_FOUND, and 0. The time grows
+   with the file. It does not tell where the line is, nor how much of a name is right; but a name
+   on a line takes longer than one on none, by less than a microsecond.
+   Returns MSCHAP_OK; MSCHAP_BAD_ARGUMENT unless record is MSCHAP_RECORD_SIZE bytes;
+   MSCHAP_BAD_LINE for a line of another form, of any name, even behind the name's line; else
+   MSCHAP_DOUBLED_NAME. With these two *offset is where the first such line starts; record is
+   unchanged.
+   Stack: 560 bytes. */
+uint32_t mschap_find_account(const uint8_t *file, size_t file_size,
+                             const uint8_t *name, size_t name_size,
+                             uint32_t now, uint32_t max_age,
+                             mschap_record *record, size_t record_size,
+                             size_t *offset);
+
+/* Writes a changed record, as mschap_answer_record gives it, into its line, in place: both hashes,
+   in digits of upper case or, where there is none, as 32 X, and now as the last change. Every other
+   byte of the file stays, the flags of the line too, whatever those of the record are. Writes into
+   *offset where the line starts. How to store the file: see ACCOUNT FILES.
+   Returns MSCHAP_OK; MSCHAP_BAD_ARGUMENT for an invalid record; MSCHAP_NO_RECORD for the record of
+   no account; MSCHAP_BAD_LINE; MSCHAP_DOUBLED_NAME; MSCHAP_NO_ACCOUNT for a name on no line.
+   With MSCHAP_BAD_LINE and MSCHAP_DOUBLED_NAME *offset is as for mschap_find_account.
+   Stack: 624 bytes. */
+uint32_t mschap_write_account(uint8_t *file, size_t file_size,
+                              const uint8_t *name, size_t name_size,
+                              const mschap_record *record, size_t record_size,
+                              uint32_t now, size_t *offset);
+
+/* Counts the lines of a file that are not skipped; how many of them are of another form; and the
+   accounts that are disabled, that have expired, and that have no NT hash: one account may count in
+   all three. A name on two lines counts twice.
+   Returns MSCHAP_OK, whatever is in the file.
+   Stack: 288 bytes. */
+uint32_t mschap_count_accounts(const uint8_t *file, size_t file_size,
+                               uint32_t now, uint32_t max_age,
+                               uint64_t *lines, uint64_t *bad, uint64_t *disabled,
+                               uint64_t *expired, uint64_t *no_nt);
+
 /* ---- the authenticator */
 
 /* Makes list an empty list of issued challenges, of as many places as fit: MSCHAP_LIST_SIZE(n)
@@ -365,7 +464,8 @@ uint32_t mschap_open(uint32_t identifier, uint32_t terms,
                      uint8_t *reply, size_t reply_size);
 
 /* One step of a conversation: packet was received, and record is what the lookup of its name found
-   (mschap_account_offset and the three functions below it tell where the parts of the name are).
+   (mschap_account_offset and the three functions below it tell where the parts of the name are, and
+   mschap_find_account looks an account up in a file).
    Writes the next conversation over this one; at the front of reply the Success or Failure to
    send; and the answer, which tells the reason, whether the reply is a repeat, what is wrong with
    a change that is not accepted, and whether there is a record to be stored.
@@ -423,8 +523,9 @@ uint32_t mschap_answer_repeated(const mschap_answer *answer, size_t answer_size)
    Stack: 352 bytes. */
 uint32_t mschap_answer_fault(const mschap_answer *answer, size_t answer_size);
 
-/* The record after an accepted change of the password: store it in the place of the account's. A
-   repeat of the change gives none: its record was given when it was judged.
+/* The record after an accepted change of the password: store it in the place of the account's, in
+   an account file by mschap_write_account. A repeat of the change gives none: its record was given
+   when it was judged.
    Returns MSCHAP_OK, with the record; MSCHAP_NO_RECORD if nothing is to be stored;
    MSCHAP_BAD_ARGUMENT for an invalid answer, or unless record is MSCHAP_RECORD_SIZE bytes.
    Stack: 368 bytes. */

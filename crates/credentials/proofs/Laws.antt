@@ -18,7 +18,7 @@ use Rattle.octets.specs.Parts.{part, fixed}
 use Rattle.octets.specs.Numbers.{fromLe, toLe}
 use Rattle.octets.proofs.Parts.{over-fills, length-fixed}
 use Rattle.octets.proofs.Numbers.{Octets, length-toLe, fromLe-toLe}
-use Rattle.md4.proofs.Laws.{length-md4}
+use Rattle.md4.proofs.Laws.{length-md4, octets-md4}
 use Rattle.des.specs.Des.{desEncrypt, desDecrypt, desThree}
 use Rattle.des.proofs.RoundTrip.{decrypt-encrypt}
 use Rattle.des.proofs.Sizes.{length-encrypt, length-three}
@@ -36,6 +36,10 @@ use Rattle.credentials.proofs.Plain.{front, front-length, body-length, 
 pub length-nt : (password : List ℕ) → length (ntHashOf password) ≡ 16
 unfolding ntHashOf
 length-nt password = length-md4 password
+
+pub octets-nt : (password : List ℕ) → Octets (ntHashOf password)
+unfolding ntHashOf
+octets-nt password = octets-md4 password
 
 pub length-keys : (password : List ℕ) → length (lmKeys password) ≡ 14
 unfolding lmKeys

@@ -1,8 +1,8 @@
 // MS-CHAP for C: each exported function has its own name there, and host/include/mschap.h declares
 // it.
-mod account_files;
 mod ciphers;
 mod conversations;
+mod files;
 mod lists;
 mod opening;
 mod packet_parts;

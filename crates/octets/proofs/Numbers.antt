@@ -2,7 +2,7 @@
 -- writing the reading.
 -- Assumes nothing.
 use mathlib.Core.Path.{_≡_, refl, sym, ap, ap₂, _∙_, subst}
-use mathlib.Core.List.{List, [], _∷_}
+use mathlib.Core.List.{List, [], _∷_, _++_}
 use Prim.Native.Nat.{ℕ, zero, suc, _+_, _*_, _/_, _%_, _^_, _<_}
 use native.Mathlib.Nat.{mod-one, add-comm, add-assoc, add-mul, mul-assoc, mul-suc, mul-zero, zero-mul, zero-add}
 use native.Mathlib.Omega.{arith}
@@ -98,3 +98,20 @@ toLe-fromLe [] h = refl
 toLe-fromLe (b ∷ bs) h =
     let q : (b + 256 * fromLe bs) / 256 ≡ fromLe bs = omega (arith, h 0) in
     ap₂ (λ (x : ℕ) (l : List ℕ). x ∷ l) (omega (arith, h 0)) (ap (toLe (length bs)) q ∙ toLe-fromLe bs (λ i. h (suc i)))
+
+-- ---- octets
+
+pub octets-append : (l m : List ℕ) → Octets l → Octets m → Octets (l ++ m)
+octets-append [] m h k i = k i
+octets-append (x ∷ l) m h k zero = h 0
+octets-append (x ∷ l) m h k (suc i) = octets-append l m (λ j. h (suc j)) k i
+
+pub octets-toLe : (n x : ℕ) → Octets (toLe n x)
+octets-toLe zero x i = omega arith
+octets-toLe (suc n) x zero = omega arith
+octets-toLe (suc n) x (suc i) = octets-toLe n (x / 256) i
+
+pub octets-toBe : (n x : ℕ) → Octets (toBe n x)
+octets-toBe zero x i = omega arith
+octets-toBe (suc n) x zero = omega arith
+octets-toBe (suc n) x (suc i) = octets-toBe n x i

@@ -194,7 +194,7 @@ through p i (s ∷ ss) h =
     through (nextState stepOn p s) (faithful-next p s i) ss (h .1)
     ∙ unjudged-same p s i (h .0)
 
-lets-in : (a : Account) (password : List ℕ) → Rightful a → a .expired ≡ false → ntHashOf password
+pub lets-in : (a : Account) (password : List ℕ) → Rightful a → a .expired ≡ false → ntHashOf password
     ≡ a .nt .octets → LetsIn stepOn ourWriter a password
 lets-in a password g fresh hash o behind name ss l ok eight quiet input kept =
     let first = unanswered (opened o .conversation) in
@@ -218,10 +218,10 @@ lets-in a password g fresh hash o behind name ss l ok eight quiet input kept =
 
 -- ---- each step
 
-abbrev ReadyAt : Account → List PacketKind → Conversation → Turn → Type 0
+abbrev pub ReadyAt : Account → List PacketKind → Conversation → Turn → Type 0
 ReadyAt a due c t = FitIn a due c × InStep c t
 
-abbrev Ready : Account → List PacketKind → SeriesState → Type 0
+abbrev pub Ready : Account → List PacketKind → SeriesState → Type 0
 Ready a due p = ReadyAt a due (p .box .conversation) (p .peer .turn) × Faithful (p .box)
 
 -- after an exchange
@@ -250,7 +250,7 @@ right-answered true e c a h = h
 right-answered false e c a h = h
 
 module _ (a : Account) (g : Rightful a) where
-  law : (due : List PacketKind) (p : SeriesState) (m : Step) → Ready a (packetKinds m ++ due) p
+  pub law : (due : List PacketKind) (p : SeriesState) (m : Step) → Ready a (packetKinds m ++ due) p
       → Allowed stepOn ourWriter a p m
       → Claimed stepOn ourWriter a p m × (judgedAt stepOn ourWriter p m ≡ length (packetKinds m))
       × Ready a due (next stepOn ourWriter p m)
@@ -316,6 +316,21 @@ module _ (a : Account) (g : Rightful a) where
         x .judges,
         ready-next a due p _ l _ x t (f .2, ended-in-step (p .box .conversation) (p .peer .turn) i),
       )
+
+  -- the record that the change hands out
+  pub change-updated : (due : List PacketKind) (p : SeriesState) (old new filler : List ℕ)
+      (l : ExchangeInput)
+      → Ready a (PasswordChange ∷ due) p
+      → Allowed stepOn ourWriter a p (ours (passwordChange old new filler) l)
+      → exchange stepOn ourWriter p (passwordChange old new filler) l .outcome .answer .updated
+      ≡ found (changed a (ntHashOf new))
+  change-updated due p old new filler l ((f, i), t) h =
+      let kept : Rightful (p .box .conversation .kept) = subst Rightful (sym (f .1)) g in
+      let hash : ntHashOf old ≡ p .box .conversation .kept .nt .octets = h .1
+      ∙ sym (ap (λ (b : Account). b .nt .octets) (f .1)) in
+      ap (λ (o : Outcome). o .answer .updated)
+      (change-outcome p t i old new filler l (h .0) (f .0) (kept .nt) hash)
+      ∙ ap (λ (b : Account). found (changed b (ntHashOf new))) (f .1)
 
   invariant : Invariant (next stepOn ourWriter) packetKinds (judgedAt stepOn ourWriter)
       (Allowed stepOn ourWriter a) (Claimed stepOn ourWriter a)

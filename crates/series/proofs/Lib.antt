@@ -19,3 +19,4 @@ pub mod Shared
 pub mod WrongOpeners
 pub mod LmOptIn
 pub mod WrongLm
+pub mod AccountFile

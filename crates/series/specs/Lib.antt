@@ -7,3 +7,4 @@ pub mod Twelve
 pub mod Openers
 pub mod OneList
 pub mod LmOptIn
+pub mod AccountFile

@@ -14,7 +14,7 @@ use Rattle.octets.specs.Parts.{agrees}
 use Rattle.octets.specs.Split.{holds, before, behind}
 use Rattle.octets.proofs.Digits.{digit-back}
 use Rattle.octets.proofs.HexText.{length-hex, hex-back}
-use Rattle.octets.proofs.Numbers.{Octets, fromBe-toBe, length-digits}
+use Rattle.octets.proofs.Numbers.{Octets, fromBe-toBe, octets-toBe}
 use Rattle.octets.proofs.Split.{Cut, cut, before-free, holds-append}
 use Rattle.accounts.specs.Account.{noHash, hashOf, accountWith}
 use Rattle.accounts.specs.declared.Account.{Account}
@@ -111,17 +111,10 @@ hash-free c x rest h = by (h .present)
 
 -- ---- a time
 
-octets-of : (x : ℕ) → Octets (toBe 4 x)
-octets-of x zero = omega arith
-octets-of x (suc zero) = omega arith
-octets-of x (suc (suc zero)) = omega arith
-octets-of x (suc (suc (suc zero))) = omega arith
-octets-of x (suc (suc (suc (suc i)))) = omega arith
-
 pub time-read : (now : ℕ) → now < 2 ^ 32 → timeIn (timeText now) ≡ now
 time-read now h =
     let small : now % 2 ^ 32 ≡ now = omega arith in
-    ap fromBe (hex-back (toBe 4 now) (octets-of now)) ∙ fromBe-toBe 4 now ∙ small
+    ap fromBe (hex-back (toBe 4 now) (octets-toBe 4 now)) ∙ fromBe-toBe 4 now ∙ small
 
 pub text-is-time : (now : ℕ) → isTime (timeText now) ≡ true
 unfolding agrees

@@ -203,8 +203,8 @@ module _ (name : List ℕ) (a : Account) (now : ℕ) (f : List ℕ) (slm : IsHas
           ∙ ap (λ (x : List ℕ). record { place = Line at′; lookup = found (accountIn later maxAge x) })
           (by-place (λ x. placeOf other x ≡ Line at′ → lineAt at′ x ≡ lineAt at′ f) (λ z. refl)
           (λ at ea z.
-              let k = line-known name f at ea in
-              line-same name a now f at k slm snt other at′ (apart name a now f at k slm snt other n at′ ko) ko (line-known other _ at′ z))
+          let k = line-known name f at ea in
+          line-same name a now f at k slm snt other at′ (apart name a now f at k slm snt other n at′ ko) ko (line-known other _ at′ z))
           (same-place other ∙ e))
           ∙ sym (found-at later maxAge other f e)
 

@@ -36,6 +36,9 @@
 //! # Ok::<(), Refusal>(())
 //! ```
 //!
+//! Accounts in a file in the layout of Samba's smbpasswd(5) are looked up by [`find_account`], and a
+//! changed one is written back by [`write_account`].
+//!
 //! What is stored (a [`Conversation`], a [`Peer`], an [`Account`]'s record, an [`Issued`], a
 //! [`Password`]) begins with its kind and the version of that kind's layout; `from_bytes` refuses
 //! bytes of another kind or version.
@@ -45,6 +48,7 @@
 #![deny(unsafe_op_in_unsafe_fn)]
 
 mod account;
+mod account_file;
 mod authenticator;
 mod cipher;
 mod issued;
@@ -55,6 +59,8 @@ mod refusal;
 pub mod sys;
 
 pub use account::Account;
+pub use account_file::{count_accounts, find_account, write_account};
+pub use account_file::{Counts, FileFault, Found, Times};
 pub use authenticator::{account_of, domain_of, Answer, Awaited, Conversation, Terms};
 pub use cipher::{des_decrypt, des_encrypt, md4, rc4};
 pub use issued::Issued;

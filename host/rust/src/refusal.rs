@@ -32,6 +32,12 @@ pub enum Refusal {
     Filler,
     /// 13: over 7 retries.
     RetriesRange,
+    /// 14: a line of an account file is of another form. [`FileFault`](crate::FileFault) tells where
+    /// it starts.
+    BadLine,
+    /// 15: the name is on two lines of an account file, or more. [`FileFault`](crate::FileFault)
+    /// tells where the first of them starts.
+    DoubledName,
     /// 16: the challenge or one of its successors was issued before.
     Spent,
     /// 17: too few places left in the list of issued challenges.
@@ -42,14 +48,17 @@ pub enum Refusal {
     BadArgument,
     /// 101: text that is not UTF-8, or characters that are not UTF-16.
     Malformed,
-    /// 102: the answer has no record to be stored. The types here leave no way to it.
+    /// 102: the answer has no record to be stored, or the record is that of no account. The types
+    /// here leave no way to it.
     NoRecord,
+    /// 103: the name is on no line of the account file. The functions here answer `None` instead.
+    NoAccount,
     /// Any other number. The types here leave no way to it.
     Unexpected(u32),
 }
 
 /// Each refusal that has a number of its own.
-const NUMBERS: [(u32, Refusal); 19] = [
+const NUMBERS: [(u32, Refusal); 22] = [
     (1, Refusal::Ended),
     (2, Refusal::ReplyRoom),
     (3, Refusal::Frame),
@@ -63,12 +72,15 @@ const NUMBERS: [(u32, Refusal); 19] = [
     (11, Refusal::Reading),
     (12, Refusal::Filler),
     (13, Refusal::RetriesRange),
+    (sys::BAD_LINE, Refusal::BadLine),
+    (sys::DOUBLED_NAME, Refusal::DoubledName),
     (16, Refusal::Spent),
     (17, Refusal::ListFull),
     (24, Refusal::List),
     (sys::BAD_ARGUMENT, Refusal::BadArgument),
     (101, Refusal::Malformed),
     (102, Refusal::NoRecord),
+    (sys::NO_ACCOUNT, Refusal::NoAccount),
 ];
 
 impl Refusal {

@@ -6,7 +6,7 @@
 //! each one does. Here every value is bytes: the types around this module tell them apart.
 
 /// The version of the interface that is declared here: major, minor and patch, a byte each.
-pub const VERSION: u32 = 0x000500;
+pub const VERSION: u32 = 0x000600;
 
 /// The version of a record's layout.
 pub const RECORD_LAYOUT: u8 = 1;
@@ -23,9 +23,15 @@ pub const LIST_LAYOUT: u8 = 1;
 
 /// Done.
 pub const OK: u32 = 0;
+/// A line of an account file is of another form.
+pub const BAD_LINE: u32 = 14;
+/// The name is on two lines of an account file, or more.
+pub const DOUBLED_NAME: u32 = 15;
 /// A value or a buffer of another size, kind or version, bytes that no value has, or a number that
 /// is none.
 pub const BAD_ARGUMENT: u32 = 100;
+/// The name is on no line of the account file.
+pub const NO_ACCOUNT: u32 = 103;
 /// What a function that returns a value returns instead, if it was passed an invalid one.
 pub const INVALID: u32 = 0xffff_ffff;
 
@@ -191,6 +197,41 @@ pub mod raw {
             nt_hash_size: usize,
             lm_hash: *mut u8,
             lm_hash_size: usize,
+        ) -> u32;
+        /// Looks an account up in an account file: its record, and where its line starts.
+        pub fn mschap_find_account(
+            file: *const u8,
+            file_size: usize,
+            name: *const u8,
+            name_size: usize,
+            now: u32,
+            max_age: u32,
+            record: *mut u8,
+            record_size: usize,
+            offset: *mut usize,
+        ) -> u32;
+        /// Writes a changed record into its line of an account file, in place.
+        pub fn mschap_write_account(
+            file: *mut u8,
+            file_size: usize,
+            name: *const u8,
+            name_size: usize,
+            record: *const u8,
+            record_size: usize,
+            now: u32,
+            offset: *mut usize,
+        ) -> u32;
+        /// Counts the lines and the accounts of an account file.
+        pub fn mschap_count_accounts(
+            file: *const u8,
+            file_size: usize,
+            now: u32,
+            max_age: u32,
+            lines: *mut u64,
+            bad: *mut u64,
+            disabled: *mut u64,
+            expired: *mut u64,
+            no_nt: *mut u64,
         ) -> u32;
         /// Makes list an empty list of issued challenges.
         pub fn mschap_make_list(list: *mut u8, list_size: usize) -> u32;
@@ -440,6 +481,74 @@ pub fn read_record(record: &[u8], flags: &mut u32, nt_hash: &mut [u8], lm_hash: 
             nt_hash.len(),
             lm_hash.as_mut_ptr(),
             lm_hash.len(),
+        )
+    }
+}
+
+/// Looks an account up in an account file: its record, and where its line starts.
+pub fn find_account(
+    file: &[u8],
+    name: &[u8],
+    now: u32,
+    max_age: u32,
+    record: &mut [u8],
+    offset: &mut usize,
+) -> u32 {
+    // SAFETY: slices and references, as said above.
+    unsafe {
+        raw::mschap_find_account(
+            file.as_ptr(),
+            file.len(),
+            name.as_ptr(),
+            name.len(),
+            now,
+            max_age,
+            record.as_mut_ptr(),
+            record.len(),
+            offset,
+        )
+    }
+}
+
+/// Writes a changed record into its line of an account file, in place.
+pub fn write_account(
+    file: &mut [u8],
+    name: &[u8],
+    record: &[u8],
+    now: u32,
+    offset: &mut usize,
+) -> u32 {
+    // SAFETY: slices and references, as said above.
+    unsafe {
+        raw::mschap_write_account(
+            file.as_mut_ptr(),
+            file.len(),
+            name.as_ptr(),
+            name.len(),
+            record.as_ptr(),
+            record.len(),
+            now,
+            offset,
+        )
+    }
+}
+
+/// Counts in an account file: lines, those of another form, and the accounts that are disabled,
+/// that have expired, and that have no NT hash.
+pub fn count_accounts(file: &[u8], now: u32, max_age: u32, counts: &mut [u64; 5]) -> u32 {
+    let [lines, bad, disabled, expired, no_nt] = counts;
+    // SAFETY: slices and references, as said above.
+    unsafe {
+        raw::mschap_count_accounts(
+            file.as_ptr(),
+            file.len(),
+            now,
+            max_age,
+            lines,
+            bad,
+            disabled,
+            expired,
+            no_nt,
         )
     }
 }

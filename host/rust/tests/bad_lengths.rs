@@ -145,6 +145,57 @@ fn records() {
     assert_eq!((flags, hash), (FILL.into(), [FILL; 16]));
 }
 
+/// A good line of an account file.
+const BOB: &str = "bob:1001:75BA30198E6D1975AAD3B435B51404EE:FC156AF7EDCD6C0EDDE3337D427F4EAC:\
+    [U          ]:LCT-000003E8:\n";
+
+#[test]
+fn account_files() {
+    let doubled = format!("{BOB}{BOB}");
+    let damaged = format!("{doubled}junk");
+    let bob = layout::record(Some(layout::account(&Default::default())));
+    let nobody = layout::record(None);
+    // 100 comes before 102, that before the refusals of the file, and those before 103
+    for (file, name, number, at) in [
+        ("", "bob", 103, None),
+        (BOB, "ann", 103, None),
+        (BOB, "", 103, None),
+        (BOB, "bob", sys::OK, Some(0)),
+        (&doubled, "ann", 103, None),
+        (&doubled, "bob", 15, Some(0)),
+        (&damaged, "bob", 14, Some(doubled.len())),
+        (&damaged, "ann", 14, Some(doubled.len())),
+    ] {
+        let (file, name) = (file.as_bytes(), name.as_bytes());
+        let mut offset = usize::MAX;
+        bad_sizes(41, |record| {
+            sys::find_account(file, name, 5, 5, record, &mut offset)
+        });
+        let mut after = file.to_vec();
+        let mut write = |record: &[u8]| {
+            let number = sys::write_account(&mut after, name, record, 5, &mut offset);
+            (number, offset, after != file)
+        };
+        for record in [&bob, &nobody] {
+            bad_sizes_of(record, |record| {
+                let (number, offset, changed) = write(record);
+                assert_eq!((offset, changed), (usize::MAX, false));
+                number
+            });
+        }
+        assert_eq!(write(&nobody), (102, usize::MAX, false));
+        let offset = at.unwrap_or(usize::MAX);
+        assert_eq!(write(&bob), (number, offset, number == sys::OK));
+    }
+    // a file of any size
+    for lines in [0, 1, 2, 1000] {
+        let mut counts = [u64::MAX; 5];
+        let file = BOB.repeat(lines);
+        let number = sys::count_accounts(file.as_bytes(), 2000, 5, &mut counts);
+        assert_eq!((number, counts[0]), (sys::OK, lines as u64));
+    }
+}
+
 /// One opening with this answer, which is not 0: everything that was passed is unchanged.
 fn refused(list: &[u8], identifier: u32, terms: u32, size: usize, answer: u32) {
     let mut after = list.to_vec();
@@ -533,6 +584,22 @@ fn null_with_no_bytes() {
         assert_eq!(mschap_read_record(n, 0, f, m, 0, m, 0), BAD);
         assert_eq!(mschap_read_record(r, 41, f, m, 0, m, 0), BAD);
         assert_eq!(*f, 9);
+
+        let mut at = 9;
+        let o: *mut usize = &mut at;
+        assert_eq!(mschap_find_account(n, 0, n, 0, 5, 5, m, 0, o), BAD);
+        assert_eq!(mschap_write_account(m, 0, n, 0, n, 0, 5, o), BAD);
+        assert_eq!(mschap_write_account(m, 0, n, 0, r, 41, 5, o), 102);
+        assert_eq!(*o, 9);
+        assert_eq!(mschap_find_account(n, 0, n, 0, 5, 5, r, 41, o), sys::OK);
+        assert_eq!((*o, record), (0, layout::record(None)));
+        let (junk, found) = ([b'x'], layout::record(Some([0; 38])));
+        let (j, r) = (junk.as_ptr(), found.as_ptr());
+        assert_eq!(mschap_write_account(m, 0, j, 1, r, 41, 5, o), 103);
+        let mut counts = [9; 5];
+        let [a, b, c, d, e] = &mut counts;
+        assert_eq!(mschap_count_accounts(n, 0, 5, 5, a, b, c, d, e), sys::OK);
+        assert_eq!(counts, [0; 5]);
 
         assert_eq!(mschap_make_list(m, 0), 24);
         assert_eq!(mschap_list_used(n, 0), sys::INVALID);

@@ -11,7 +11,7 @@ use mschap::{Refusal, Terms};
 use reference::authenticator::{self as their, Account, Conversation, Fault, Last, Phase, Reply};
 use reference::message::Call;
 use reference::peer::{self, Turn, Verdict};
-use reference::{hashes, issued, packet};
+use reference::{hashes, issued, packet, smbpasswd};
 
 const FILL: u8 = 0xA5;
 const CHALLENGE: [u8; 8] = [1, 2, 3, 4, 5, 6, 7, 8];
@@ -453,9 +453,34 @@ fn records() {
                     &mut seen,
                 );
             }
+            write(bytes, &mut seen);
         });
     }
     assert!(seen.answered > 10_000 && seen.refused > 5_000);
+}
+
+/// These bytes for the record that is written into an account file.
+fn write(record: &[u8], seen: &mut Seen) {
+    let file = b"ann:1:XXXXXXXXXXXXXXXXXXXXXXXXXXXXXXXX:NO PASSWORDXXXXXXXXXXXXXXXXXXXXX:\
+        [U          ]:LCT-00000000:\nbob:2:00000000000000000000000000000000:\
+        ffffffffffffffffffffffffffffffff:[DX         ]:LCT-0000000a:etc\n";
+    let (mut ours, mut theirs, mut offset) = (*file, *file, FILL.into());
+    let number = sys::write_account(&mut ours, b"bob", record, 0x89AB_CDEF, &mut offset);
+    let value = layout::to_record(record);
+    seen.note(value.is_some());
+    match value {
+        Some(Some(account)) => {
+            let (nt, lm) = (account.nt.as_ref(), account.lm.as_ref());
+            let written = smbpasswd::write_back(&mut theirs, b"bob", nt, lm, 0x89AB_CDEF);
+            assert_eq!(written, smbpasswd::Written::At(offset));
+            assert_eq!(number, sys::OK, "{record:?}");
+        }
+        other => {
+            let expected = other.map_or(sys::BAD_ARGUMENT, |_| 102);
+            assert_eq!((number, offset), (expected, FILL.into()), "{record:?}");
+        }
+    }
+    assert_eq!(ours, theirs, "{record:?}");
 }
 
 #[test]

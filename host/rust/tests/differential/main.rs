@@ -3,6 +3,7 @@
 
 mod both;
 mod faults;
+mod files;
 mod functions;
 #[path = "../layout/mod.rs"]
 mod layout;

@@ -1,0 +1,134 @@
+-- The record that an accepted change hands out, written back into the account file and looked up
+-- again, lets the new password in; and the wrong ways to write it back of which that is not so.
+-- Assumes nothing.
+use mathlib.Core.Bool.{Bool, true, false, not, _&&_, and-false}
+use mathlib.Core.List.{List, _∷_, _++_}
+use mathlib.Core.Path.{_≡_, refl, sym, ap, ap₂, _∙_, subst}
+use Prim.Native.Nat.{ℕ, zero, suc, _-_, _≤_, _<_, _^_}
+use native.Mathlib.Omega.{arith}
+use borrow.Author.Tests.{eq-eqb, lt-ltb, le-ltb}
+use lib.Dec.{eqb, ltb}
+use lib.ListN.{length, getD, replicate}
+use Rattle.credentials.specs.Credentials.{ntHashOf}
+use Rattle.credentials.proofs.Laws.{length-nt, octets-nt}
+use Rattle.accounts.specs.Account.{noHash, hashOf, accountWith, blankAccount, found, changed, Rightful}
+use Rattle.accounts.specs.declared.Account.{Account}
+use Rattle.accounts.specs.declared.Lookup.{Lookup}
+use Rattle.authenticator.specs.Opening.{Opening, retriesOf, opened}
+use Rattle.authenticator.specs.Steps.{stepOn}
+use Rattle.authenticator.proofs.Judged.{changed-rightful}
+use Rattle.authenticator.proofs.Openings.{opened-first}
+use Rattle.smbpasswd.specs.Line.{letterD, letterX, field}
+use Rattle.smbpasswd.specs.Record.{hasFlag, isExpired, accountIn}
+use Rattle.smbpasswd.specs.File.{placeOf, lineAt, lookupAt, findIn}
+use Rattle.smbpasswd.specs.Write.{writtenIn}
+use Rattle.smbpasswd.specs.declared.Found.{Found}
+use Rattle.smbpasswd.specs.declared.Place.{Place}
+use Rattle.smbpasswd.specs.declared.Place.the-variants.{Line}
+use Rattle.smbpasswd.proofs.ChangedLine.{IsHash, kept}
+use Rattle.smbpasswd.proofs.ReadBack.{read-back}
+use Rattle.series.specs.Course.{Along}
+use Rattle.series.specs.Series.{invalid, right, passwordChange, ExchangeInput, Step, ours, other}
+use Rattle.series.specs.Series.{PacketKind, PasswordChange, packetKinds, plan, SeriesState, start, exchange}
+use Rattle.series.specs.Series.{next, judgedAt, Allowed, LetsIn}
+use Rattle.series.specs.Boxes.{ourBox}
+use Rattle.series.specs.Writers.{ourWriter}
+use Rattle.series.specs.AccountFile.{ourFileWriter, InForce, flagX, zeroTime, future, young, again, KeptBy, KeptAt, KeptInFile}
+use Rattle.series.proofs.Invariant.{Invariant, whole}
+use Rattle.series.proofs.Faithful.{opened-faithful}
+use Rattle.series.proofs.Ready.{FitIn, fit-plan, opened-in-step}
+use Rattle.series.proofs.Demand3.{Ready, law, change-updated, lets-in}
+
+-- ---- in force
+
+-- by the three exceptions, or by the age
+in-force : (never : Bool) (changedAt later maxAge : ℕ) → InForce never changedAt later maxAge
+    → isExpired later maxAge never changedAt ≡ false
+in-force never t later maxAge (flagX e) =
+    ap (λ (b : Bool). not b && (not (eqb t 0) && (not (ltb later t) && ltb maxAge (later - t)))) e
+in-force never t later maxAge (zeroTime e) =
+    ap (λ (b : Bool). not never && (not b && (not (ltb later t) && ltb maxAge (later - t)))) (eq-eqb t 0 e) ∙ and-false (not never)
+in-force never t later maxAge (future h) =
+    ap (λ (b : Bool). not never && (not (eqb t 0) && (not b && ltb maxAge (later - t)))) (lt-ltb later t h)
+    ∙ ap (λ (b : Bool). not never && b) (and-false (not (eqb t 0))) ∙ and-false (not never)
+in-force never t later maxAge (young h) =
+    ap (λ (b : Bool). not never && (not (eqb t 0) && (not (ltb later t) && b))) (le-ltb maxAge (later - t) h)
+    ∙ ap (λ (b : Bool). not never && (not (eqb t 0) && b)) (and-false (not (ltb later t)))
+    ∙ ap (λ (b : Bool). not never && b) (and-false (not (eqb t 0))) ∙ and-false (not never)
+
+-- ---- the record that is found again
+
+-- a record that was found in a line has that line's flag for disabled, and neither of the two marks
+-- that a line has not
+pub record FromLine (a : Account) (l : List ℕ) : Type 0 where
+  pub disabled : a .disabled ≡ hasFlag letterD (field 4 l)
+  pub hours : a .«hours_denied» ≡ false
+  pub dialin : a .«dialin_denied» ≡ false
+
+from-line : (now maxAge : ℕ) (name file : List ℕ) (a : Account) (at : ℕ)
+    → findIn now maxAge name file .lookup ≡ found a → placeOf name file ≡ Line at → FromLine a (lineAt at file)
+unfolding findIn accountIn
+from-line now maxAge name file a at e p =
+    let there : accountIn now maxAge (lineAt at file) ≡ a =
+    ap (λ (x : Lookup). x .account) (sym (ap (lookupAt now maxAge file) p) ∙ e) in
+    record {
+      disabled = sym (ap (λ (x : Account). x .disabled) there);
+      hours = sym (ap (λ (x : Account). x .«hours_denied») there);
+      dialin = sym (ap (λ (x : Account). x .«dialin_denied») there);
+    }
+
+-- the hash of a password is one that can be written
+nt-is-hash : (password : List ℕ) → IsHash (hashOf (ntHashOf password))
+nt-is-hash password = record { long = length-nt password; octets = octets-nt password }
+
+no-is-hash : IsHash noHash
+no-is-hash = record { long = refl; octets = zeros 16 }
+  where
+    zeros : (n i : ℕ) → getD (replicate n 0) i 0 < 256
+    zeros zero i = omega arith
+    zeros (suc n) zero = omega arith
+    zeros (suc n) (suc i) = zeros n i
+
+module _ (name file : List ℕ) (a : Account) (new : List ℕ) (at changedAt later maxAge : ℕ) (f : FromLine a (lineAt at file))
+    (p : placeOf name file ≡ Line at) (small : changedAt < 2 ^ 32)
+    (force : InForce (hasFlag letterX (field 4 (lineAt at file))) changedAt later maxAge) where
+  pub found-again : again ourFileWriter name file (found (changed a (ntHashOf new))) changedAt later maxAge ≡ found (changed a (ntHashOf new))
+  found-again =
+      let l = lineAt at file in
+      ap (λ (x : Found). x .lookup) (read-back name (changed a (ntHashOf new)) changedAt file no-is-hash (nt-is-hash new) at p small later maxAge)
+      ∙ ap (λ (e : Bool). found (accountWith (hashOf (ntHashOf new)) noHash (hasFlag letterD (field 4 l)) false false e))
+      (in-force (hasFlag letterX (field 4 l)) changedAt later maxAge force)
+      ∙ ap (λ (d : Bool). found (accountWith (hashOf (ntHashOf new)) noHash d false false false)) (sym (f .disabled))
+      ∙ ap₂ (λ (h d : Bool). found (accountWith (hashOf (ntHashOf new)) noHash (a .disabled) h d false)) (sym (f .hours)) (sym (f .dialin))
+
+-- ---- along a series
+
+module _ (name file : List ℕ) (now maxAge : ℕ) (a : Account) (e : findIn now maxAge name file .lookup ≡ found a) (g : Rightful a) where
+  kept-at : (due : List PacketKind) (p : SeriesState) (m : Step) → Ready a (packetKinds m ++ due) p → Allowed stepOn ourWriter a p m
+      → KeptAt stepOn ourWriter ourFileWriter name file p m
+  kept-at due p (other s) r h = tt
+  kept-at due p (ours (invalid w n) l) r h = tt
+  kept-at due p (ours (right w n) l) r h = tt
+  kept-at due p (ours (passwordChange old new filler) l) r h = λ at changedAt later maxAge′ there small force.
+      let updated = change-updated a g due p old new filler l r h in
+      let n = changed-rightful a (ntHashOf new) g in
+      let same = found-again name file a new at changedAt later maxAge′ (from-line now maxAge name file a at e there) there small force in
+      let x = exchange stepOn ourWriter p (passwordChange old new filler) l .outcome .answer .updated in
+      let back : again ourFileWriter name file x changedAt later maxAge′ ≡ x =
+      ap (λ (u : Lookup). again ourFileWriter name file u changedAt later maxAge′) updated ∙ same ∙ sym updated in (
+        back,
+        subst (λ (u : Lookup). LetsIn stepOn ourWriter (u .account) new) (sym (back ∙ updated))
+            (lets-in (changed a (ntHashOf new)) new (n .0) (n .1) (sym (n .2))),
+      )
+
+  invariant : Invariant (next stepOn ourWriter) packetKinds (judgedAt stepOn ourWriter) (Allowed stepOn ourWriter a)
+      (KeptAt stepOn ourWriter ourFileWriter name file)
+  invariant = record { Ready = Ready a; law = λ due p m r h. (kept-at due p m r h, law a g due p m r h .1) }
+
+pub kept-in-file : KeptInFile ourBox ourWriter ourFileWriter
+unfolding invariant
+kept-in-file name file now maxAge a e o ok eight k behind ms g few due h =
+    let fit = subst (FitIn a (plan k (a .expired))) (sym (opened-first o ok)) (fit-plan k a (retriesOf (o .retries)) blankAccount few) in
+    let ready = subst (λ (ks : List PacketKind). Ready a ks (start o behind)) (sym due)
+    ((fit, opened-in-step o ok eight behind), opened-faithful o ok) in
+    whole (invariant name file now maxAge a e g) (start o behind) ms ready h .0
