@@ -123,7 +123,7 @@ module _ (name file : List ℕ) (now maxAge : ℕ) (a : Account) (e : findIn now
 
   invariant : Invariant (next stepOn ourWriter) packetKinds (judgedAt stepOn ourWriter) (Allowed stepOn ourWriter a)
       (KeptAt stepOn ourWriter ourFileWriter name file)
-  invariant = record { Ready = Ready a; law = λ due p m r h. (kept-at due p m r h, law a g due p m r h .1) }
+  invariant = record { Ready = Ready a; law = λ due p m r h. (kept-at due p m r h, law a g due p m r h .1, law a g due p m r h .2) }
 
 pub kept-in-file : KeptInFile ourBox ourWriter ourFileWriter
 unfolding invariant
