@@ -1,11 +1,11 @@
 # make test   everything: layout, the independent program, the gate `rt ci`, which proves all crates
-#             from nothing, showfail's cases, and the library as C and Rust link it
+#             from nothing, the cases of showfail and acctsum, and the library as C and Rust link it
 # make demo   a box and a peer talk: each packet as a line, with what it means
 # make bench  times of the library, next to OpenSSL's where its headers are installed
 # make lib    the library for C below target/mschap: archive, shared library, header, mschap.pc
 # make install PREFIX=/usr/local DESTDIR=    copies what `make lib` wrote
 
-.PHONY: test demo bench layout reference showfail lib install host expected
+.PHONY: test demo bench layout reference showfail acctsum lib install host expected
 
 PREFIX = /usr/local
 
@@ -39,6 +39,12 @@ reference:
 showfail:
 	rt check showfail
 	sh tests/showfail.sh target/bin/showfail
+
+# Acctsum's cases alone, each compared with the independent program too.
+acctsum:
+	rt check acctsum
+	cargo build --quiet --release --offline --manifest-path reference/Cargo.toml
+	sh tests/acctsum.sh target/bin/acctsum reference/target/release/reference
 
 lib:
 	rt staticlib mschap

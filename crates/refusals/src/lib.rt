@@ -25,6 +25,9 @@
 //         or a Failure message without E or over 256 octets
 //     12  filler not 512 octets
 //     13  r over 7
+//     14  a line of the account file has another form; another first line of `acctsum`'s input, a
+//         number past 32 bits in it, or over 64 KiB
+//     15  the name sought is on two lines of the account file
 //     16  a challenge to be spent is in the list of issued ones
 //     17  too few places are left in that list
 //     24  the list is bad: its places, the used ones or its counts
@@ -33,7 +36,8 @@
 //
 //    100  an argument from C that is not valid (`layouts`)
 //    101  a text that is not UTF-8, or characters that are not UTF-16 (`unicode`)
-//    102  an answer that has no record to be stored (`numbers`)
+//    102  an answer that has no record to be stored (`numbers`), or the record of no account
+//    103  a name that is on no line of the account file (`account_files`)
 ghost use mathlib.Core.Path.{_≡_};
 ghost use mathlib.Core.Bool.{cond, _&&_};
 

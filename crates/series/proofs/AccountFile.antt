@@ -27,7 +27,7 @@ use Rattle.smbpasswd.specs.declared.Place.{Place}
 use Rattle.smbpasswd.specs.declared.Place.the-variants.{Line}
 use Rattle.smbpasswd.proofs.ChangedLine.{IsHash, kept}
 use Rattle.smbpasswd.proofs.ReadBack.{read-back}
-use Rattle.series.specs.Course.{Along}
+use Rattle.series.specs.Course.{collect, Along}
 use Rattle.series.specs.Series.{invalid, right, passwordChange, ExchangeInput, Step, ours, other}
 use Rattle.series.specs.Series.{PacketKind, PasswordChange, packetKinds, plan, SeriesState, start, exchange}
 use Rattle.series.specs.Series.{next, judgedAt, Allowed, LetsIn}
@@ -125,10 +125,14 @@ module _ (name file : List ℕ) (now maxAge : ℕ) (a : Account) (e : findIn now
       (KeptAt stepOn ourWriter ourFileWriter name file)
   invariant = record { Ready = Ready a; law = λ due p m r h. (kept-at due p m r h, law a g due p m r h .1, law a g due p m r h .2) }
 
+-- a series begins ready
+pub ready-first : (o : Opening) → opened o .refusal ≡ 0 → length (o .challenge) ≡ 8 → (k : ℕ) (behind : List ℕ) (ms : List Step) (a : Account)
+    → k ≤ retriesOf (o .retries) → collect packetKinds ms ≡ plan k (a .expired) → Ready a (collect packetKinds ms) (start o behind)
+ready-first o ok eight k behind ms a few due =
+    let fit = subst (FitIn a (plan k (a .expired))) (sym (opened-first o ok)) (fit-plan k a (retriesOf (o .retries)) blankAccount few) in
+    subst (λ (ks : List PacketKind). Ready a ks (start o behind)) (sym due) ((fit, opened-in-step o ok eight behind), opened-faithful o ok)
+
 pub kept-in-file : KeptInFile ourBox ourWriter ourFileWriter
 unfolding invariant
 kept-in-file name file now maxAge a e o ok eight k behind ms g few due h =
-    let fit = subst (FitIn a (plan k (a .expired))) (sym (opened-first o ok)) (fit-plan k a (retriesOf (o .retries)) blankAccount few) in
-    let ready = subst (λ (ks : List PacketKind). Ready a ks (start o behind)) (sym due)
-    ((fit, opened-in-step o ok eight behind), opened-faithful o ok) in
-    whole (invariant name file now maxAge a e g) (start o behind) ms ready h .0
+    whole (invariant name file now maxAge a e g) (start o behind) ms (ready-first o ok eight k behind ms a few due) h .0

@@ -20,3 +20,4 @@ pub mod WrongOpeners
 pub mod LmOptIn
 pub mod WrongLm
 pub mod AccountFile
+pub mod WrongFiles

@@ -9,3 +9,4 @@ pub mod Writing
 pub mod ChangedLine
 pub mod ChangedFile
 pub mod ReadBack
+pub mod Worked
