@@ -102,7 +102,7 @@ series : (write : FileWriter) → KeptInFile ourBox ourWriter write
     → Along (next ourBox ourWriter) (KeptAt ourBox ourWriter write user file) begun (first ∷ change notFound ∷ [])
 series write claim =
     claim user file 1000 0 account in-file (opening Default) opens-default refl 0 [] (first ∷ change notFound ∷ []) rightful (omega arith) refl
-    (first-allowed, change-is-allowed, tt)
+    (first-allowed, (change-is-allowed, tt))
 
 -- its premises can be met: ours keeps the change of this series, in a file that is looked up at the
 -- time of the change with no age allowed
