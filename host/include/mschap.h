@@ -395,7 +395,7 @@ uint32_t mschap_read_record(const mschap_record *record, size_t record_size,
    MSCHAP_BAD_LINE for a line of another form, of any name, even behind the name's line; else
    MSCHAP_DOUBLED_NAME. With these two *offset is where the first such line starts; record is
    unchanged.
-   Stack: 560 bytes. */
+   Stack: 576 bytes. */
 uint32_t mschap_find_account(const uint8_t *file, size_t file_size,
                              const uint8_t *name, size_t name_size,
                              uint32_t now, uint32_t max_age,
@@ -409,7 +409,7 @@ uint32_t mschap_find_account(const uint8_t *file, size_t file_size,
    Returns MSCHAP_OK; MSCHAP_BAD_ARGUMENT for an invalid record; MSCHAP_NO_RECORD for the record of
    no account; MSCHAP_BAD_LINE; MSCHAP_DOUBLED_NAME; MSCHAP_NO_ACCOUNT for a name on no line.
    With MSCHAP_BAD_LINE and MSCHAP_DOUBLED_NAME *offset is as for mschap_find_account.
-   Stack: 624 bytes. */
+   Stack: 640 bytes. */
 uint32_t mschap_write_account(uint8_t *file, size_t file_size,
                               const uint8_t *name, size_t name_size,
                               const mschap_record *record, size_t record_size,
@@ -419,7 +419,7 @@ uint32_t mschap_write_account(uint8_t *file, size_t file_size,
    accounts that are disabled, that have expired, and that have no NT hash: one account may count in
    all three. A name on two lines counts twice.
    Returns MSCHAP_OK, whatever is in the file.
-   Stack: 288 bytes. */
+   Stack: 304 bytes. */
 uint32_t mschap_count_accounts(const uint8_t *file, size_t file_size,
                                uint32_t now, uint32_t max_age,
                                uint64_t *lines, uint64_t *bad, uint64_t *disabled,
