@@ -37,7 +37,8 @@ if $cc -w target/bench/probe.c -o target/bench/probe -lcrypto 2> /dev/null; then
 fi
 
 # shellcheck disable=SC2086
-$cc -std=c11 -O2 -Wall -Wextra -Werror -pedantic $openssl -I host/include host/bench.c "$archive" $crypto -o target/bench/bench
+$cc -std=c11 -O2 -Wall -Wextra -Werror -pedantic $openssl -I host/include host/bench.c "$archive" \
+    $crypto -o target/bench/bench
 
 # The same counts by scripts, which test the form of each line as the library does.
 cat > target/bench/count.awk <<'AWK'

@@ -1,9 +1,9 @@
 #!/bin/sh
 # The examples in host/ and host/examples do what they say: the one in one program prints the same
 # each time; authenticator and peer talk through pipes, over some runs that share the files of a
-# folder, and a change of a password changes its own bytes of the account file alone; and the script
-# in Python, where that is installed, plays both ends. Run in the repository, once `make lib` has
-# written target/mschap.
+# folder, and a change of a password changes its own bytes of the account file alone, undoes nobody
+# else's change, and lets nobody else read the file; and the script in Python, where that is
+# installed, plays both ends. Run in the repository, once `make lib` has written target/mschap.
 set -eu
 folder=target/mschap
 scratch=$(mktemp -d)
@@ -36,7 +36,7 @@ for program in authenticator peer; do
         fail "$program.c has an offset or a number of its own"
     fi
 done
-mkfifo "$scratch/to" "$scratch/from"
+mkfifo "$scratch/to" "$scratch/from" "$scratch/held"
 
 # what the log has of a mistyped old password
 over='the length in the password block is over 512 (mostly a wrong old password)'
@@ -85,6 +85,10 @@ accounts=$scratch/accounts/smbpasswd
 field() {
     LC_ALL=C sed -n '/^J.*rgen:/p' "$1" | cut -d : -f "$2"
 }
+# Who may read a file.
+access() {
+    stat -c '%a %u:%g' "$1"
+}
 # A copy of the file, and when it was made.
 keep() {
     cp "$accounts" "$scratch/kept"
@@ -104,6 +108,7 @@ changed() {
     rm -rf "$scratch/other"
     mkdir "$scratch/other"
     "$scratch/authenticator" "$scratch/other" 'Jürgen' "$1"
+    [ "$(stat -c %a "$scratch/other/smbpasswd")" = 600 ] || fail 'others can read a new file'
     [ "$(field "$accounts" 4)" = "$(field "$scratch/other/smbpasswd" 4)" ] \
         && [ "$(field "$accounts" 4)" != "$(field "$scratch/kept" 4)" ] \
         || fail "the NT hash is not that of $1"
@@ -118,6 +123,10 @@ printf '# ours\nann:7:%s:%s:[D   X      ]:LCT-0000abcd:more: text\r\n' \
     $none 0123456789abcdef0123456789abcdef > "$accounts"
 printf 'zoe:8:NO PASSWORD%s:%s:[NU         ]:LCT-00000000:' "${none%???????????}" $none \
     >> "$accounts"
+# a group may read it; and it may be another's, where we may give it away
+chmod 640 "$accounts"
+[ "$(id -u)" -ne 0 ] || chown 1234:5678 "$accounts"
+access=$(access "$accounts")
 keep
 add 'Jürgen' 'Grün 1'
 hash=$(field "$accounts" 4)
@@ -151,14 +160,110 @@ status=0
     || status=$?
 [ $status -eq 2 ] || fail "exit status $status where nothing can be sent"
 converse 30 0 0 in 'Jürgen' unused 'Blaugrün 🔑'
+[ "$(access "$accounts")" = "$access" ] || fail 'the changed file has another owner or mode'
+
+# What a crash left, and others can read or have open, is not the file that the accounts go to.
+leftover() {
+    printf left > "$1/new"
+    chmod 644 "$1/new"
+    exec 3< "$1/new"
+    "$scratch/authenticator" "$1" 'Jürgen' 'Grün 1'
+    [ "$(cat <&3)" = left ] || fail 'who has the leftover file open can read the accounts'
+    exec 3<&-
+    [ "$(access "$1/smbpasswd")" = "$2" ] || fail 'the leftover file gives its owner or mode'
+}
+leftover "$scratch/accounts" "$access"
+mkdir "$scratch/fresh"
+leftover "$scratch/fresh" "600 $(id -u):$(id -g)"
+
+# Accounts that are added at the same time are all there, each with a good line.
+mkdir "$scratch/many"
+adding=
+number=0
+while [ $number -lt 20 ]; do
+    number=$((number + 1))
+    "$scratch/authenticator" "$scratch/many" "user$number" 'Grün 1' 2>> "$scratch/many.log" &
+    adding="$adding $!"
+done
+for process in $adding; do
+    wait "$process" || fail 'an account is not added while others are'
+done
+line="user[0-9]+:[0-9]+:$none:$hash:\[U {10}\]:LCT-00000001:"
+[ "$(wc -l < "$scratch/many/smbpasswd")" -eq 20 ] \
+    && [ "$(grep -cxE "$line" "$scratch/many/smbpasswd")" -eq 20 ] \
+    && [ "$(cut -d : -f 1 "$scratch/many/smbpasswd" | sort -u | wc -l)" -eq 20 ] \
+    && [ "$(cut -d : -f 2 "$scratch/many/smbpasswd" | sort -u | wc -l)" -eq 20 ] \
+    || fail '20 accounts that are added at the same time do not give 20 good lines'
+
+# A conversation in which a command runs between the 648 and the change: the peer's Response (2
+# bytes of length, 54 and the name) is passed on at once, and its change only when the command has
+# ended. The first byte of the change comes after the 648 has. Then the exit status of both, and a
+# word in the authenticator's log. The copy of the file is the one that the command leaves.
+cp "$accounts" "$scratch/expired"
+response=$((2 + 54 + $(printf 'Jürgen' | wc -c)))
+meanwhile() {
+    status=$1 word=$2
+    shift 2
+    rm -f "$scratch"/*.log
+    cat "$scratch/expired" > "$accounts"
+    keep
+    # shellcheck disable=SC2086
+    $run "$scratch/authenticator" "$scratch/accounts" \
+        < "$scratch/to" > "$scratch/from" 2> "$scratch/authenticator.log" &
+    authenticator=$!
+    {
+        dd bs=1 count="$response"
+        dd bs=1 count=1 of="$scratch/byte"
+        "$@" < /dev/null > /dev/null
+        keep
+        cat "$scratch/byte" -
+    } < "$scratch/held" > "$scratch/to" 2> "$scratch/held.log" &
+    holder=$!
+    peer_status=0
+    "$scratch/peer" 'Jürgen' 'Blaugrün 🔑' 'Grün 1' > "$scratch/held" < "$scratch/from" \
+        2> "$scratch/peer.log" || peer_status=$?
+    own_status=0
+    wait $authenticator || own_status=$?
+    wait $holder || :
+    if cmp -s "$scratch/kept" "$scratch/expired"; then
+        fail 'nothing is changed between the 648 and the change'
+    fi
+    [ "$own_status $peer_status" = "$status $status" ] \
+        && grep -q '^reason: 648$' "$scratch/peer.log" \
+        && grep -q "$word" "$scratch/authenticator.log" \
+        || fail "exit status $own_status and $peer_status, and not $status with '$word'"
+}
+edit() {
+    LC_ALL=C sed "$1" "$accounts" > "$scratch/edited"
+    cat "$scratch/edited" > "$accounts"
+}
+# A password that is set again, an account that is disabled, one that need not be changed any more,
+# and one that is removed stay so, and the peer hears no Success.
+stays() {
+    meanwhile 2 '^the account was changed after its Response' "$@"
+    cmp "$scratch/kept" "$accounts" || fail 'a change of a password undoes another change'
+    if grep -q '^reason: 0$' "$scratch/peer.log"; then
+        fail 'the peer is told of a change that is not stored'
+    fi
+}
+stays "$scratch/authenticator" "$scratch/accounts" 'Jürgen' 'Neu 2'
+stays edit '/^J.*rgen:/s/U          /UD         /'
+stays edit '/^J.*rgen:/s/U          /UX         /'
+stays edit '/^J.*rgen:/d'
+# The change of another account is kept, and so is this one.
+meanwhile 0 '^reason: 0$' edit '/^ann:/s/0123456789/9876543210/'
+changed 'Blaugrün 🔑'
+meanwhile 0 '^reason: 0$' "$scratch/authenticator" "$scratch/accounts" anew 'Grün 1'
+changed 'Blaugrün 🔑'
 
 [ ! -e "$scratch/accounts/new" ] || fail 'a temporary file is left'
 stored=$(find "$scratch/accounts" -type f | wc -l)
 [ "$stored" -eq 3 ] || fail "there are $stored files, and not list, lock and accounts"
-[ "$(stat -c %a "$accounts")" = 600 ] || fail 'others can read the accounts'
+[ "$(access "$accounts")" = "$access" ] || fail 'the changed file has another owner or mode'
+[ "$(stat -c %a "$scratch/accounts/issued")" = 600 ] || fail 'others can read the list'
 
 # A damaged account file serves nobody, even behind the account's own line, and names the place; nor
-# does a list that is of another version.
+# does a symbolic link, which a new file would replace, nor a list that is of another version.
 refused() {
     "$scratch/authenticator" "$scratch/accounts" < "$scratch/to" > "$scratch/from" \
         2> "$scratch/authenticator.log" &
@@ -173,7 +278,7 @@ refused() {
 keep
 printf 'junk\n' >> "$accounts"
 refused "^smbpasswd: a malformed line at offset $(wc -c < "$scratch/kept")\$"
-for name in 'Jürgen' anew; do
+for name in 'Jürgen' other; do
     status=0
     add "$name" 'Grün 1' || status=$?
     [ $status -eq 2 ] && grep -q 'a malformed line at' "$scratch/add.log" \
@@ -182,8 +287,21 @@ done
 { cat "$scratch/kept" && LC_ALL=C sed -n '/^J.*rgen:/p' "$scratch/kept"; } > "$accounts"
 first=$(LC_ALL=C grep -ab '^J.*rgen:' "$scratch/kept" | cut -d : -f 1)
 refused "^smbpasswd: the name is on two lines, first at offset $first\$"
+cp "$scratch/kept" "$scratch/elsewhere"
+ln -sf "$scratch/elsewhere" "$accounts"
+refused '^smbpasswd is a symbolic link'
+status=0
+add 'Jürgen' 'Grün 1' || status=$?
+[ $status -eq 2 ] && grep -q '^smbpasswd is a symbolic link' "$scratch/add.log" \
+    && [ -L "$accounts" ] && cmp "$scratch/kept" "$scratch/elsewhere" \
+    || fail "exit status $status where the account file is a symbolic link"
 rm "$accounts"
 refused 'the account file cannot be read'
+for name in '' '#Jürgen' 'Jür:gen'; do
+    status=0
+    add "$name" 'Grün 1' || status=$?
+    [ $status -eq 2 ] && [ ! -e "$accounts" ] || fail "the name '$name' leaves a file"
+done
 cp "$scratch/kept" "$accounts"
 for name in '' '#Jürgen' 'Jür:gen'; do
     status=0

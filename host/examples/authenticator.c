@@ -3,8 +3,9 @@
  * standard error what happens. What has to outlast it is in files of a folder: `issued`, the list
  * of issued challenges, and `smbpasswd`, the accounts in the layout of Samba's smbpasswd(5).
  *
- *     authenticator FOLDER NAME PASSWORD    gives an account a password that must be changed; makes
- *                                           the account, if there is none of that name
+ *     authenticator FOLDER NAME PASSWORD    gives an account a password of long ago, which must be
+ *                                           changed (unless its line has the flag X); makes the
+ *                                           account, if there is none of that name
  *     authenticator FOLDER                  lets a peer in, or not: exit status 0 or 1
  *
  * Samba's own programs must not write the file meanwhile. A real program does not take a password
@@ -13,6 +14,7 @@
 #define _XOPEN_SOURCE 700 /* POSIX, with lockf */
 
 #include "pipe.h"
+#include <errno.h>
 #include <string.h>
 #include <sys/stat.h>
 #include <time.h>
@@ -38,11 +40,37 @@ static int load(const char *path, void *bytes, size_t size)
     return 1;
 }
 
-/* Stores bytes so that a crash leaves the old file or the new one, and nothing between. */
+/* Whether there is a file of that name, and its status. A symbolic link is refused: `store` would
+   replace the link, and leave the file that it points to as it was. */
+static int exists(const char *path, struct stat *status)
+{
+    if (lstat(path, status) != 0) {
+        if (errno != ENOENT)
+            die("the folder cannot be read");
+        return 0;
+    }
+    if (S_ISLNK(status->st_mode)) {
+        fprintf(stderr, "%s is a symbolic link: give the folder of the file itself\n", path);
+        exit(2);
+    }
+    return 1;
+}
+
+/* Stores bytes so that a crash leaves the old file or the new one, and nothing between. The new one
+   has the owner, group and mode of the old one before any byte is in it, so that nobody can read it
+   who could not read the old one. */
 static void store(const char *path, const void *bytes, size_t size)
 {
     static const char fresh[] = "new";
-    int to = open(fresh, O_WRONLY | O_CREAT | O_TRUNC, 0600), folder = open(".", O_RDONLY);
+    struct stat old;
+    int replaces = exists(path, &old), folder = open(".", O_RDONLY), to;
+    unlink(fresh); /* if a crash left one, others may be able to read it, or have it open */
+    to = open(fresh, O_WRONLY | O_CREAT | O_EXCL | O_NOFOLLOW, 0600);
+    if (to >= 0 && replaces
+        && (fchown(to, old.st_uid, old.st_gid) != 0 || fchmod(to, old.st_mode & 07777) != 0)) {
+        unlink(fresh);
+        die("a new file cannot be given to the owner of the old one: nothing is stored");
+    }
     if (to < 0 || !write_all(to, bytes, size) || fsync(to) != 0 || close(to) != 0
         || rename(fresh, path) != 0 || folder < 0 || fsync(folder) != 0)
         die("the folder cannot be written");
@@ -63,11 +91,16 @@ static int take_lock(void)
 static uint8_t *file;
 static size_t file_size;
 
-/* Reads it, by flags of open. A lookup needs no lock: `store` leaves no half of a file. */
-static void read_accounts(int flags)
+/* Reads it. Unless it has to be there, a file that is missing counts as an empty one. A lookup
+   needs no lock: `store` leaves no half of a file. */
+static void read_accounts(int required)
 {
     struct stat status;
-    int from = open(ACCOUNTS, flags, 0600);
+    int from;
+    file_size = 0;
+    if (!exists(ACCOUNTS, &status) && !required)
+        return;
+    from = open(ACCOUNTS, O_RDONLY);
     if (from < 0 || fstat(from, &status) != 0)
         die("the account file cannot be read");
     file_size = (size_t)status.st_size;
@@ -77,7 +110,7 @@ static void read_accounts(int flags)
     close(from);
 }
 
-/* Serves nobody by a file that is damaged: the offset tells where it is to be mended. */
+/* Serves nobody by a file that is damaged: the offset tells where it is to be corrected. */
 static void die_of_file(uint32_t number, size_t offset)
 {
     if (number == MSCHAP_BAD_LINE)
@@ -85,7 +118,7 @@ static void die_of_file(uint32_t number, size_t offset)
     else if (number == MSCHAP_DOUBLED_NAME)
         fprintf(stderr, ACCOUNTS ": the name is on two lines, first at offset %zu\n", offset);
     else
-        fprintf(stderr, ACCOUNTS ": the account is no longer there\n");
+        fprintf(stderr, ACCOUNTS ": the account cannot be written\n");
     exit(2);
 }
 
@@ -93,29 +126,39 @@ static void die_of_file(uint32_t number, size_t offset)
 static uint8_t name[MSCHAP_NAME_MAX];
 static size_t name_size;
 
-/* What the lookup of the name in a Response finds, without the domain before its backslash. */
-static void look_up(const uint8_t *packet, size_t size, mschap_record *record)
+/* What the file says of that name now. */
+static void look_up(mschap_record *record)
 {
     size_t offset;
     uint32_t number;
-    name_size = mschap_account_length(packet, size);
-    memcpy(name, packet + mschap_account_offset(packet, size), name_size);
-    read_accounts(O_RDONLY);
+    read_accounts(1);
     number = mschap_find_account(file, file_size, name, name_size, (uint32_t)time(NULL), MAX_AGE,
                                  record, sizeof *record, &offset);
     if (number != MSCHAP_OK)
         die_of_file(number, offset);
 }
 
-/* Writes a changed record into the file. It is read again, since another authenticator may have
-   written it after the lookup. */
-static void write_back(const mschap_record *record)
+/* What the lookup of the name in a Response finds, without the domain before its backslash. */
+static void look_up_response(const uint8_t *packet, size_t size, mschap_record *record)
 {
+    name_size = mschap_account_length(packet, size);
+    memcpy(name, packet + mschap_account_offset(packet, size), name_size);
+    look_up(record);
+}
+
+/* Writes a changed record into the file. It is read again, since other accounts may have changed
+   after the lookup; and if this one has, as by an administrator who reset the password, that stays,
+   and the peer is told nothing. An account that had expired has still: time only grows. */
+static void write_back(const mschap_record *found, const mschap_record *changed)
+{
+    mschap_record present;
     size_t offset;
     uint32_t number;
     int lock = take_lock();
-    read_accounts(O_RDONLY);
-    number = mschap_write_account(file, file_size, name, name_size, record, sizeof *record,
+    look_up(&present);
+    if (memcmp(&present, found, sizeof present) != 0)
+        die("the account was changed after its Response: the new password is not stored");
+    number = mschap_write_account(file, file_size, name, name_size, changed, sizeof *changed,
                                   (uint32_t)time(NULL), &offset);
     if (number != MSCHAP_OK)
         die_of_file(number, offset);
@@ -123,8 +166,8 @@ static void write_back(const mschap_record *record)
     close(lock);
 }
 
-/* A line for an account behind the others, with no hash yet. The uid, which nothing here reads,
-   counts up. */
+/* A line for an account behind the others, with neither a hash nor a last change yet, and without
+   the flag X. The uid, which nothing here reads, counts up. */
 static void append_line(const char *owner)
 {
     static const char format[] = "%s%s:%lu:%s:%s:[U          ]:LCT-00000000:\n";
@@ -156,7 +199,7 @@ static void add_account(const char *owner, const char *text)
         || mschap_make_record(MSCHAP_FOUND | MSCHAP_HAS_NT_HASH, &hash, sizeof hash, NULL, 0,
                               &record, sizeof record) != MSCHAP_OK)
         die("no such account can be made");
-    read_accounts(O_RDONLY | O_CREAT);
+    read_accounts(0);
     number = mschap_write_account(file, file_size, (const uint8_t *)owner, strlen(owner),
                                   &record, sizeof record, LONG_AGO, &offset);
     if (number == MSCHAP_NO_ACCOUNT) {
@@ -184,7 +227,7 @@ static void open_conversation(mschap_conversation *talk, uint8_t *reply, size_t 
     do {
         draw(challenge, sizeof challenge);
         /* Phones that answer by LM alone would need MSCHAP_TERMS | MSCHAP_LM_ALLOWED, and accounts
-           with an LM hash, which these have not. */
+           with an LM hash: those in a file of Samba may have one, those added here have none. */
         number = mschap_open(identifier, MSCHAP_TERMS, challenge, sizeof challenge,
                              list, sizeof list, talk, sizeof *talk, reply, reply_size);
     } while (number == MSCHAP_SPENT);
@@ -200,7 +243,7 @@ static void open_conversation(mschap_conversation *talk, uint8_t *reply, size_t 
 int main(int argc, char **argv)
 {
     mschap_conversation talk;
-    mschap_record record;
+    mschap_record found, changed;
     mschap_answer answer;
     uint8_t packet[MSCHAP_CHANGE_PACKET], reply[MSCHAP_REPLY_SIZE];
     uint32_t number, fault;
@@ -219,16 +262,16 @@ int main(int argc, char **argv)
     while ((size = receive_packet(packet, sizeof packet)) > 0) {
         /* A change has no name: it is for the account that was looked up for the last Response. */
         if (mschap_conversation_awaits(&talk, sizeof talk) == MSCHAP_AWAITS_RESPONSE)
-            look_up(packet, size, &record);
-        number = mschap_step(&talk, sizeof talk, packet, size, &record, sizeof record,
+            look_up_response(packet, size, &found);
+        number = mschap_step(&talk, sizeof talk, packet, size, &found, sizeof found,
                              reply, sizeof reply, &answer, sizeof answer);
         if (number != MSCHAP_OK) {
             fprintf(stderr, "refused: %u\n", (unsigned)number);
             continue;
         }
         /* A changed password is stored before the peer hears of it. */
-        if (mschap_answer_record(&answer, sizeof answer, &record, sizeof record) == MSCHAP_OK)
-            write_back(&record);
+        if (mschap_answer_record(&answer, sizeof answer, &changed, sizeof changed) == MSCHAP_OK)
+            write_back(&found, &changed);
         send_packet(reply, sizeof reply);
         fprintf(stderr, "reason: %u%s\n", (unsigned)mschap_answer_reason(&answer, sizeof answer),
                 mschap_answer_repeated(&answer, sizeof answer) ? ", again" : "");

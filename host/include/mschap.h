@@ -5,9 +5,9 @@
  * QUICK START: the authenticator, over the bytes of an account file (see ACCOUNT FILES)
  *
  *     static uint8_t list[MSCHAP_LIST_SIZE(300)];         // for 100 conversations, see mschap_open
- *     mschap_conversation talk;  mschap_record record;  mschap_answer answer;
+ *     mschap_conversation talk;  mschap_record record, after, again;  mschap_answer answer;
  *     uint8_t reply[MSCHAP_REPLY_SIZE], challenge[MSCHAP_CHALLENGE_SIZE], name[MSCHAP_NAME_MAX];
- *     size_t name_size = 0, offset;  uint32_t number, fault;
+ *     size_t name_size = 0, offset;  uint32_t fault;  int written;
  *
  *     mschap_make_list(list, sizeof list);                // once
  *     getrandom(challenge, sizeof challenge, 0);          // unpredictable: from a CSPRNG
@@ -20,18 +20,21 @@
  *             memcpy(name, packet + mschap_account_offset(packet, size), name_size);
  *             if (mschap_find_account(file, file_size, name, name_size, time(NULL), max_age,
  *                                     &record, sizeof record, &offset) != MSCHAP_OK)
- *                 return;                                 // mend the file at that offset
+ *                 return;                                 // correct the file at that offset
  *         }
  *         if (mschap_step(&talk, sizeof talk, packet, size, &record, sizeof record,
  *                         reply, sizeof reply, &answer, sizeof answer) != MSCHAP_OK)
  *             continue;                                   // refused: nothing has changed
- *         if (mschap_answer_record(&answer, sizeof answer, &record, sizeof record) == MSCHAP_OK) {
+ *         if (mschap_answer_record(&answer, sizeof answer, &after, sizeof after) == MSCHAP_OK) {
  *             lock_and_read(&file, &file_size);           // an accepted change of the password
- *             number = mschap_write_account(file, file_size, name, name_size,
- *                                           &record, sizeof record, time(NULL), &offset);
- *             store_and_unlock(file, file_size);          // as it was, if that is refused
- *             if (number != MSCHAP_OK)
- *                 return;                                 // the account is gone, or as above
+ *             written = mschap_find_account(file, file_size, name, name_size, time(NULL), max_age,
+ *                                           &again, sizeof again, &offset) == MSCHAP_OK
+ *                       && memcmp(&again, &record, sizeof again) == 0   // nobody changed it since
+ *                       && mschap_write_account(file, file_size, name, name_size, &after,
+ *                                               sizeof after, time(NULL), &offset) == MSCHAP_OK;
+ *             store_and_unlock(file, file_size);          // as it was, if not written
+ *             if (!written)
+ *                 return;                                 // hang up, and note why
  *         }
  *         send(reply, mschap_packet_length(reply, sizeof reply));
  *         if (mschap_answer_repeated(&answer, sizeof answer))
@@ -85,16 +88,21 @@
  *   At a shell, with it for OFFSET,
  *       head -c OFFSET FILE | wc -l
  *   counts the lines before it, and acctsum, a program of this project, prints `bad 1` for it alone
- *   until each of its fields is mended:
+ *   until each of its fields is correct:
  *       { echo 0 0; tail -c +$((OFFSET + 1)) FILE | head -n 1; } | acctsum
  *
  *   mschap_write_account writes into the caller's bytes and nowhere else; so do not map the file
- *   shared. To store them so that neither a crash nor another authenticator loses a change: take a
- *   lock that all your programs take, read the file again, write the account, write the bytes to a
- *   new file in the same folder, fsync it, rename it to the file's name, fsync the folder, release
- *   the lock, and only then send the reply. Samba's programs (smbpasswd, pdbedit, smbd) know
- *   nothing of that lock and write in place: see that none of them writes at the same time. A hash
- *   is as good as its password: let nobody but the authenticator read the file, or the new one.
+ *   shared. To store them so that no crash loses a change, and no change undoes another that was
+ *   made under the same lock: take a lock that all your programs take, read the file again, look
+ *   the account up again and compare its record (memcmp) with the one that its Response was judged
+ *   by, write the account, write the bytes to a new file in the same folder (with the owner and
+ *   mode of the old one; if the name is a symbolic link, in the folder of its target), fsync it,
+ *   rename it to the file's name, fsync the folder, release the lock, and only then send the reply.
+ *   If the two records differ, the account was changed after the Response, as by an administrator
+ *   who reset the password: store nothing, send no reply and hang up. Samba's programs (smbpasswd,
+ *   pdbedit, smbd) know nothing of that lock and write in place: see that none of them writes at
+ *   the same time. A hash is as good as its password: let nobody but the authenticator read the
+ *   file, or the new one.
  *
  * LINKING
  *   `make lib` writes libmschap.a, libmschap.so, this header and mschap.pc below target/mschap, for
@@ -389,8 +397,10 @@ uint32_t mschap_read_record(const mschap_record *record, size_t record_size,
 /* Looks an account up by the exact bytes of its name, in one pass over the whole file. Writes the
    record, which mschap_step takes as it is, and into *offset where the name's line starts. For a
    name on no line that is the record of no account, without MSCHAP_FOUND, and 0. The time grows
-   with the file. It does not tell where the line is, nor how much of a name is right; but a name
-   on a line takes longer than one on none, by less than a microsecond.
+   with the file. It does not tell where the line is, nor how much of a name is right. But it tells
+   how many names in the file have as many bytes as the one sought, since the bytes are compared
+   only where the lengths are equal (see host/timing.c); and a name on a line takes longer than one
+   on none, by less than a microsecond.
    Returns MSCHAP_OK; MSCHAP_BAD_ARGUMENT unless record is MSCHAP_RECORD_SIZE bytes;
    MSCHAP_BAD_LINE for a line of another form, of any name, even behind the name's line; else
    MSCHAP_DOUBLED_NAME. With these two *offset is where the first such line starts; record is

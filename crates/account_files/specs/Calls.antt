@@ -23,19 +23,16 @@ pub record FindCall (file name : List ℕ) (now maxAge : ℕ) (out : List ℕ) (
 
 -- ---- written back
 
--- 103: the name is on no line
-abbrev pub writeNumber : Place → ℕ
-writeNumber Nowhere = 103
-writeNumber (Line at) = 0
-writeNumber (Doubled at) = 15
-writeNumber (Malformed at) = 14
-
 -- whether a place has an offset
 abbrev pub isSomewhere : Place → Bool
 isSomewhere Nowhere = false
 isSomewhere (Line at) = true
 isSomewhere (Doubled at) = true
 isSomewhere (Malformed at) = true
+
+-- 103: the name is on no line
+abbrev pub writeNumber : Place → ℕ
+writeNumber p = cond (isSomewhere p) (placeRefusal p) 103
 
 -- a valid record, and one of an account
 abbrev pub isStorable : List ℕ → Bool

@@ -8,7 +8,7 @@ use layouts::is_encoded_record;
 use layouts::put_record;
 use smbpasswd::Place;
 ghost use mathlib.Core.Path.{_≡_};
-ghost use Rattle.account_files.specs.Calls.{writeNumber, FindCall, WriteCall, CountCall};
+ghost use Rattle.account_files.specs.Calls.{isSomewhere, FindCall, WriteCall, CountCall};
 ghost use Rattle.account_files.specs.Inner.{AccountCall};
 
 // ---- looked up
@@ -37,15 +37,15 @@ pub fn find_account(
 
 // ---- written back
 
-// The number of a place to which a record was to be written: 103 where there is no such account.
-fn write_number(place: Place) -> u32
-    ensures { λ r. ⌜ r ≡ writeNumber place ⌝ }
+// Whether a place has an offset.
+fn is_somewhere(place: Place) -> bool
+    ensures { λ r. ⌜ r ≡ isSomewhere place ⌝ }
 {
     match place {
-        Place::Nowhere => 103,
-        Place::Line(_) => 0,
-        Place::Doubled(_) => 15,
-        Place::Malformed(_) => 14,
+        Place::Nowhere => false,
+        Place::Line(_) => true,
+        Place::Doubled(_) => true,
+        Place::Malformed(_) => true,
     }
 }
 
@@ -60,12 +60,11 @@ fn write_back(
         (now (offset .entry)) r (now (file .exit)) (now (offset .exit)) ⌝ }
 {
     let place = smbpasswd::write_back(file, name, account, present);
-    let number = write_number(place);
-    if number == 103 {
-        return number;
+    if !is_somewhere(place) {
+        return 103;
     }
     *offset = smbpasswd::offset_of(place);
-    number
+    smbpasswd::refusal_of(place) as u32
 }
 
 // Writes a record back into the line of its name. 102: it is the record of no account.

@@ -9,7 +9,7 @@ use native.Mathlib.Omega.{arith}
 use borrow.Author.Tests.{lt-ltb, le-ltb, ltb-true, ltb-false}
 use lib.Dec.{eqb, ltb}
 use lib.ListN.{length, take, drop, length-take, length-drop}
-use lib.Seq.{take-take, take-add, drop-drop, drop-at, length-take-le}
+use lib.Seq.{take-take, drop-drop}
 use Rattle.octets.specs.Parts.{part}
 use Rattle.octets.proofs.Parts.{drop-take}
 use Rattle.octets.proofs.Split.{place, held, take-place, drop-place}

@@ -1,13 +1,11 @@
 -- The record that an accepted change hands out, written back into the account file and looked up
--- again, lets the new password in; and the wrong ways to write it back of which that is not so.
+-- again, lets the new password in.
 -- Assumes nothing.
-use mathlib.Core.Bool.{Bool, true, false, not, _&&_, and-false}
-use mathlib.Core.List.{List, _∷_, _++_}
+use mathlib.Core.Bool.{Bool, false}
+use mathlib.Core.List.{List, _++_}
 use mathlib.Core.Path.{_≡_, refl, sym, ap, ap₂, _∙_, subst}
-use Prim.Native.Nat.{ℕ, zero, suc, _-_, _≤_, _<_, _^_}
+use Prim.Native.Nat.{ℕ, zero, suc, _≤_, _<_, _^_}
 use native.Mathlib.Omega.{arith}
-use borrow.Author.Tests.{eq-eqb, lt-ltb, le-ltb}
-use lib.Dec.{eqb, ltb}
 use lib.ListN.{length, getD, replicate}
 use Rattle.credentials.specs.Credentials.{ntHashOf}
 use Rattle.credentials.proofs.Laws.{length-nt, octets-nt}
@@ -23,38 +21,20 @@ use Rattle.smbpasswd.specs.Record.{hasFlag, isExpired, accountIn}
 use Rattle.smbpasswd.specs.File.{placeOf, lineAt, lookupAt, findIn}
 use Rattle.smbpasswd.specs.Write.{writtenIn}
 use Rattle.smbpasswd.specs.declared.Found.{Found}
-use Rattle.smbpasswd.specs.declared.Place.{Place}
 use Rattle.smbpasswd.specs.declared.Place.the-variants.{Line}
-use Rattle.smbpasswd.proofs.ChangedLine.{IsHash, kept}
-use Rattle.smbpasswd.proofs.ReadBack.{read-back}
-use Rattle.series.specs.Course.{collect, Along}
-use Rattle.series.specs.Series.{invalid, right, passwordChange, ExchangeInput, Step, ours, other}
-use Rattle.series.specs.Series.{PacketKind, PasswordChange, packetKinds, plan, SeriesState, start, exchange}
+use Rattle.smbpasswd.proofs.ChangedLine.{IsHash}
+use Rattle.smbpasswd.proofs.ReadBack.{read-back, others-same}
+use Rattle.series.specs.Course.{collect}
+use Rattle.series.specs.Series.{invalid, right, passwordChange, Step, ours, other}
+use Rattle.series.specs.Series.{PacketKind, packetKinds, plan, SeriesState, start, exchange}
 use Rattle.series.specs.Series.{next, judgedAt, Allowed, LetsIn}
 use Rattle.series.specs.Boxes.{ourBox}
 use Rattle.series.specs.Writers.{ourWriter}
-use Rattle.series.specs.AccountFile.{ourFileWriter, InForce, flagX, zeroTime, future, young, again, KeptBy, KeptAt, KeptInFile}
+use Rattle.series.specs.AccountFile.{ourFileWriter, aged, again, KeptAt, KeptInFile}
 use Rattle.series.proofs.Invariant.{Invariant, whole}
 use Rattle.series.proofs.Faithful.{opened-faithful}
 use Rattle.series.proofs.Ready.{FitIn, fit-plan, opened-in-step}
 use Rattle.series.proofs.Demand3.{Ready, law, change-updated, lets-in}
-
--- ---- in force
-
--- by the three exceptions, or by the age
-in-force : (never : Bool) (changedAt later maxAge : ℕ) → InForce never changedAt later maxAge
-    → isExpired later maxAge never changedAt ≡ false
-in-force never t later maxAge (flagX e) =
-    ap (λ (b : Bool). not b && (not (eqb t 0) && (not (ltb later t) && ltb maxAge (later - t)))) e
-in-force never t later maxAge (zeroTime e) =
-    ap (λ (b : Bool). not never && (not b && (not (ltb later t) && ltb maxAge (later - t)))) (eq-eqb t 0 e) ∙ and-false (not never)
-in-force never t later maxAge (future h) =
-    ap (λ (b : Bool). not never && (not (eqb t 0) && (not b && ltb maxAge (later - t)))) (lt-ltb later t h)
-    ∙ ap (λ (b : Bool). not never && b) (and-false (not (eqb t 0))) ∙ and-false (not never)
-in-force never t later maxAge (young h) =
-    ap (λ (b : Bool). not never && (not (eqb t 0) && (not (ltb later t) && b))) (le-ltb maxAge (later - t) h)
-    ∙ ap (λ (b : Bool). not never && (not (eqb t 0) && b)) (and-false (not (ltb later t)))
-    ∙ ap (λ (b : Bool). not never && b) (and-false (not (eqb t 0))) ∙ and-false (not never)
 
 -- ---- the record that is found again
 
@@ -90,16 +70,19 @@ no-is-hash = record { long = refl; octets = zeros 16 }
     zeros (suc n) (suc i) = zeros n i
 
 module _ (name file : List ℕ) (a : Account) (new : List ℕ) (at changedAt later maxAge : ℕ) (f : FromLine a (lineAt at file))
-    (p : placeOf name file ≡ Line at) (small : changedAt < 2 ^ 32)
-    (force : InForce (hasFlag letterX (field 4 (lineAt at file))) changedAt later maxAge) where
-  pub found-again : again ourFileWriter name file (found (changed a (ntHashOf new))) changedAt later maxAge ≡ found (changed a (ntHashOf new))
+    (p : placeOf name file ≡ Line at) (small : changedAt < 2 ^ 32) where
+  abbrev expired : Bool
+  expired = isExpired later maxAge (hasFlag letterX (field 4 (lineAt at file))) changedAt
+
+  pub found-again : again ourFileWriter name file (found (changed a (ntHashOf new))) changedAt later maxAge ≡ aged expired (found (changed a (ntHashOf new)))
   found-again =
-      let l = lineAt at file in
       ap (λ (x : Found). x .lookup) (read-back name (changed a (ntHashOf new)) changedAt file no-is-hash (nt-is-hash new) at p small later maxAge)
-      ∙ ap (λ (e : Bool). found (accountWith (hashOf (ntHashOf new)) noHash (hasFlag letterD (field 4 l)) false false e))
-      (in-force (hasFlag letterX (field 4 l)) changedAt later maxAge force)
-      ∙ ap (λ (d : Bool). found (accountWith (hashOf (ntHashOf new)) noHash d false false false)) (sym (f .disabled))
-      ∙ ap₂ (λ (h d : Bool). found (accountWith (hashOf (ntHashOf new)) noHash (a .disabled) h d false)) (sym (f .hours)) (sym (f .dialin))
+      ∙ ap (λ (d : Bool). found (accountWith (hashOf (ntHashOf new)) noHash d false false expired)) (sym (f .disabled))
+      ∙ ap₂ (λ (h d : Bool). found (accountWith (hashOf (ntHashOf new)) noHash (a .disabled) h d expired)) (sym (f .hours)) (sym (f .dialin))
+
+  -- not expired, it is the record that was handed out
+  pub in-force : expired ≡ false → again ourFileWriter name file (found (changed a (ntHashOf new))) changedAt later maxAge ≡ found (changed a (ntHashOf new))
+  in-force e = found-again ∙ ap (λ (t : Bool). aged t (found (changed a (ntHashOf new)))) e
 
 -- ---- along a series
 
@@ -109,16 +92,20 @@ module _ (name file : List ℕ) (now maxAge : ℕ) (a : Account) (e : findIn now
   kept-at due p (other s) r h = tt
   kept-at due p (ours (invalid w n) l) r h = tt
   kept-at due p (ours (right w n) l) r h = tt
-  kept-at due p (ours (passwordChange old new filler) l) r h = λ at changedAt later maxAge′ there small force.
+  kept-at due p (ours (passwordChange old new filler) l) r h = λ at changedAt later maxAge′ there small.
       let updated = change-updated a g due p old new filler l r h in
       let n = changed-rightful a (ntHashOf new) g in
-      let same = found-again name file a new at changedAt later maxAge′ (from-line now maxAge name file a at e there) there small force in
+      let line = from-line now maxAge name file a at e there in
       let x = exchange stepOn ourWriter p (passwordChange old new filler) l .outcome .answer .updated in
-      let back : again ourFileWriter name file x changedAt later maxAge′ ≡ x =
-      ap (λ (u : Lookup). again ourFileWriter name file u changedAt later maxAge′) updated ∙ same ∙ sym updated in (
-        back,
-        subst (λ (u : Lookup). LetsIn stepOn ourWriter (u .account) new) (sym (back ∙ updated))
-            (lets-in (changed a (ntHashOf new)) new (n .0) (n .1) (sym (n .2))),
+      let t = isExpired later maxAge′ (hasFlag letterX (field 4 (lineAt at file))) changedAt in
+      let moved = ap (λ (u : Lookup). again ourFileWriter name file u changedAt later maxAge′) updated in (
+        moved ∙ found-again name file a new at changedAt later maxAge′ line there small ∙ ap (aged t) (sym updated),
+        (λ z. subst (λ (u : Lookup). LetsIn stepOn ourWriter (u .account) new)
+            (sym (moved ∙ in-force name file a new at changedAt later maxAge′ line there small z))
+            (lets-in (changed a (ntHashOf new)) new (n .0) (n .1) (sym (n .2)))),
+        (λ another m.
+            ap (λ (u : Lookup). findIn later maxAge′ another (writtenIn name (u .account) changedAt file)) updated
+            ∙ others-same name (changed a (ntHashOf new)) changedAt file no-is-hash (nt-is-hash new) another m later maxAge′),
       )
 
   invariant : Invariant (next stepOn ourWriter) packetKinds (judgedAt stepOn ourWriter) (Allowed stepOn ourWriter a)

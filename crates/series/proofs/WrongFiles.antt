@@ -1,11 +1,12 @@
--- The premises of the claim about the account file can be met, and three wrong ways to write a record
--- back do not meet it: one that writes nothing, one that leaves the time of the last change, and one
--- that leaves the LM hash of the old password.
+-- The premises of the claim about the account file can be met, and five wrong ways to write a record
+-- back do not meet it: one that writes nothing, one that leaves the time of the last change, one
+-- that writes 0 for it, one that leaves the LM hash of the old password, and one that loses the
+-- other accounts.
 -- Assumes nothing.
-use mathlib.Core.Bool.{true, false, true≢false}
+use mathlib.Core.Bool.{Bool, true, false, true≢false}
 use mathlib.Core.List.{List, [], _∷_, _++_}
 use mathlib.Core.Path.{_≡_, refl, sym, ap, _∙_}
-use Prim.Native.Nat.{ℕ}
+use Prim.Native.Nat.{ℕ, _<_, _^_}
 use native.Mathlib.Omega.{arith}
 use lib.ListN.{replicate}
 use Rattle.octets.specs.Digits.{digitOf, hexOf}
@@ -13,20 +14,21 @@ use Rattle.octets.specs.Parts.{agrees}
 use Rattle.blocks.specs.Blocks.{runBlocks, zeros, padded, hashBlocks}
 use Rattle.md4.specs.Md4.{operation, operations, table1, table2, table3, round1, round2, round3, increased, wordsOf, block, initialRegisters, digestOf, md4Of}
 use Rattle.credentials.specs.Credentials.{ntHashOf}
-use Rattle.accounts.specs.Account.{hashOf, accountWith, found, changed, notFound, Rightful}
+use Rattle.accounts.specs.Account.{noHash, hashOf, accountWith, found, changed, notFound, Rightful}
 use Rattle.accounts.specs.declared.Account.{Account}
 use Rattle.accounts.specs.declared.Lookup.{Lookup}
 use Rattle.authenticator.specs.declared.Retries.the-variants.{Default}
 use Rattle.smbpasswd.specs.Line.{colon, isAccount}
-use Rattle.smbpasswd.specs.Record.{accountIn}
+use Rattle.smbpasswd.specs.Record.{isExpired, accountIn}
 use Rattle.smbpasswd.specs.File.{lines, placeOf, findIn}
-use Rattle.smbpasswd.specs.Write.{hashText, timeText, writtenIn}
+use Rattle.smbpasswd.specs.Write.{hashText, timeText, changedLine, writtenIn}
+use Rattle.smbpasswd.specs.declared.Found.{Found}
 use Rattle.smbpasswd.specs.declared.Place.the-variants.{Line}
 use Rattle.series.specs.Course.{Along}
 use Rattle.series.specs.Series.{right, Step, ours, PasswordChange, SeriesState, start, exchange, next, Allowed}
 use Rattle.series.specs.Boxes.{ourBox}
 use Rattle.series.specs.Writers.{ourWriter}
-use Rattle.series.specs.AccountFile.{FileWriter, keepingTime, keepingLm, notWriting, young, again, KeptAt, KeptInFile}
+use Rattle.series.specs.AccountFile.{FileWriter, keepingTime, writingZero, keepingLm, losingOthers, notWriting, aged, again, KeptAt, KeptInFile}
 use Rattle.series.proofs.Sample.{opening, opens-default, old, new, user, line, newPassword, change, try-within, change-allowed}
 use Rattle.series.proofs.Demand3.{law, change-updated}
 use Rattle.series.proofs.AccountFile.{ready-first, kept-in-file}
@@ -44,11 +46,17 @@ newHash = 0x65 ∷ 0xde ∷ 0x9a ∷ 0xde ∷ 0x0b ∷ 0xbd ∷ 0xa2 ∷ 0xaf �
 abbrev account : Account
 account = accountWith (hashOf oldHash) (hashOf (replicate 16 1)) false false false true
 
--- u:1:01..01:FC..AC:[U          ]:LCT-00000001: and LF
+-- u:1:01..01:FC..AC:[U          ]:LCT-00000001: and a line for v, who has no hash
+abbrev flagsAndTime : List ℕ
+flagsAndTime = 91 ∷ 85 ∷ (replicate 10 32 ++ 93 ∷ colon ∷ (timeText 1 ++ colon ∷ 10 ∷ []))
+
+abbrev another : List ℕ
+another = 118 ∷ []
+
 abbrev pub file : List ℕ
 file =
-    user ++ colon ∷ (49 ∷ colon ∷ (hashText (hashOf (replicate 16 1)) ++ colon ∷ (hashText (hashOf oldHash) ++ colon ∷ (91 ∷ 85 ∷ (replicate 10 32
-    ++ 93 ∷ colon ∷ (timeText 1 ++ colon ∷ 10 ∷ []))))))
+    user ++ colon ∷ (49 ∷ colon ∷ (hashText (hashOf (replicate 16 1)) ++ colon ∷ (hashText (hashOf oldHash) ++ colon ∷ flagsAndTime)))
+    ++ another ++ colon ∷ (50 ∷ colon ∷ (hashText noHash ++ colon ∷ (hashText noHash ++ colon ∷ flagsAndTime)))
 
 pub in-file : findIn 1000 0 user file .lookup ≡ found account
 unfolding findIn placeOf lines isAccount accountIn agrees digitOf hexOf
@@ -104,37 +112,66 @@ series write claim =
     claim user file 1000 0 account in-file (opening Default) opens-default refl 0 [] (first ∷ change notFound ∷ []) rightful (omega arith) refl
     (first-allowed, (change-is-allowed, tt))
 
--- its premises can be met: ours keeps the change of this series, in a file that is looked up at the
--- time of the change with no age allowed
+-- its premises can be met: ours keeps the change of this series
 pub kept : KeptAt ourBox ourWriter writtenIn user file second (change notFound)
 kept = series writtenIn kept-in-file .1 .0
 
 -- ---- wrong ways
 
--- what is found at the time of the change is what was handed out
-must-keep : (write : FileWriter) → KeptInFile ourBox ourWriter write → again write user file handedOut 1000 1000 0 ≡ handedOut
-must-keep write claim =
-    let x = exchange ourBox ourWriter second newPassword (line 1118 notFound) .outcome .answer .updated in
-    let back = series write claim .1 .0 0 1000 1000 0 on-line (omega arith) (young (omega arith)) .0 in
-    ap (λ (u : Lookup). again write user file u 1000 1000 0) (sym handed-out) ∙ back ∙ handed-out
+module _ (write : FileWriter) (claim : KeptInFile ourBox ourWriter write) where
+  -- changed at one time and looked up at another, what is found is what was handed out, expired or
+  -- not
+  must-keep : (changedAt later : ℕ) → changedAt < 2 ^ 32
+      → again write user file handedOut changedAt later 0 ≡ aged (isExpired later 0 false changedAt) handedOut
+  unfolding hexOf
+  must-keep t later small =
+      let back = series write claim .1 .0 0 t later 0 on-line small .0 in
+      ap (λ (u : Lookup). again write user file u t later 0) (sym handed-out) ∙ back ∙ ap (aged (isExpired later 0 false t)) handed-out
 
-still-expired : again keepingTime user file handedOut 1000 1000 0 .account .expired ≡ true
+  -- and the other account is still found
+  must-keep-others : findIn 1000 0 another (write user (handedOut .account) 1000 file) ≡ findIn 1000 0 another file
+  unfolding agrees
+  must-keep-others =
+      ap (λ (u : Lookup). findIn 1000 0 another (write user (u .account) 1000 file)) (sym handed-out)
+      ∙ series write claim .1 .0 0 1000 1000 0 on-line (omega arith) .2 another refl
+
+abbrev isOld : Lookup → Bool
+isOld l = l .account .expired
+
+-- writes nothing: the old password stays, and is expired
+pub not-not-writing : KeptInFile ourBox ourWriter notWriting → ⊥
+not-not-writing claim = true≢false (sym (ap isOld in-file) ∙ ap isOld (must-keep notWriting claim 1000 1000 (omega arith)))
+
+-- leaves the time: the user is asked for a new password for ever
+still-expired : isOld (again keepingTime user file handedOut 1000 1000 0) ≡ true
 unfolding findIn placeOf lines isAccount accountIn agrees digitOf hexOf
 still-expired = refl
 
+pub not-keeping-time : KeptInFile ourBox ourWriter keepingTime → ⊥
+not-keeping-time claim = true≢false (sym still-expired ∙ ap isOld (must-keep keepingTime claim 1000 1000 (omega arith)))
+
+-- writes 0: changed at 1 and looked up at 1000, it should be expired
+never-expired : isOld (again writingZero user file handedOut 1 1000 0) ≡ false
+unfolding writtenIn changedLine findIn placeOf lines isAccount accountIn agrees digitOf hexOf
+never-expired = refl
+
+pub not-writing-zero : KeptInFile ourBox ourWriter writingZero → ⊥
+not-writing-zero claim = true≢false (sym (ap isOld (must-keep writingZero claim 1 1000 (omega arith))) ∙ never-expired)
+
+-- leaves the LM hash: where LM is allowed, the old password still gets in
 still-lm : again keepingLm user file handedOut 1000 1000 0 .account .lm .present ≡ true
 unfolding findIn placeOf lines isAccount accountIn agrees digitOf hexOf
 still-lm = refl
 
--- writes nothing: the old password stays, and is expired
-pub not-not-writing : KeptInFile ourBox ourWriter notWriting → ⊥
-not-not-writing claim =
-    true≢false (sym (ap (λ (l : Lookup). l .account .expired) in-file) ∙ ap (λ (l : Lookup). l .account .expired) (must-keep notWriting claim))
-
--- leaves the time: the user is asked for a new password for ever
-pub not-keeping-time : KeptInFile ourBox ourWriter keepingTime → ⊥
-not-keeping-time claim = true≢false (sym still-expired ∙ ap (λ (l : Lookup). l .account .expired) (must-keep keepingTime claim))
-
--- leaves the LM hash: where LM is allowed, the old password still gets in
 pub not-keeping-lm : KeptInFile ourBox ourWriter keepingLm → ⊥
-not-keeping-lm claim = true≢false (sym still-lm ∙ ap (λ (l : Lookup). l .account .lm .present) (must-keep keepingLm claim))
+not-keeping-lm claim =
+    true≢false (sym still-lm ∙ ap (λ (l : Lookup). l .account .lm .present) (must-keep keepingLm claim 1000 1000 (omega arith)))
+
+-- loses the others: v is not found any more
+lost : (findIn 1000 0 another (losingOthers user (handedOut .account) 1000 file) .lookup .found ≡ false) × (findIn 1000 0 another file .lookup .found ≡ true)
+unfolding changedLine findIn placeOf lines isAccount accountIn agrees digitOf hexOf
+lost = (refl, refl)
+
+pub not-losing-others : KeptInFile ourBox ourWriter losingOthers → ⊥
+not-losing-others claim =
+    true≢false (sym (lost .1) ∙ sym (ap (λ (x : Found). x .lookup .found) (must-keep-others losingOthers claim)) ∙ lost .0)

@@ -1,21 +1,23 @@
 -- The box and an account file together (document 02, request 2026-02): the record that an accepted
 -- change hands out is written back into the file, and looked up again for a later conversation. It
--- is said of any way to write a record back, so that it can be shown which ones the claim shuts out.
+-- is said of any way to write a record back, so that it can be shown which ones the claim shuts
+-- out.
 -- Assumes nothing: these are definitions.
-use mathlib.Core.Bool.{Bool, true, cond}
+use mathlib.Core.Bool.{Bool, false}
 use mathlib.Core.List.{List, _∷_, _++_}
 use mathlib.Core.Path.{_≡_}
-use Prim.Native.Nat.{ℕ, _+_, _-_, _≤_, _<_, _^_}
+use Prim.Native.Nat.{ℕ, _≤_, _<_, _^_}
 use lib.ListN.{length}
-use Rattle.accounts.specs.Account.{found, Rightful}
+use Rattle.octets.specs.Parts.{agrees}
+use Rattle.accounts.specs.Account.{accountWith, lookupOf, found, Rightful}
 use Rattle.accounts.specs.declared.Account.{Account}
 use Rattle.accounts.specs.declared.Lookup.{Lookup}
 use Rattle.authenticator.specs.Opening.{Opening, retriesOf, opened}
 use Rattle.authenticator.specs.Steps.{Box}
-use Rattle.smbpasswd.specs.Line.{colon, lct, letterX, field, fromField}
-use Rattle.smbpasswd.specs.Record.{hasFlag}
+use Rattle.smbpasswd.specs.Line.{colon, letterX, field, fromField}
+use Rattle.smbpasswd.specs.Record.{hasFlag, isExpired}
 use Rattle.smbpasswd.specs.File.{placeOf, lineAt, findIn}
-use Rattle.smbpasswd.specs.Write.{hashText, timeText, withLine, writtenIn}
+use Rattle.smbpasswd.specs.Write.{hashText, timeText, changedLine, withLine, writtenIn}
 use Rattle.smbpasswd.specs.declared.Place.{Place}
 use Rattle.smbpasswd.specs.declared.Place.the-variants.{Nowhere, Line, Doubled, Malformed}
 use Rattle.series.specs.Course.{collect, Along}
@@ -46,6 +48,10 @@ keepingTime name a now file =
     changedBy (λ l. field 0 l ++ colon ∷ (field 1 l ++ colon ∷ (hashText (a .lm)
     ++ colon ∷ (hashText (a .nt) ++ colon ∷ fromField 4 l)))) file (placeOf name file)
 
+-- writes 0 for the time, so that the password never expires
+abbrev pub writingZero : FileWriter
+writingZero name a now file = writtenIn name a 0 file
+
 -- leaves the LM hash of the old password
 abbrev pub keepingLm : FileWriter
 keepingLm name a now file =
@@ -53,19 +59,27 @@ keepingLm name a now file =
     (a .nt) ++ colon ∷ (field 4 l ++ colon ∷ (timeText now ++ colon ∷ fromField 6 l)))))) file
     (placeOf name file)
 
+-- leaves the account's own line alone in the file
+abbrev pub aloneAt : Account → ℕ → List ℕ → Place → List ℕ
+aloneAt a now file Nowhere = file
+aloneAt a now file (Line at) = changedLine a now (lineAt at file)
+aloneAt a now file (Doubled at) = file
+aloneAt a now file (Malformed at) = file
+
+abbrev pub losingOthers : FileWriter
+losingOthers name a now file = aloneAt a now file (placeOf name file)
+
 -- writes nothing
 abbrev pub notWriting : FileWriter
 notWriting name a now file = file
 
 -- ---- the claim
 
--- When a password that was changed at one time is not expired at a later look: "unless the flag X
--- is there, LCT is zero or LCT lies in the future", or the age is not more than the maximum.
-pub data InForce (never : Bool) (changedAt later maxAge : ℕ) : Type 0 where
-  flagX : never ≡ true → InForce never changedAt later maxAge
-  zeroTime : changedAt ≡ 0 → InForce never changedAt later maxAge
-  future : later < changedAt → InForce never changedAt later maxAge
-  young : later - changedAt ≤ maxAge → InForce never changedAt later maxAge
+-- the same record, expired or not
+abbrev pub aged : Bool → Lookup → Lookup
+aged expired l =
+    lookupOf (l .found) (accountWith (l .account .nt) (l .account .lm) (l .account .disabled)
+    (l .account .«hours_denied») (l .account .«dialin_denied») expired)
 
 -- what is found in a file after a record was written back
 abbrev pub again : FileWriter → List ℕ → List ℕ → Lookup → ℕ → ℕ → ℕ → Lookup
@@ -73,17 +87,24 @@ again write name file updated changedAt later maxAge =
     findIn later maxAge name (write name (updated .account) changedAt file) .lookup
 
 module _ (box : Box) (writer : Writer) (write : FileWriter) (name file : List ℕ) where
-  -- The record that a change hands out, written back at any time and looked up at any other where
-  -- the password is in force, is found as it was handed out, and lets the new password in at the
-  -- first Response of a later conversation.
+  -- The record that a change hands out, written back at any time and looked up at any other, with
+  -- any maximum age: it is found as it was handed out, and expired exactly by the request's rule
+  -- for a password that was changed at that time (the flag X of its line, a time of zero or in the
+  -- future, the maximum age). Where it is not expired, it lets the new password in at the first
+  -- Response of a later conversation. Every other name is answered as before.
   abbrev pub KeptBy : Exchange → List ℕ → Type 0
   KeptBy x new =
       (at changedAt later maxAge : ℕ) → placeOf name file ≡ Line at → changedAt < 2 ^ 32
-      → InForce (hasFlag letterX (field 4 (lineAt at file))) changedAt later maxAge
       → (again write name file (x .outcome .answer .updated) changedAt later maxAge
-      ≡ x .outcome .answer .updated)
-      × LetsIn box writer
-      (again write name file (x .outcome .answer .updated) changedAt later maxAge .account) new
+      ≡ aged (isExpired later maxAge (hasFlag letterX (field 4 (lineAt at file))) changedAt)
+      (x .outcome .answer .updated))
+      × (isExpired later maxAge (hasFlag letterX (field 4 (lineAt at file))) changedAt ≡ false
+      → LetsIn box writer
+      (again write name file (x .outcome .answer .updated) changedAt later maxAge .account) new)
+      × ((another : List ℕ) → agrees another name ≡ false
+      → findIn later maxAge another
+      (write name (x .outcome .answer .updated .account) changedAt file)
+      ≡ findIn later maxAge another file)
 
   abbrev pub KeptAt : SeriesState → Step → Type 0
   KeptAt p (ours (invalid w n) l) = Unit {0}

@@ -11,13 +11,9 @@ fn show_number(letter: u8, n: u64) {
 
 // Each octet as two upper-case hexadecimal digits.
 fn show_octets(octets: [u8; 8]) {
-    let mut i: usize = 0;
-    while i < 8 {
-        let octet = octets[i];
-        let digits = [octets::hex_digit(octet / 16), octets::hex_digit(octet)];
-        io::write_all(1, &digits);
-        i += 1;
-    }
+    let mut digits = [0u8; 16];
+    octets::encode_hex(&octets, &mut digits);
+    io::write_all(1, &digits);
 }
 
 // The line of C: its digits, or '-' where it is not given.

@@ -1,7 +1,7 @@
 -- A file in which one line gave way to another of the same length: its lines are the same but for
 -- that one.
 -- Assumes nothing.
-use mathlib.Core.Bool.{Bool, true, false, cond, not, _||_}
+use mathlib.Core.Bool.{Bool, true, false, cond, _||_}
 use mathlib.Core.List.{List, [], _∷_, _++_, map, append-assoc, append-nil}
 use mathlib.Core.Logic.{_⊎_, inl, inr}
 use mathlib.Core.Path.{_≡_, refl, sym, ap, ap₂, _∙_, subst}
@@ -9,16 +9,15 @@ use Prim.Native.Nat.{ℕ, zero, suc, _+_, _-_, _≤_, _<_}
 use native.Mathlib.Omega.{arith}
 use borrow.Author.Tests.{eq-eqb, ne-eqb, eqb-true, eqb-false, ltb-true, ltb-false}
 use lib.Dec.{eqb, ltb}
-use lib.ListN.{length, take, drop, length-append, length-drop, take-append-drop}
+use lib.ListN.{length, take, drop, length-append, length-drop}
 use lib.Seq.{take-at, drop-at, drop-drop, drop-append-le, length-take-le}
 use Rattle.octets.specs.Split.{holds, before, behind}
 use Rattle.octets.proofs.Parts.{drop-take}
-use Rattle.octets.proofs.Split.{place, cut, whole, before-free}
+use Rattle.octets.proofs.Split.{place, cut, whole}
 use Rattle.smbpasswd.specs.Line.{lf}
 use Rattle.smbpasswd.specs.File.{lines, Placed, placedFrom, select, lineAt}
 use Rattle.smbpasswd.specs.Write.{withLine}
 use Rattle.smbpasswd.proofs.LineLaws.{next, placedAt, placed-step, placed-end, All, Stands, line-le}
-use Rattle.smbpasswd.proofs.Writing.{line-split}
 
 -- ---- offsets
 

@@ -1,28 +1,28 @@
 -- The line with a record written into it: its fields, its form, and what is read in it.
 -- Assumes nothing.
-use mathlib.Core.Bool.{Bool, true, false, cond, not, _&&_, _||_, false≢true, and-eq-true-iff}
+use mathlib.Core.Bool.{Bool, true, false, cond, _&&_, _||_, false≢true}
 use mathlib.Core.List.{List, [], _∷_, _++_, map}
-use mathlib.Core.Path.{_≡_, refl, sym, ap, ap₂, _∙_, subst}
-use Prim.Native.Nat.{ℕ, zero, suc, _+_, _-_, _*_, _/_, _%_, _≤_, _<_, _^_}
+use mathlib.Core.Path.{_≡_, refl, sym, ap, ap₂, _∙_}
+use Prim.Native.Nat.{ℕ, _+_, _-_, _/_, _%_, _≤_, _<_, _^_}
 use native.Mathlib.Omega.{arith}
 use borrow.Author.Tests.{ne-eqb, eq-eqb, lt-ltb, ltb-true, ltb-false, leb-true}
-use lib.Dec.{eqb, ltb, leb}
+use lib.Dec.{eqb, ltb}
 use lib.ListN.{length, take, drop, getD, replicate, length-append}
 use Rattle.octets.specs.Digits.{digitOf, hexOf, allBelow, pairs, hexText}
-use Rattle.octets.specs.Numbers.{toDigits, fromBe, toBe}
+use Rattle.octets.specs.Numbers.{fromBe, toBe}
 use Rattle.octets.specs.Parts.{agrees}
 use Rattle.octets.specs.Split.{holds, before, behind}
 use Rattle.octets.proofs.Digits.{digit-back}
 use Rattle.octets.proofs.HexText.{length-hex, hex-back}
 use Rattle.octets.proofs.Numbers.{Octets, fromBe-toBe, octets-toBe}
-use Rattle.octets.proofs.Split.{Cut, cut, before-free, holds-append}
+use Rattle.octets.proofs.Split.{cut, before-free, holds-append}
 use Rattle.accounts.specs.Account.{noHash, hashOf, accountWith}
 use Rattle.accounts.specs.declared.Account.{Account}
 use Rattle.accounts.specs.declared.Hash.{Hash}
-use Rattle.smbpasswd.specs.Line.{lf, numberSign, colon, letterD, letterX, lct, noPassword, begins, fromField, field, closed, isName, isAbsent, isHash, isFlags, isTime, isUid, isComment, isAccount}
+use Rattle.smbpasswd.specs.Line.{lf, numberSign, colon, letterD, letterX, noPassword, fromField, field, closed, isName, isAbsent, isHash, isFlags, isTime, isUid, isComment, isAccount}
 use Rattle.smbpasswd.specs.Record.{hashIn, hasFlag, timeIn, isExpired, accountIn}
 use Rattle.smbpasswd.specs.Write.{hashText, timeText, changedLine}
-use Rattle.smbpasswd.proofs.FieldLaws.{Form, form, of-form}
+use Rattle.smbpasswd.proofs.FieldLaws.{both, Form, of-form}
 use Rattle.smbpasswd.proofs.Writing.{lineOf, line-fields, hash-text-length, time-text-length}
 use Rattle.smbpasswd.proofs.Digits.{hash-length, time-digits}
 
@@ -42,7 +42,7 @@ hex-plain v h = by (ltb v 10) refl
     by true e = let k = ltb-true v 10 e in record { low = omega arith; high = omega arith; noColon = λ z. omega (arith, k, z) }
     by false e = let k = ltb-false v 10 e in record { low = omega arith; high = omega arith; noColon = λ z. omega (arith, k, z) }
 
--- a text of such octets has neither of the two
+-- a text of such digits does not hold an octet that none of them is
 hex-free : (c : ℕ) → ((v : ℕ) → v < 16 → hexOf v ≡ c → ⊥) → (l : List ℕ) → holds c (hexText l) ≡ false
 hex-free c avoid [] = refl
 hex-free c avoid (x ∷ l) =
@@ -181,9 +181,6 @@ lengths : (name uid lm nt flags time rest : List ℕ)
     → length (lineOf name uid lm nt flags time rest)
     ≡ length name + 1 + length uid + 1 + length lm + 1 + length nt + 1 + length flags + 1 + length time + 1 + length rest
 lengths name uid lm nt flags time rest = simp length-append (omega arith)
-
-both : {a b : Bool} → (a && b) ≡ true → (a ≡ true) × (b ≡ true)
-both {a} {b} e = and-eq-true-iff a b .0 e
 
 first : (x y : List ℕ) → 1 ≤ length x → getD (x ++ y) 0 0 ≡ getD x 0 0
 first [] y h = absurd (omega arith)

@@ -5,6 +5,7 @@ use mathlib.Core.List.{List, [], _∷_, map}
 use mathlib.Core.Path.{_≡_, refl, sym, ap, _∙_}
 use Prim.Native.Nat.{ℕ, _+_, _≤_, _<_}
 use native.Mathlib.Omega.{arith}
+use mir.Val.{boolByte}
 use lib.ListN.{length}
 use Rattle.octets.specs.Digits.{digitOf, pairs}
 use Rattle.accounts.specs.Account.{noHash, hashOf}
@@ -13,7 +14,7 @@ use Rattle.smbpasswd.specs.Line.{field, isAbsent, isComment, isAccount}
 use Rattle.smbpasswd.specs.Record.{accountIn}
 use Rattle.smbpasswd.specs.File.{lines, Placed, placedFrom, select, lineAt}
 use Rattle.smbpasswd.specs.Summary.{countsOf, noCounts}
-use Rattle.smbpasswd.specs.Inner.{oneIf, countLine, countLines, Within}
+use Rattle.smbpasswd.specs.Inner.{countLine, countLines, Within}
 use Rattle.smbpasswd.specs.declared.Counts.{Counts}
 use Rattle.smbpasswd.proofs.LineLaws.{next, placedAt, placed-step, placed-end}
 
@@ -28,11 +29,11 @@ passing test xs = length (select test (counts xs))
 
 -- a line more that is no comment
 line-more : (test : List ℕ → Bool) (n : ℕ) (x : Placed) (xs : List Placed) → isComment (x .line) ≡ false
-    → n + oneIf (test (x .line)) + passing test xs ≡ n + passing test (x ∷ xs)
+    → n + boolByte (test (x .line)) + passing test xs ≡ n + passing test (x ∷ xs)
 line-more test n x xs c = rw c (which (test (x .line)) refl)
   where
     which : (t : Bool) → test (x .line) ≡ t
-        → n + oneIf t + passing test xs ≡ n + length (cond t (x ∷ select test (counts xs)) (select test (counts xs)))
+        → n + boolByte t + passing test xs ≡ n + length (cond t (x ∷ select test (counts xs)) (select test (counts xs)))
     which true e = omega arith
     which false e = omega arith
 
@@ -80,10 +81,10 @@ module _ (now maxAge : ℕ) where
       after =
           record {
             lines = k .lines + 1;
-            bad = k .bad + oneIf (bad l);
-            disabled = k .disabled + oneIf (disabled l);
-            expired = k .expired + oneIf (expired l);
-            «no_nt» = k .«no_nt» + oneIf (noNt l);
+            bad = k .bad + boolByte (bad l);
+            disabled = k .disabled + boolByte (disabled l);
+            expired = k .expired + boolByte (expired l);
+            «no_nt» = k .«no_nt» + boolByte (noNt l);
           }
 
       which : (c : Bool) → isComment l ≡ c → ((j : Counts) → countLines now maxAge j xs ≡ added j xs)
@@ -113,7 +114,7 @@ module _ (now maxAge : ℕ) where
   -- ---- one line
 
   -- no count grows by more than one
-  one-le : (b : Bool) → oneIf b ≤ 1
+  one-le : (b : Bool) → boolByte b ≤ 1
   one-le true = omega arith
   one-le false = omega arith
 
@@ -124,10 +125,10 @@ module _ (now maxAge : ℕ) where
       which : (c : Bool)
           → Within (n + 1) (cond c k (record {
             lines = k .lines + 1;
-            bad = k .bad + oneIf (bad l);
-            disabled = k .disabled + oneIf (disabled l);
-            expired = k .expired + oneIf (expired l);
-            «no_nt» = k .«no_nt» + oneIf (noNt l);
+            bad = k .bad + boolByte (bad l);
+            disabled = k .disabled + boolByte (disabled l);
+            expired = k .expired + boolByte (expired l);
+            «no_nt» = k .«no_nt» + boolByte (noNt l);
           }))
       which true =
           record { lines = omega arith; bad = omega arith; disabled = omega arith; expired = omega arith; noNt = omega arith }
@@ -165,15 +166,15 @@ module _ (now maxAge : ℕ) where
           (record {
             lines = k .lines + 1;
             bad = k .bad;
-            disabled = k .disabled + oneIf d;
-            expired = k .expired + oneIf e;
-            «no_nt» = k .«no_nt» + oneIf n;
+            disabled = k .disabled + boolByte d;
+            expired = k .expired + boolByte e;
+            «no_nt» = k .«no_nt» + boolByte n;
           })
           (countLine now maxAge k l)
       unfolding countLine accountIn
       account-counted a ed ee en = rw (c, a)
-          (same refl (omega arith) (ap (λ (b : Bool). k .disabled + oneIf b) ed) (ap (λ (b : Bool). k .expired + oneIf b) ee)
-          (ap (λ (b : Bool). k .«no_nt» + oneIf b) (en ∙ absent (isAbsent (field 3 l)))))
+          (same refl (omega arith) (ap (λ (b : Bool). k .disabled + boolByte b) ed) (ap (λ (b : Bool). k .expired + boolByte b) ee)
+          (ap (λ (b : Bool). k .«no_nt» + boolByte b) (en ∙ absent (isAbsent (field 3 l)))))
         where
           absent : (b : Bool) → b ≡ not (cond {A = Hash} b noHash (hashOf (pairs (map digitOf (field 3 l)))) .present)
           absent true = refl

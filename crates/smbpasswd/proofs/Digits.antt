@@ -1,21 +1,18 @@
 -- The digits of a hash and of a time, as octets.
 -- Assumes nothing.
-use mathlib.Core.Bool.{Bool, true, false, cond, _&&_, _||_, and-eq-true-iff}
+use mathlib.Core.Bool.{Bool, true, false, cond, _||_}
 use mathlib.Core.List.{List, map}
-use mathlib.Core.Path.{_≡_, refl, sym, ap, _∙_}
+use mathlib.Core.Path.{_≡_, sym, ap, _∙_}
 use Prim.Native.Nat.{ℕ, _*_}
 use native.Mathlib.Omega.{arith}
 use borrow.Author.Tests.{eqb-true}
-use lib.Dec.{eqb}
-use lib.ListN.{length, drop, replicate, length-map, length-drop, length-replicate}
+use lib.ListN.{length, drop, replicate, length-map, length-replicate}
 use Rattle.octets.specs.Digits.{digitOf, allBelow, pairs}
 use Rattle.octets.specs.Parts.{over}
 use Rattle.octets.proofs.HexText.{length-pairs}
 use Rattle.octets.proofs.Laid.{filled}
 use Rattle.smbpasswd.specs.Line.{lct, begins, isAbsent, isHash, isTime}
-
-both : {a b : Bool} → (a && b) ≡ true → (a ≡ true) × (b ≡ true)
-both {a} {b} e = and-eq-true-iff a b .0 e
+use Rattle.smbpasswd.proofs.FieldLaws.{both}
 
 -- 2 * n digits, decoded into n octets
 pub decoded : (n : ℕ) (f : List ℕ) → length f ≡ 2 * n → allBelow 16 (map digitOf f) ≡ true

@@ -3,14 +3,14 @@
 use mathlib.Core.Bool.{Bool, true, false, _&&_, and-eq-true-iff}
 use mathlib.Core.List.{List}
 use mathlib.Core.Path.{_≡_, refl, sym, ap, ap₂, _∙_, subst}
-use Prim.Native.Nat.{ℕ, zero, suc, _+_, _-_, _≤_, _<_}
+use Prim.Native.Nat.{ℕ, zero, suc, _+_, _-_, _≤_}
 use native.Mathlib.Omega.{arith}
-use borrow.Author.Tests.{leb-true, leb-false, le-leb, lt-leb, lt-ltb, le-ltb}
+use borrow.Author.Tests.{leb-true, leb-false, le-leb, lt-ltb, le-ltb}
 use lib.Dec.{leb, ltb}
 use lib.ListN.{length, drop, length-drop}
 use lib.Seq.{drop-drop}
 use Rattle.octets.specs.Split.{holds, before, behind}
-use Rattle.octets.proofs.Split.{place, held, drop-place, place-le}
+use Rattle.octets.proofs.Split.{held, drop-place, place-le}
 use Rattle.smbpasswd.specs.Line.{colon, fromField, field, closed, isName, isUid, isHash, isFlags, isTime, isAccount}
 use Rattle.smbpasswd.specs.Inner.{fieldAt, column, columnsOf}
 use Rattle.smbpasswd.specs.declared.lines.Columns.{Columns}
@@ -111,7 +111,7 @@ pub record Form (l : List ℕ) : Type 0 where
   pub flags : isFlags (field 4 l) ≡ true
   pub time : isTime (field 5 l) ≡ true
 
-both : {a b : Bool} → (a && b) ≡ true → (a ≡ true) × (b ≡ true)
+pub both : {a b : Bool} → (a && b) ≡ true → (a ≡ true) × (b ≡ true)
 both {a} {b} e = and-eq-true-iff a b .0 e
 
 pub form : (l : List ℕ) → isAccount l ≡ true → Form l

@@ -16,7 +16,6 @@ use Rattle.smbpasswd.specs.Summary.{space, isNumber, valueOf, isHead, lo
 use Rattle.smbpasswd.specs.Inner.{numberIn}
 use Rattle.smbpasswd.specs.declared.Counts.{Counts}
 use Rattle.smbpasswd.specs.declared.Summary.{Summary}
-use Rattle.smbpasswd.specs.declared.summaries.Number.{Number}
 use Rattle.smbpasswd.specs.declared.summaries.Number.the-variants.{Value, NoNumber}
 
 -- ---- a number, by what was read

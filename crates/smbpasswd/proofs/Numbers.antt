@@ -1,8 +1,8 @@
 -- A decimal number of 32 bits, digit by digit.
 -- Assumes nothing.
-use mathlib.Core.Bool.{Bool, true, false, cond, _&&_, and-false}
+use mathlib.Core.Bool.{true, false, and-false}
 use mathlib.Core.List.{List, [], _∷_, map}
-use mathlib.Core.Path.{_≡_, refl, sym, ap, ap₂, _∙_}
+use mathlib.Core.Path.{_≡_, refl, sym, ap, _∙_}
 use Prim.Native.Nat.{ℕ, _+_, _*_, _≤_, _<_, _^_}
 use native.Mathlib.Omega.{arith}
 use borrow.Author.Tests.{le-leb, lt-leb, lt-ltb, le-ltb}
@@ -10,9 +10,8 @@ use lib.Dec.{leb, ltb}
 use lib.ListN.{length, getD}
 use Rattle.octets.specs.Digits.{digitOf, allBelow, numberFrom}
 use Rattle.octets.proofs.DigitLoop.{left, left-cons, left-end, below-first}
-use Rattle.smbpasswd.specs.Summary.{isNumber, valueOf}
+use Rattle.smbpasswd.specs.Summary.{valueOf}
 use Rattle.smbpasswd.specs.Inner.{numberIn}
-use Rattle.smbpasswd.specs.declared.summaries.Number.{Number}
 use Rattle.smbpasswd.specs.declared.summaries.Number.the-variants.{Value, NoNumber}
 
 -- ---- no number

@@ -2,23 +2,20 @@
 -- length and form, and of two writings the last counts.
 -- Assumes nothing.
 use mathlib.Core.Bool.{Bool, true, false, cond, not, _&&_, and-false, false≢true}
-use mathlib.Core.List.{List, [], _∷_, _++_, map, append-assoc}
+use mathlib.Core.List.{List, [], _∷_, _++_, map}
 use mathlib.Core.Logic.{inl}
 use mathlib.Core.Path.{_≡_, refl, sym, ap, ap₂, _∙_, subst}
 use Prim.Native.Nat.{ℕ, _+_, _-_, _<_, _^_}
-use native.Mathlib.Nat.{sub-self}
 use native.Mathlib.Omega.{arith}
 use borrow.Author.Tests.{le-ltb}
 use lib.Dec.{eqb, ltb}
-use lib.ListN.{length, take, drop}
-use lib.Seq.{take-at, drop-at}
+use lib.ListN.{length, drop}
 use Rattle.octets.specs.Parts.{agrees}
 use Rattle.octets.specs.Split.{holds}
 use Rattle.octets.proofs.Parts.{agrees-equal, agrees-refl}
 use Rattle.octets.proofs.Split.{before-free}
 use Rattle.accounts.specs.Account.{found, accountWith}
 use Rattle.accounts.specs.declared.Account.{Account}
-use Rattle.accounts.specs.declared.Lookup.{Lookup}
 use Rattle.smbpasswd.specs.Line.{lf, letterD, letterX, field, isComment, isAccount}
 use Rattle.smbpasswd.specs.Record.{hasFlag, isExpired, accountIn}
 use Rattle.smbpasswd.specs.File.{lines, Placed, placedFrom, select, counted, malformed, named, placeFrom, placeOf, lineAt, lookupAt, findIn}
@@ -30,7 +27,7 @@ use Rattle.smbpasswd.proofs.LineLaws.{All, Stands, stands, selected, al
 use Rattle.smbpasswd.proofs.Search.{Known, line-known}
 use Rattle.smbpasswd.proofs.FieldLaws.{form}
 use Rattle.smbpasswd.proofs.ChangedLine.{IsHash, kept, changed-fields, changed-account, changed-read, changed-length, changed-comment, changed-one-line, changed-twice}
-use Rattle.smbpasswd.proofs.ChangedFile.{Starts, selected-starts, file-length, before-same, behind-same, new-there, swap, swap-here, swap-other, all-swapped, select-swapped}
+use Rattle.smbpasswd.proofs.ChangedFile.{Starts, selected-starts, file-length, before-same, behind-same, new-there, swap, swap-other, all-swapped, select-swapped}
 
 -- the line of the first, or nothing
 abbrev headLine : List Placed → List ℕ

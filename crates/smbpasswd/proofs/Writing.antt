@@ -1,29 +1,28 @@
 -- A record written into its line, field by field: the line that the definition says, and nothing
 -- else of the file.
 -- Assumes nothing.
-use mathlib.Core.Bool.{Bool, true, false, cond, _&&_, and-eq-true-iff}
+use mathlib.Core.Bool.{Bool, true, false, cond}
 use mathlib.Core.List.{List, [], _∷_, _++_, append-assoc}
-use mathlib.Core.Path.{_≡_, refl, sym, ap, ap₂, _∙_}
-use Prim.Native.Nat.{ℕ, zero, suc, _+_, _*_, _≤_, _<_}
+use mathlib.Core.Path.{_≡_, sym, ap, ap₂, _∙_}
+use Prim.Native.Nat.{ℕ, _+_}
 use native.Mathlib.Omega.{arith}
 use lib.ListN.{length, take, drop, replicate, length-append, length-drop, length-replicate, take-append-drop}
 use lib.Seq.{take-at, drop-at, drop-drop, length-take-le}
 use Rattle.octets.specs.Digits.{hexText}
 use Rattle.octets.specs.Numbers.{toBe}
 use Rattle.octets.specs.Parts.{over, overAt}
-use Rattle.octets.specs.Split.{before}
 use Rattle.octets.proofs.HexText.{length-hex}
 use Rattle.octets.proofs.Numbers.{length-digits}
 use Rattle.octets.proofs.Parts.{over-fits, agrees-equal}
 use Rattle.octets.proofs.Split.{take-place, joined}
 use Rattle.accounts.specs.declared.Account.{Account}
 use Rattle.accounts.specs.declared.Hash.{Hash}
-use Rattle.smbpasswd.specs.Line.{lf, colon, letterX, lct, fromField, field, closed, isAccount, isFlags}
+use Rattle.smbpasswd.specs.Line.{lf, colon, letterX, lct, fromField, field, closed}
 use Rattle.smbpasswd.specs.File.{lineAt}
-use Rattle.smbpasswd.specs.Write.{hashText, timeText, changedLine, withLine}
-use Rattle.smbpasswd.specs.Inner.{column, fieldAt, IsLine}
+use Rattle.smbpasswd.specs.Write.{hashText, changedLine, withLine}
+use Rattle.smbpasswd.specs.Inner.{column, IsLine}
 use Rattle.smbpasswd.proofs.Digits.{hash-length, TimeDigits, time-digits}
-use Rattle.smbpasswd.proofs.FieldLaws.{Form, form, field-column}
+use Rattle.smbpasswd.proofs.FieldLaws.{both, form, field-column}
 
 -- ---- a copy in the middle
 
@@ -39,9 +38,6 @@ over-middle p y q x k e g =
 abbrev pub lineOf : (name uid lm nt flags time rest : List ℕ) → List ℕ
 lineOf name uid lm nt flags time rest =
     name ++ colon ∷ (uid ++ colon ∷ (lm ++ colon ∷ (nt ++ colon ∷ (flags ++ colon ∷ (time ++ colon ∷ rest)))))
-
-both : {a b : Bool} → (a && b) ≡ true → (a ≡ true) × (b ≡ true)
-both {a} {b} e = and-eq-true-iff a b .0 e
 
 pub line-fields : (l : List ℕ) → closed 6 l ≡ true
     → lineOf (field 0 l) (field 1 l) (field 2 l) (field 3 l) (field 4 l) (field 5 l) (fromField 6 l) ≡ l

@@ -1,7 +1,7 @@
 -- The columns of a line, and search and count line by line. Only contracts of private functions
 -- cite this.
 -- Assumes nothing: these are definitions.
-use mathlib.Core.Bool.{Bool, true, cond, not, _&&_}
+use mathlib.Core.Bool.{true, cond, not, _&&_}
 use mathlib.Core.List.{List, [], _∷_}
 use mathlib.Core.Path.{_≡_}
 use Prim.Native.Nat.{ℕ, zero, suc, _+_, _≤_, _<_}
@@ -82,19 +82,16 @@ LineThere (Malformed at) f = Unit {0}
 
 -- ---- the counts
 
-abbrev pub oneIf : Bool → ℕ
-oneIf b = boolByte b
-
--- after a line
+-- after a line; `boolByte` is 1 for true and 0 for false
 unfoldable pub countLine : ℕ → ℕ → Counts → List ℕ → Counts
 countLine now maxAge k l =
     cond (isComment l) k
     (record {
       lines = k .lines + 1;
-      bad = k .bad + oneIf (not (isAccount l));
-      disabled = k .disabled + oneIf (isAccount l && accountIn now maxAge l .disabled);
-      expired = k .expired + oneIf (isAccount l && accountIn now maxAge l .expired);
-      «no_nt» = k .«no_nt» + oneIf (isAccount l && not (accountIn now maxAge l .nt .present));
+      bad = k .bad + boolByte (not (isAccount l));
+      disabled = k .disabled + boolByte (isAccount l && accountIn now maxAge l .disabled);
+      expired = k .expired + boolByte (isAccount l && accountIn now maxAge l .expired);
+      «no_nt» = k .«no_nt» + boolByte (isAccount l && not (accountIn now maxAge l .nt .present));
     })
 
 -- after all lines

@@ -2,8 +2,7 @@
 -- maximum age (decimal, a space between), then a file, 64 KiB in all".
 -- Assumes nothing: these are definitions.
 use mathlib.Core.Bool.{Bool, cond, not, _&&_}
-use mathlib.Core.List.{List, [], map}
-use mathlib.Core.Option.{Option, none, some}
+use mathlib.Core.List.{List, map}
 use Prim.Native.Nat.{ℕ, _^_}
 use lib.Dec.{leb, ltb}
 use lib.ListN.{length}
@@ -42,13 +41,13 @@ noCounts = record { lines = 0; bad = 0; disabled = 0; expired = 0; «no_nt» = 0
 abbrev pub space : ℕ
 space = 32
 
--- a decimal number of 32 bits: any number of digits, but at least one
-abbrev pub isNumber : List ℕ → Bool
-isNumber s =
-    leb 1 (length s) && (allBelow 10 (map digitOf s) && ltb (numberFrom 10 0 (map digitOf s)) (2 ^ 32))
-
+-- a decimal number of 32 bits: any number of digits, but at least one; its value, and whether it is
+-- one
 abbrev pub valueOf : List ℕ → ℕ
 valueOf s = numberFrom 10 0 (map digitOf s)
+
+abbrev pub isNumber : List ℕ → Bool
+isNumber s = leb 1 (length s) && (allBelow 10 (map digitOf s) && ltb (valueOf s) (2 ^ 32))
 
 -- "decimal, a space between"
 abbrev pub isHead : List ℕ → Bool

@@ -31,7 +31,7 @@ changedLine a now l =
 abbrev pub withLine : ℕ → List ℕ → List ℕ → List ℕ
 withLine at new f = take at f ++ (new ++ drop (at + length (lineAt at f)) f)
 
--- "A name on no line is answered none, and nothing is written", nor is it where 14 or 15 is answered
+-- "A name on no line is answered none, and nothing is written"; so it is where 14 or 15 is answered
 abbrev pub writtenAt : Account → ℕ → List ℕ → Place → List ℕ
 writtenAt a now f Nowhere = f
 writtenAt a now f (Line at) = withLine at (changedLine a now (lineAt at f)) f

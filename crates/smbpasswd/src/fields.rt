@@ -3,7 +3,6 @@ use crate::lines::Columns;
 use crate::lines::field;
 use refusals::both;
 ghost use mathlib.Core.Path.{_≡_};
-ghost use lib.ListN.{drop};
 ghost use Rattle.smbpasswd.specs.Line.{begins, isName, isUid, isAbsent, isHash, isFlags, isTime, isAccount};
 ghost use Rattle.smbpasswd.specs.Inner.{columnsOf};
 

@@ -1,7 +1,6 @@
 // A line of the file, and where its fields begin.
 ghost use mathlib.Core.Path.{_≡_};
 ghost use Prim.Native.Nat.{_+_, _≤_};
-ghost use lib.Dec.{eqb};
 ghost use lib.ListN.{length, drop};
 ghost use Rattle.octets.specs.Split.{before};
 ghost use Rattle.smbpasswd.specs.Line.{colon, isComment};

@@ -23,7 +23,7 @@ fn hash_in(s: &[u8]) -> accounts::Hash
 }
 
 // Whether a flag is among the 11 in brackets.
-pub(crate) fn has_flag(c: u8, s: &[u8]) -> bool
+fn has_flag(c: u8, s: &[u8]) -> bool
     ensures { λ r. ⌜ r ≡ hasFlag c (now (s .entry)) ⌝ }
 {
     let flags = octets::part_of(s, 1, 11);
@@ -31,7 +31,7 @@ pub(crate) fn has_flag(c: u8, s: &[u8]) -> bool
 }
 
 // The time of the last change.
-pub(crate) fn time_in(s: &[u8]) -> u32
+fn time_in(s: &[u8]) -> u32
     requires { ⌜ isTime (now s) ≡ true ⌝ }
     ensures { λ r. ⌜ r ≡ timeIn (now (s .entry)) ⌝ }
 {
@@ -40,7 +40,7 @@ pub(crate) fn time_in(s: &[u8]) -> u32
     octets::u32_from_be(octets[0], octets[1], octets[2], octets[3])
 }
 
-pub(crate) fn is_expired(present: u32, max_age: u32, never: bool, time: u32) -> bool
+fn is_expired(present: u32, max_age: u32, never: bool, time: u32) -> bool
     ensures { λ r. ⌜ r ≡ isExpired present «max_age» never time ⌝ }
 {
     if never {

@@ -36,8 +36,8 @@
 //! # Ok::<(), Refusal>(())
 //! ```
 //!
-//! Accounts in a file in the layout of Samba's smbpasswd(5) are looked up by [`find_account`], and a
-//! changed one is written back by [`write_account`].
+//! Accounts in a file in the layout of Samba's smbpasswd(5) are looked up by [`find_account`], and
+//! a changed one is written back by [`write_account`].
 //!
 //! What is stored (a [`Conversation`], a [`Peer`], an [`Account`]'s record, an [`Issued`], a
 //! [`Password`]) begins with its kind and the version of that kind's layout; `from_bytes` refuses

@@ -32,8 +32,8 @@ pub enum Refusal {
     Filler,
     /// 13: over 7 retries.
     RetriesRange,
-    /// 14: a line of an account file is of another form. [`FileFault`](crate::FileFault) tells where
-    /// it starts.
+    /// 14: a line of an account file is of another form. [`FileFault`](crate::FileFault) tells
+    /// where it starts.
     BadLine,
     /// 15: the name is on two lines of an account file, or more. [`FileFault`](crate::FileFault)
     /// tells where the first of them starts.

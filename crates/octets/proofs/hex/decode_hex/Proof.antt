@@ -2,14 +2,14 @@
 -- of the octets laid over the rest of out, is what is asked.
 -- Assumes nothing.
 use mathlib.Core.Path.{_≡_, refl, sym, ap, _∙_}
-use mathlib.Core.Bool.{Bool, true, cond}
+use mathlib.Core.Bool.{Bool, cond}
 use mathlib.Core.List.{List, _++_, map}
 use Prim.Native.Nat.{ℕ, _/_, _-_, _≤_, min}
 use native.Mathlib.Omega.{arith}
 use borrow.Author.Needs.{needs}
 use borrow.Author.Tests.{not-true, not-false}
 use lib.ListN.{length, take, drop, length-set, length-map}
-use Rattle.octets.specs.Digits.{digitOf, allBelow, pairs}
+use Rattle.octets.specs.Digits.{digitOf, pairs}
 use Rattle.octets.specs.Parts.{over}
 use Rattle.octets.proofs.HexText.{length-pairs}
 use Rattle.octets.proofs.Parts.{over-step, over-end}

@@ -1,9 +1,7 @@
 -- `smbpasswd::fields::is_absent` meets its contract.
 -- Assumes nothing.
 use mathlib.Core.Bool.{Bool, _||_}
-use mathlib.Core.List.{List}
 use mathlib.Core.Path.{sym, ap, _∙_}
-use Prim.Native.Nat.{ℕ}
 use borrow.Author.Needs.{needs}
 use Rattle.smbpasswd.specs.Line.{begins, noPassword}
 use Rattle.smbpasswd.proofs.fields.is_absent.Statement.{statement}

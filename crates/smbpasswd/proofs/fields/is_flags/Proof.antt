@@ -1,9 +1,5 @@
 -- `smbpasswd::fields::is_flags` meets its contract.
 -- Assumes nothing.
-use mathlib.Core.Bool.{Bool, _&&_}
-use mathlib.Core.List.{List}
-use mathlib.Core.Path.{sym, ap, _∙_}
-use Prim.Native.Nat.{ℕ}
 use borrow.Author.Needs.{needs}
 use borrow.Author.Tests.{eq-eqb, ne-eqb}
 use Rattle.smbpasswd.proofs.fields.is_flags.Statement.{statement}

@@ -1,9 +1,6 @@
 -- `smbpasswd::fields::is_hash` meets its contract.
 -- Assumes nothing.
-use mathlib.Core.Bool.{Bool, _&&_, _||_}
-use mathlib.Core.List.{List}
-use mathlib.Core.Path.{sym, ap, ap₂, _∙_}
-use Prim.Native.Nat.{ℕ}
+use mathlib.Core.Path.{sym, _∙_}
 use borrow.Author.Needs.{needs}
 use borrow.Author.Tests.{eq-eqb, ne-eqb}
 use Rattle.smbpasswd.proofs.fields.is_hash.Statement.{statement}

@@ -1,6 +1,5 @@
 -- `smbpasswd::records::is_expired` meets its contract.
 -- Assumes nothing.
-use borrow.Author.Needs.{needs}
 use borrow.Author.Tests.{eq-eqb, ne-eqb, lt-ltb, le-ltb}
 use Rattle.smbpasswd.proofs.records.is_expired.Statement.{statement}
 use Rattle.smbpasswd.proofs.records.is_expired.Tie as tie
