@@ -25,7 +25,7 @@ pub struct Found {
     pub offset: usize,
 }
 
-/// Why a file is refused. The offset is for whoever mends it.
+/// Why a file is refused. The offset is for whoever corrects it.
 #[derive(Clone, Copy, Debug, PartialEq, Eq, Hash)]
 pub enum FileFault {
     /// 14: a line is of another form, of any name: it could be the account's own.
@@ -137,8 +137,9 @@ pub fn find_account(file: &[u8], name: &[u8], times: Times) -> Result<Option<Fou
 /// Gives where the line starts; none, with nothing written, if the name is on no line. A file that
 /// is refused is unchanged.
 ///
-/// Only the caller's bytes are written. Before, take a lock and read the file again, and store it
-/// by a new file, fsync and rename. At `now` 0 the password never expires.
+/// Only the caller's bytes are written. Before, take a lock, read the file again, and look the name
+/// up again: where the account is another by now, write nothing. Store the file by a new one with
+/// the owner and mode of the old, fsync and rename. At `now` 0 the password never expires.
 pub fn write_account(
     file: &mut [u8],
     name: &[u8],
