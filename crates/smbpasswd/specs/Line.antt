@@ -35,6 +35,7 @@ noPassword = 78 ∷ 79 ∷ 32 ∷ 80 ∷ 65 ∷ 83 ∷ 83 ∷ 87 ∷ 79 ∷ 82 �
 abbrev pub lct : List ℕ
 lct = 76 ∷ 67 ∷ 84 ∷ 45 ∷ []
 
+-- a list begins with another
 abbrev pub begins : List ℕ → List ℕ → Bool
 begins front l = agrees (take (length front) l) front
 
@@ -45,7 +46,7 @@ abbrev pub fromField : ℕ → List ℕ → List ℕ
 fromField zero l = l
 fromField (suc n) l = behind colon (fromField n l)
 
--- the field n: "any octets but colon"
+-- the field n: "any octets but colon" (and a line has no LF: File `lines`)
 abbrev pub field : ℕ → List ℕ → List ℕ
 field n l = before colon (fromField n l)
 

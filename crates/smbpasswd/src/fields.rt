@@ -6,6 +6,7 @@ ghost use mathlib.Core.Path.{_≡_};
 ghost use Rattle.smbpasswd.specs.Line.{begins, isName, isUid, isAbsent, isHash, isFlags, isTime, isAccount};
 ghost use Rattle.smbpasswd.specs.Inner.{columnsOf};
 
+// Whether s begins with front.
 fn begins(front: &[u8], s: &[u8]) -> bool
     ensures { λ r. ⌜ r ≡ begins (now (front .entry)) (now (s .entry)) ⌝ }
 {

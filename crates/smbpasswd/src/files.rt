@@ -19,6 +19,7 @@ ghost use Rattle.smbpasswd.specs.declared.Place.the-variants.{Line};
 
 // ---- where the line of a name starts
 
+// One line more of the name, at an offset: the first has the offset.
 fn one_more(place: Place, at: usize) -> Place
     ensures { λ r. ⌜ r ≡ oneMore at place ⌝ }
 {
@@ -30,6 +31,7 @@ fn one_more(place: Place, at: usize) -> Place
     }
 }
 
+// One line more of another form: the first of these counts before all others.
 fn one_bad(place: Place, at: usize) -> Place
     ensures { λ r. ⌜ r ≡ oneBad at place ⌝ }
 {
@@ -80,7 +82,7 @@ fn lookup_at(file: &[u8], place: Place, present: u32, max_age: u32) -> accounts:
 {
     match place {
         Place::Nowhere => accounts::not_found(),
-        Place::Line(at) => { accounts::found(account_in(line_at(file, at), present, max_age)) }
+        Place::Line(at) => accounts::found(account_in(line_at(file, at), present, max_age)),
         Place::Doubled(_) => accounts::not_found(),
         Place::Malformed(_) => accounts::not_found(),
     }

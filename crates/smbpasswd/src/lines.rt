@@ -25,6 +25,7 @@ pub(crate) fn line_at(file: &[u8], at: usize) -> &[u8]
     octets::up_to(octets::part_of(file, at, file.len()), b'\n')
 }
 
+// Whether the line is to be skipped.
 pub(crate) fn is_comment(line: &[u8]) -> bool
     ensures { λ r. ⌜ r ≡ isComment (now (line .entry)) ⌝ }
 {
@@ -43,6 +44,7 @@ fn next_column(line: &[u8], at: usize) -> usize
     at + field.len() + 1
 }
 
+// Where each field begins.
 pub(crate) fn columns_of(line: &[u8]) -> Columns
     ensures { λ r. ⌜ r ≡ columnsOf (now (line .entry)) ⌝ }
 {

@@ -9,7 +9,7 @@ use crate::records::has_expired;
 use crate::records::is_disabled;
 use crate::records::lacks_nt;
 ghost use mathlib.Core.Path.{_≡_};
-ghost use Prim.Native.Nat.{_<_, _^_};
+ghost use Prim.Native.Nat.{_^_};
 ghost use Rattle.smbpasswd.specs.Summary.{countsOf, noCounts, refusedSummary, summaryOf};
 ghost use Rattle.smbpasswd.specs.Inner.{countLine, Within, numberIn};
 
@@ -75,6 +75,7 @@ pub fn count(file: &[u8], present: u32, max_age: u32) -> Counts
 
 const LONGEST_INPUT: usize = 65536;
 
+// What a number was read as.
 pub(crate) enum Number {
     Value(u32),
     NoNumber,
@@ -102,6 +103,7 @@ fn number_in(s: &[u8]) -> Number
     Number::Value(value as u32)
 }
 
+// No counts, and refusal 14.
 fn refused() -> Summary
     ensures { λ r. ⌜ r ≡ refusedSummary ⌝ }
 {
