@@ -74,14 +74,16 @@ module _ (name file : List ℕ) (a : Account) (new : List ℕ) (at changedAt lat
   abbrev expired : Bool
   expired = isExpired later maxAge (hasFlag letterX (field 4 (lineAt at file))) changedAt
 
-  pub found-again : again ourFileWriter name file (found (changed a (ntHashOf new))) changedAt later maxAge ≡ aged expired (found (changed a (ntHashOf new)))
+  pub found-again : again ourFileWriter name file (found (changed a (ntHashOf new))) changedAt later maxAge
+      ≡ aged expired (found (changed a (ntHashOf new)))
   found-again =
       ap (λ (x : Found). x .lookup) (read-back name (changed a (ntHashOf new)) changedAt file no-is-hash (nt-is-hash new) at p small later maxAge)
       ∙ ap (λ (d : Bool). found (accountWith (hashOf (ntHashOf new)) noHash d false false expired)) (sym (f .disabled))
       ∙ ap₂ (λ (h d : Bool). found (accountWith (hashOf (ntHashOf new)) noHash (a .disabled) h d expired)) (sym (f .hours)) (sym (f .dialin))
 
   -- not expired, it is the record that was handed out
-  pub in-force : expired ≡ false → again ourFileWriter name file (found (changed a (ntHashOf new))) changedAt later maxAge ≡ found (changed a (ntHashOf new))
+  pub in-force : expired ≡ false → again ourFileWriter name file (found (changed a (ntHashOf new))) changedAt later maxAge
+      ≡ found (changed a (ntHashOf new))
   in-force e = found-again ∙ ap (λ (t : Bool). aged t (found (changed a (ntHashOf new)))) e
 
 -- ---- along a series

@@ -168,7 +168,8 @@ not-keeping-lm claim =
     true≢false (sym still-lm ∙ ap (λ (l : Lookup). l .account .lm .present) (must-keep keepingLm claim 1000 1000 (omega arith)))
 
 -- loses the others: v is not found any more
-lost : (findIn 1000 0 another (losingOthers user (handedOut .account) 1000 file) .lookup .found ≡ false) × (findIn 1000 0 another file .lookup .found ≡ true)
+lost : (findIn 1000 0 another (losingOthers user (handedOut .account) 1000 file) .lookup .found ≡ false)
+    × (findIn 1000 0 another file .lookup .found ≡ true)
 unfolding changedLine findIn placeOf lines isAccount accountIn agrees digitOf hexOf
 lost = (refl, refl)
 

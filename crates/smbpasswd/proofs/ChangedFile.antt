@@ -84,7 +84,8 @@ module _ (f : List ℕ) (at : ℕ) (new : List ℕ) (within : at < length f) (lo
       let e : s ≡ at + length (lineAt at f) + k = omega arith in
       let front : length (take at f ++ new) ≡ at + length (lineAt at f) = length-append (take at f) new ∙ ap₂ _+_ front-long long in
       ap (λ (i : ℕ). drop i file) e ∙ sym (drop-drop k (at + length (lineAt at f)) file)
-      ∙ ap (drop k) (ap (drop (at + length (lineAt at f))) (sym (append-assoc (take at f) new rest)) ∙ drop-at (take at f ++ new) rest (at + length (lineAt at f)) front)
+      ∙ ap (drop k) (ap (drop (at + length (lineAt at f))) (sym (append-assoc (take at f) new rest))
+      ∙ drop-at (take at f ++ new) rest (at + length (lineAt at f)) front)
       ∙ drop-drop k (at + length (lineAt at f)) f ∙ ap (λ (i : ℕ). drop i f) (sym e)
 
   -- the line itself
@@ -114,7 +115,8 @@ module _ (f : List ℕ) (at : ℕ) (new : List ℕ) (within : at < length f) (lo
       let k = at - s in
       let d = drop s f in
       let e : drop s file ≡ take k d ++ (new ++ rest) =
-      drop-append-le s (take at f) (new ++ rest) (omega (arith, front-long)) ∙ ap (λ (x : List ℕ). x ++ (new ++ rest)) (drop-take s at f (omega (arith, front-long))) in
+      drop-append-le s (take at f) (new ++ rest) (omega (arith, front-long))
+      ∙ ap (λ (x : List ℕ). x ++ (new ++ rest)) (drop-take s at f (omega (arith, front-long))) in
       ap (before lf) e ∙ front-line lf k d (new ++ rest) (omega arith) (omega (arith, length-drop s f))
 
   -- ---- all lines
@@ -190,7 +192,8 @@ module _ (f : List ℕ) (at : ℕ) (new : List ℕ) (within : at < length f) (lo
       rest-of = select test xs
 
       tests : swap x .offset ≡ x .offset → test (swap x .line) ≡ test (x .line) → select test (map swap xs) ≡ map swap rest-of
-          → cond (test (swap x .line)) (swap x ∷ select test (map swap xs)) (select test (map swap xs)) ≡ map swap (cond (test (x .line)) (x ∷ rest-of) rest-of)
+          → cond (test (swap x .line)) (swap x ∷ select test (map swap xs)) (select test (map swap xs))
+          ≡ map swap (cond (test (x .line)) (x ∷ rest-of) rest-of)
       tests o t same = ap₂ (λ (b : Bool) (ys : List Placed). cond b (swap x ∷ ys) ys) t same ∙ by (test (x .line))
         where
           by : (b : Bool) → cond b (swap x ∷ map swap rest-of) (map swap rest-of) ≡ map swap (cond b (x ∷ rest-of) rest-of)

@@ -79,7 +79,8 @@ not-absent (x ∷ l) e =
     let p = hex-plain (x / 16 % 16) (omega arith) in
     ap₂ _||_
     (ap (λ (t : Bool). t && true) (ne-eqb (hexOf (x / 16 % 16)) letterX (λ z. omega (arith, p .high, z))))
-    (ap (λ (t : Bool). t && agrees (take 10 (hexOf (x % 16) ∷ hexText l)) (drop 1 noPassword)) (ne-eqb (hexOf (x / 16 % 16)) 78 (λ z. omega (arith, p .high, z))))
+    (ap (λ (t : Bool). t && agrees (take 10 (hexOf (x % 16) ∷ hexText l)) (drop 1 noPassword))
+    (ne-eqb (hexOf (x / 16 % 16)) 78 (λ z. omega (arith, p .high, z))))
 
 module _ (h : Hash) (s : IsHash h) where
   pub text-is-hash : isHash (hashText h) ≡ true
@@ -89,7 +90,8 @@ module _ (h : Hash) (s : IsHash h) where
       by : (b : Bool) → length (hashText h) ≡ 32 → isHash (cond b (hexText (h .octets)) (replicate 32 letterX)) ≡ true
       by true e =
           ap₂ _&&_ (eq-eqb (length (hexText (h .octets))) 32 (omega (arith, length-hex (h .octets), s .long)))
-          (ap (λ (t : Bool). isAbsent (hexText (h .octets)) || t) (hex-digits (h .octets)) ∙ ap (λ (t : Bool). t || true) (not-absent (h .octets) (s .long)))
+          (ap (λ (t : Bool). isAbsent (hexText (h .octets)) || t) (hex-digits (h .octets))
+          ∙ ap (λ (t : Bool). t || true) (not-absent (h .octets) (s .long)))
       by false e = refl
 
   pub text-read : hashIn (hashText h) ≡ kept h
@@ -102,7 +104,8 @@ module _ (h : Hash) (s : IsHash h) where
           ∙ ap hashOf (hex-back (h .octets) (s .octets))
       by false = refl
 
-pub hash-free : (c : ℕ) → holds c (replicate 32 letterX) ≡ false → ((l : List ℕ) → holds c (hexText l) ≡ false) → (h : Hash) → holds c (hashText h) ≡ false
+pub hash-free : (c : ℕ) → holds c (replicate 32 letterX) ≡ false → ((l : List ℕ) → holds c (hexText l) ≡ false) → (h : Hash)
+    → holds c (hashText h) ≡ false
 hash-free c x rest h = by (h .present)
   where
     by : (b : Bool) → holds c (cond b (hexText (h .octets)) (replicate 32 letterX)) ≡ false
@@ -204,7 +207,8 @@ pub record Without (c : ℕ) (x0 x1 x2 x3 x4 x5 x6 : List ℕ) : Type 0 where
 one : (c : ℕ) (x y : List ℕ) → eqb colon c ≡ false → holds c (x ++ colon ∷ y) ≡ (holds c x || holds c y)
 one c x y n = holds-append c x (colon ∷ y) ∙ ap (λ (t : Bool). holds c x || (t || holds c y)) n
 
-colons : (c : ℕ) (x0 x1 x2 x3 x4 x5 x6 : List ℕ) → eqb colon c ≡ false → holds c (lineOf x0 x1 x2 x3 x4 x5 x6) ≡ false → Without c x0 x1 x2 x3 x4 x5 x6
+colons : (c : ℕ) (x0 x1 x2 x3 x4 x5 x6 : List ℕ) → eqb colon c ≡ false → holds c (lineOf x0 x1 x2 x3 x4 x5 x6) ≡ false
+    → Without c x0 x1 x2 x3 x4 x5 x6
 colons c x0 x1 x2 x3 x4 x5 x6 n e =
     let r5 = x5 ++ colon ∷ x6 in
     let r4 = x4 ++ colon ∷ r5 in
@@ -219,7 +223,8 @@ colons c x0 x1 x2 x3 x4 x5 x6 n e =
     let e5 = neither (holds c x5) (holds c x6) (sym (one c x5 x6 n) ∙ e4 .1) in
     record { c0 = e0 .0; c1 = e1 .0; c2 = e2 .0; c3 = e3 .0; c4 = e4 .0; c5 = e5 .0; c6 = e5 .1 }
 
-of-colons : (c : ℕ) (x0 x1 x2 x3 x4 x5 x6 : List ℕ) → eqb colon c ≡ false → Without c x0 x1 x2 x3 x4 x5 x6 → holds c (lineOf x0 x1 x2 x3 x4 x5 x6) ≡ false
+of-colons : (c : ℕ) (x0 x1 x2 x3 x4 x5 x6 : List ℕ) → eqb colon c ≡ false → Without c x0 x1 x2 x3 x4 x5 x6
+    → holds c (lineOf x0 x1 x2 x3 x4 x5 x6) ≡ false
 of-colons c x0 x1 x2 x3 x4 x5 x6 n w =
     let r5 = x5 ++ colon ∷ x6 in
     let r4 = x4 ++ colon ∷ r5 in
@@ -236,7 +241,8 @@ of-colons c x0 x1 x2 x3 x4 x5 x6 n w =
 -- ---- the changed line
 
 module _ (a : Account) (now : ℕ) (l : List ℕ) where
-  pub changed-fields : Fields (changedLine a now l) (field 0 l) (field 1 l) (hashText (a .lm)) (hashText (a .nt)) (field 4 l) (timeText now) (fromField 6 l)
+  pub changed-fields : Fields (changedLine a now l) (field 0 l) (field 1 l) (hashText (a .lm)) (hashText (a .nt)) (field 4 l) (timeText now)
+      (fromField 6 l)
   unfolding changedLine
   changed-fields =
       fields-of (field 0 l) (field 1 l) (hashText (a .lm)) (hashText (a .nt)) (field 4 l) (timeText now) (fromField 6 l)
@@ -277,7 +283,8 @@ module _ (a : Account) (now : ℕ) (l : List ℕ) where
         let et = ap timeIn (c .time-is) ∙ time-read now small in
         ap₂ (λ (x y : Hash). accountWith x y (hasFlag letterD (field 4 (changedLine a now l))) false false
         (isExpired later maxAge (hasFlag letterX (field 4 (changedLine a now l))) (timeIn (field 5 (changedLine a now l))))) ent elm
-        ∙ ap₂ (λ (x : List ℕ) (t : ℕ). accountWith (kept (a .nt)) (kept (a .lm)) (hasFlag letterD x) false false (isExpired later maxAge (hasFlag letterX x) t))
+        ∙ ap₂ (λ (x : List ℕ) (t : ℕ). accountWith (kept (a .nt)) (kept (a .lm)) (hasFlag letterD x) false false
+        (isExpired later maxAge (hasFlag letterX x) t))
         (c .flags-is) et
 
     pub changed-length : length (changedLine a now l) ≡ length l
@@ -289,8 +296,10 @@ module _ (a : Account) (now : ℕ) (l : List ℕ) where
         let ent = hash-text-length (a .nt) (snt .long) ∙ sym (hash-length (field 3 l) (w .nt)) in
         let etime : length (timeText now) ≡ length (field 5 l) = omega (arith, time-text-length now, t .long) in
         lengths (field 0 l) (field 1 l) (hashText (a .lm)) (hashText (a .nt)) (field 4 l) (timeText now) (fromField 6 l)
-        ∙ ap₂ (λ (x y : ℕ). length (field 0 l) + 1 + length (field 1 l) + 1 + x + 1 + y + 1 + length (field 4 l) + 1 + length (timeText now) + 1 + length (fromField 6 l)) elm ent
-        ∙ ap (λ (x : ℕ). length (field 0 l) + 1 + length (field 1 l) + 1 + length (field 2 l) + 1 + length (field 3 l) + 1 + length (field 4 l) + 1 + x + 1 + length (fromField 6 l)) etime
+        ∙ ap₂ (λ (x y : ℕ). length (field 0 l) + 1 + length (field 1 l) + 1 + x + 1 + y + 1 + length (field 4 l) + 1 + length
+        (timeText now) + 1 + length (fromField 6 l)) elm ent
+        ∙ ap (λ (x : ℕ). length (field 0 l) + 1 + length (field 1 l) + 1 + length (field 2 l) + 1 + length (field 3 l) + 1 + length
+        (field 4 l) + 1 + x + 1 + length (fromField 6 l)) etime
         ∙ sym (lengths (field 0 l) (field 1 l) (field 2 l) (field 3 l) (field 4 l) (field 5 l) (fromField 6 l)) ∙ whole
 
     -- it begins with the same octet
@@ -299,8 +308,10 @@ module _ (a : Account) (now : ℕ) (l : List ℕ) where
     changed-comment =
         let some = leb-true 1 (length (field 0 l)) (both (w .name) .0) in
         ap (λ (x : ℕ). eqb x numberSign)
-        (first (field 0 l) (colon ∷ (field 1 l ++ colon ∷ (hashText (a .lm) ++ colon ∷ (hashText (a .nt) ++ colon ∷ (field 4 l ++ colon ∷ (timeText now ++ colon ∷ fromField 6 l)))))) some
-        ∙ sym (first (field 0 l) (colon ∷ (field 1 l ++ colon ∷ (field 2 l ++ colon ∷ (field 3 l ++ colon ∷ (field 4 l ++ colon ∷ (field 5 l ++ colon ∷ fromField 6 l)))))) some)
+        (first (field 0 l) (colon ∷ (field 1 l ++ colon ∷ (hashText (a .lm) ++ colon ∷
+        (hashText (a .nt) ++ colon ∷ (field 4 l ++ colon ∷ (timeText now ++ colon ∷ fromField 6 l)))))) some
+        ∙ sym (first (field 0 l) (colon ∷ (field 1 l ++ colon ∷
+        (field 2 l ++ colon ∷ (field 3 l ++ colon ∷ (field 4 l ++ colon ∷ (field 5 l ++ colon ∷ fromField 6 l)))))) some)
         ∙ ap (λ (x : List ℕ). getD x 0 0) (line-fields l (w .all)))
 
     -- and is one line still
@@ -325,5 +336,6 @@ module _ (a : Account) (now : ℕ) (l : List ℕ) where
   unfolding changedLine
   changed-twice b t =
       let c = changed-fields in
-      ap₂ (λ (x y : List ℕ). lineOf x y (hashText (b .lm)) (hashText (b .nt)) (field 4 (changedLine a now l)) (timeText t) (fromField 6 (changedLine a now l))) (c .name-is) (c .uid-is)
+      ap₂ (λ (x y : List ℕ). lineOf x y (hashText (b .lm)) (hashText (b .nt)) (field 4 (changedLine a now l)) (timeText t)
+      (fromField 6 (changedLine a now l))) (c .name-is) (c .uid-is)
       ∙ ap₂ (λ (x y : List ℕ). lineOf (field 0 l) (field 1 l) (hashText (b .lm)) (hashText (b .nt)) x (timeText t) y) (c .flags-is) (c .rest-is)

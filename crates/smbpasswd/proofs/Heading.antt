@@ -73,7 +73,8 @@ module _ (input : List ℕ) where
       → _≡_ {A = Summary} (record { refusal = 0; counts = k }) (summaryOf input)
   unfolding summaryOf
   summed short there {now} {maxAge} a b {k} e =
-      let s : holds space head ≡ true = held space head ∙ lt-ltb (place space head) (length head) (lt-of-le-ne (place-le space head) (λ z. there (sym z))) in
+      let s : holds space head ≡ true = held space head ∙ lt-ltb (place space head) (length head)
+      (lt-of-le-ne (place-le space head) (λ z. there (sym z))) in
       rw (le-leb (length input) longestInput short, s, a .is, b .is)
       (ap (λ (x : Counts). record { refusal = 0; counts = x })
       (e ∙ ap₂ (λ (x y : ℕ). countsOf x y (behind lf input)) (a .value) (b .value)))

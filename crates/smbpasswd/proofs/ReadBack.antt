@@ -67,7 +67,8 @@ module _ (name : List ℕ) (a : Account) (now : ℕ) (f : List ℕ) (at : ℕ) (
       (ap not (sym (changed-comment a now old (form old (k .account)) slm snt)))
 
   counted-stand : All (Stands f) (counted f)
-  counted-stand = all-first (Stands f) (λ x. not (isComment (x .line)) ≡ true) (counted f) (selected (λ l. not (isComment l)) (Stands f) (placedFrom 0 (lines f)) (stands f))
+  counted-stand = all-first (Stands f) (λ x. not (isComment (x .line)) ≡ true) (counted f)
+      (selected (λ l. not (isComment l)) (Stands f) (placedFrom 0 (lines f)) (stands f))
 
   malformed-moved : malformed file ≡ map moved (malformed f)
   malformed-moved =
@@ -110,13 +111,15 @@ module _ (name : List ℕ) (a : Account) (now : ℕ) (f : List ℕ) (at : ℕ) (
   apart : (other : List ℕ) → agrees other name ≡ false → (at′ : ℕ) → Known other f at′ → at′ ≡ at → ⊥
   apart other n at′ ko e =
       let there = ap (λ (i : ℕ). field 0 (lineAt i f)) e in
-      let same : other ≡ name = sym (agrees-equal (field 0 (lineAt at′ f)) other (ko .named-so)) ∙ there ∙ agrees-equal (field 0 old) name (k .named-so) in
+      let same : other ≡ name = sym (agrees-equal (field 0 (lineAt at′ f)) other (ko .named-so)) ∙ there
+      ∙ agrees-equal (field 0 old) name (k .named-so) in
       false≢true (sym n ∙ ap (λ (x : List ℕ). agrees x name) same ∙ agrees-refl name)
 
 -- ---- the record after a writing
 
 -- what a lookup finds, by its place
-found-at : (later maxAge : ℕ) (name f : List ℕ) {p : Place} → placeOf name f ≡ p → findIn later maxAge name f ≡ record { place = p; lookup = lookupAt later maxAge f p }
+found-at : (later maxAge : ℕ) (name f : List ℕ) {p : Place} → placeOf name f ≡ p
+    → findIn later maxAge name f ≡ record { place = p; lookup = lookupAt later maxAge f p }
 unfolding findIn
 found-at later maxAge name f e = ap (λ (p : Place). record { place = p; lookup = lookupAt later maxAge f p }) e
 
@@ -154,7 +157,8 @@ module _ (name : List ℕ) (a : Account) (now : ℕ) (f : List ℕ) (slm : IsHas
   -- every name is where it was: on a line, on none, on two; a line of another form is one still, and
   -- no other becomes one
   pub same-place : (other : List ℕ) → placeOf other (writtenIn name a now f) ≡ placeOf other f
-  same-place other = by-place (λ g. placeOf other g ≡ placeOf other f) refl (λ at e. place-same name a now f at (line-known name f at e) slm snt other)
+  same-place other = by-place (λ g. placeOf other g ≡ placeOf other f) refl
+      (λ at e. place-same name a now f at (line-known name f at e) slm snt other)
 
   pub still-formed : malformed f ≡ [] → malformed (writtenIn name a now f) ≡ []
   still-formed clean = by-place (λ g. malformed g ≡ []) clean (λ at e.
@@ -224,4 +228,5 @@ last-counts name a b now t f slm snt =
         let there = new-there f at new-line (k .within) l o in
         ap₂ (λ (x y : List ℕ). x ++ y) (before-same f at new-line (k .within) l o)
         (ap₂ (λ (x y : List ℕ). x ++ y) (ap (changedLine b t) there ∙ changed-twice a now (lineAt at f) b t)
-        (ap (λ (n : ℕ). drop (at + n) (withLine at new-line f)) (ap length there ∙ l) ∙ behind-same f at new-line (k .within) l o (at + length (lineAt at f)) (omega arith)))
+        (ap (λ (n : ℕ). drop (at + n) (withLine at new-line f)) (ap length there ∙ l)
+        ∙ behind-same f at new-line (k .within) l o (at + length (lineAt at f)) (omega arith)))

@@ -121,7 +121,8 @@ unfolding placeOf lines isAccount agrees digitOf
 on-no-line = (refl, refl)
 
 -- an empty line between is a line, an empty rest is none
-pub lines-end : (lines (97 ∷ lf ∷ lf ∷ 98 ∷ []) ≡ (97 ∷ []) ∷ [] ∷ (98 ∷ []) ∷ []) × (lines (97 ∷ lf ∷ []) ≡ (97 ∷ []) ∷ []) × (lines (lf ∷ []) ≡ [] ∷ [])
+pub lines-end : (lines (97 ∷ lf ∷ lf ∷ 98 ∷ []) ≡ (97 ∷ []) ∷ [] ∷ (98 ∷ []) ∷ []) × (lines (97 ∷ lf ∷ []) ≡ (97 ∷ []) ∷ [])
+    × (lines (lf ∷ []) ≡ [] ∷ [])
 unfolding lines
 lines-end = (refl, refl, refl)
 
@@ -150,6 +151,7 @@ unfolding summaryOf countsOf lines isAccount accountIn agrees digitOf
 summed = refl
 
 -- two spaces; a number of 33 bits
-pub refused-heads : (summaryOf (53 ∷ 32 ∷ 32 ∷ 53 ∷ lf ∷ []) ≡ refusedSummary) × (summaryOf (52 ∷ 50 ∷ 57 ∷ 52 ∷ 57 ∷ 54 ∷ 55 ∷ 50 ∷ 57 ∷ 54 ∷ 32 ∷ 49 ∷ []) ≡ refusedSummary)
+pub refused-heads : (summaryOf (53 ∷ 32 ∷ 32 ∷ 53 ∷ lf ∷ []) ≡ refusedSummary)
+    × (summaryOf (52 ∷ 50 ∷ 57 ∷ 52 ∷ 57 ∷ 54 ∷ 55 ∷ 50 ∷ 57 ∷ 54 ∷ 32 ∷ 49 ∷ []) ≡ refusedSummary)
 unfolding summaryOf countsOf lines digitOf
 refused-heads = (refl, refl)

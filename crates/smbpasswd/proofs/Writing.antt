@@ -73,7 +73,8 @@ module _ (p name uid lm nt flags digits rest q lm′ nt′ digits′ : List ℕ)
   last : List ℕ
   last = middle ++ (nt′ ++ colon ∷ (flags ++ colon ∷ lct))
 
-  pub three-copies : (a b c : ℕ) → a ≡ length p + (length name + 1 + length uid + 1) → b ≡ a + length lm + 1 → c ≡ b + length nt + 1 + length flags + 1 + 4
+  pub three-copies : (a b c : ℕ) → a ≡ length p + (length name + 1 + length uid + 1) → b ≡ a + length lm + 1
+      → c ≡ b + length nt + 1 + length flags + 1 + 4
       → overAt c digits′ (overAt b nt′ (overAt a lm′ (p ++ (lineOf name uid lm nt flags (lct ++ digits) rest ++ q))))
       ≡ p ++ (lineOf name uid lm′ nt′ flags (lct ++ digits′) rest ++ q)
   unfolding front middle last
@@ -138,8 +139,10 @@ written-line f at i a now elm ent =
     let lp : length p ≡ at = length-take-le at f (omega (arith, i .within)) in
     let whole : f ≡ p ++ (lineOf (field 0 l) (field 1 l) (field 2 l) (field 3 l) (field 4 l) (lct ++ drop 4 (field 5 l)) (fromField 6 l) ++ q) =
     sym (line-split f at) ∙ ap (λ (x : List ℕ). p ++ (x ++ q))
-    (sym (line-fields l (w .all)) ∙ ap (λ (x : List ℕ). lineOf (field 0 l) (field 1 l) (field 2 l) (field 3 l) (field 4 l) x (fromField 6 l)) (time-front (field 5 l) t)) in
-    ap (λ (x : List ℕ). overAt (at + column 5 l + 4) (hexText (toBe 4 now)) (overAt (at + column 3 l) (hashText (a .nt)) (overAt (at + column 2 l) (hashText (a .lm)) x))) whole
+    (sym (line-fields l (w .all)) ∙ ap (λ (x : List ℕ). lineOf (field 0 l) (field 1 l) (field 2 l) (field 3 l) (field 4 l) x
+    (fromField 6 l)) (time-front (field 5 l) t)) in
+    ap (λ (x : List ℕ). overAt (at + column 5 l + 4) (hexText (toBe 4 now))
+    (overAt (at + column 3 l) (hashText (a .nt)) (overAt (at + column 2 l) (hashText (a .lm)) x))) whole
     ∙ three-copies p (field 0 l) (field 1 l) (field 2 l) (field 3 l) (field 4 l) (drop 4 (field 5 l)) (fromField 6 l) q
     (hashText (a .lm)) (hashText (a .nt)) (hexText (toBe 4 now))
     (hash-text-length (a .lm) elm ∙ sym (hash-length (field 2 l) (w .lm))) (hash-text-length (a .nt) ent ∙ sym (hash-length (field 3 l) (w .nt)))

@@ -27,7 +27,8 @@ names : (c : tie.After-agree)
     (c .before .before .before .before .before .before .before .before .before .args .name .now)
 names c =
     c .agree .ensures
-    ∙ ap (λ (x : List ℕ). agrees x (c .before .before .before .before .before .before .before .before .before .args .name .now)) (c .before .up-to .ensures)
+    ∙ ap (λ (x : List ℕ). agrees x (c .before .before .before .before .before .before .before .before .before .args .name .now))
+    (c .before .up-to .ensures)
 
 returns : tie.Need-returns
 returns c = after-comment _ _ _ _ (sym (c .before .is-comment .ensures) ∙ c .if1 .taken)
@@ -55,5 +56,6 @@ pub after-line-spec : {M : Type 1} → statement M
 after-line-spec =
     tie.close
     (tie.spec
-    (λ c κs. search needs) returns (λ c κs. search needs) (λ c κs. search needs) (λ c κs. search needs) returns-2 (λ c κs. search needs) (λ c κs. search needs)
+    (λ c κs. search needs) returns (λ c κs. search needs) (λ c κs. search needs) (λ c κs. search needs) returns-2 (λ c κs. search needs)
+    (λ c κs. search needs)
     (λ c κs. search needs) returns-3 returns-4)

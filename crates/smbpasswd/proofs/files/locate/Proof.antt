@@ -32,7 +32,8 @@ loop-again c =
     let h = t .before in
     let a = h .before .before .before .args in
     ap₂ (λ (p : Place) (l : List ℕ). searched (a .name .now) p (placedAt (h .loop .at + length l + 1) (a .file .now)))
-    (c .after-line .ensures ∙ ap (afterLine (a .name .now) (h .loop .place) (h .loop .at)) (c .before .line-at .ensures)) (c .before .line-at .ensures)
+    (c .after-line .ensures ∙ ap (afterLine (a .name .now) (h .loop .place) (h .loop .at)) (c .before .line-at .ensures))
+    (c .before .line-at .ensures)
     ∙ searched-step (a .name .now) (a .file .now) (h .loop .place) (h .loop .at) (t .loop-test .taken) ∙ h .loop .inv
 
 returns : tie.Need-returns Inv-loop μ-loop

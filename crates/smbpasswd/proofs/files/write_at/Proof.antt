@@ -31,5 +31,6 @@ pub write-at-spec : {M : Type 1} → statement M
 write-at-spec =
     tie.close
     (tie.spec
-    (λ c. search needs) (λ c. search needs) write-line-requires (λ c. search needs) (λ c. search needs) returns (λ c. search needs) returns-2 returns-3
+    (λ c. search needs) (λ c. search needs) write-line-requires (λ c. search needs) (λ c. search needs) returns
+    (λ c. search needs) returns-2 returns-3
     returns-4)

@@ -26,7 +26,8 @@ loop-holds : tie.Need-loop-holds Inv-loop μ-loop
 loop-holds c =
     let a = c .before .before .args in
     let e = c .no-counts .ensures in (
-      ap (λ (k : Counts). countLines (a .present) (a .max-age) k (placedAt 0 (a .file .now))) e ∙ counted-file (a .present) (a .max-age) (a .file .now),
+      ap (λ (k : Counts). countLines (a .present) (a .max-age) k (placedAt 0 (a .file .now))) e
+          ∙ counted-file (a .present) (a .max-age) (a .file .now),
       subst (Within 0) (sym e)
           (record { lines = omega arith; bad = omega arith; disabled = omega arith; expired = omega arith; noNt = omega arith }),
       omega arith,

@@ -39,7 +39,8 @@ returns-3 c =
     let e = n .before in
     let d = e .before in
     let p = d .before in
-    account-counted _ _ _ _ (no-comment (p .before .before .before)) (formed p) (d .is-disabled .ensures) (e .has-expired .ensures) (n .lacks-nt .ensures)
+    account-counted _ _ _ _ (no-comment (p .before .before .before)) (formed p) (d .is-disabled .ensures) (e .has-expired .ensures)
+    (n .lacks-nt .ensures)
 
 pub count-line-spec : {M : Type 1} → statement M
 count-line-spec =

@@ -60,11 +60,13 @@ returns-4 : tie.Need-returns-4 Inv-loop μ-loop
 returns-4 c =
     let h = c .before in
     let p = h .before in
-    a-number (p .before .before .before .before .args .s .now) (some (p .before .before)) (digits p) (all-read (h .loop .inv) (c .loop-test .left)) (h .loop .inv .small)
+    a-number (p .before .before .before .before .args .s .now) (some (p .before .before)) (digits p)
+    (all-read (h .loop .inv) (c .loop-test .left)) (h .loop .inv .small)
 
 pub number-in-spec : {M : Type 1} → statement M
 number-in-spec =
     tie.close
     (tie.spec
     Inv-loop μ-loop returns (λ c κs. search needs) returns-2 (λ c. none-read _ (digits c)) mul-value
-    (λ c. search needs) (λ c κs. search needs) (λ c. search needs) add-value returns-3 (λ c. search needs) (λ c. search needs) loop-again cast returns-4)
+    (λ c. search needs) (λ c κs. search needs) (λ c. search needs) add-value returns-3 (λ c. search needs)
+    (λ c. search needs) loop-again cast returns-4)
