@@ -419,7 +419,7 @@ uint32_t mschap_find_account(const uint8_t *file, size_t file_size,
    Returns MSCHAP_OK; MSCHAP_BAD_ARGUMENT for an invalid record; MSCHAP_NO_RECORD for the record of
    no account; MSCHAP_BAD_LINE; MSCHAP_DOUBLED_NAME; MSCHAP_NO_ACCOUNT for a name on no line.
    With MSCHAP_BAD_LINE and MSCHAP_DOUBLED_NAME *offset is as for mschap_find_account.
-   Stack: 640 bytes. */
+   Stack: 656 bytes. */
 uint32_t mschap_write_account(uint8_t *file, size_t file_size,
                               const uint8_t *name, size_t name_size,
                               const mschap_record *record, size_t record_size,
