@@ -13,6 +13,7 @@ pub mod md4;
 pub mod message;
 pub mod packet;
 pub mod peer;
+pub mod random;
 pub mod rc4;
 pub mod script;
 pub mod smbpasswd;

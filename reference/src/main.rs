@@ -7,6 +7,7 @@ use std::ffi::OsString;
 use std::io::{self, Read, Write};
 use std::process::ExitCode;
 
+use reference::random::Random;
 use reference::script::Session;
 use reference::smbpasswd::{self, samples};
 
@@ -37,7 +38,7 @@ fn acctsum() -> io::Result<()> {
 
 fn sample(seed: &str) -> io::Result<()> {
     let seed = seed.parse().map_err(io::Error::other)?;
-    let input = samples::input(&mut samples::Random::new(seed));
+    let input = samples::input(&mut Random::new(seed));
     let mut output = io::stdout().lock();
     output.write_all(&input)?;
     output.flush()

@@ -7,7 +7,8 @@ use std::path::Path;
 
 use reference::authenticator::Account;
 use reference::hashes;
-use reference::smbpasswd::samples::{self, Random};
+use reference::random::Random;
+use reference::smbpasswd::samples;
 use reference::smbpasswd::{acctsum, find, summary, write_back, Counts, Found, Record, Written};
 
 /// The good line of the list of rules. Its password is MyPw, its time 1000.
@@ -864,7 +865,7 @@ fn drawn(random: &mut Random, number: usize) -> Drawn {
             .collect(),
         None => XS.to_string(),
     };
-    let (nt, lm) = (random.hash(), random.hash());
+    let (nt, lm) = (samples::hash_or_none(random), samples::hash_or_none(random));
     let (disabled, never) = (random.chance(30), random.chance(30));
     let lct = samples::time(random);
     let flags = [
@@ -958,8 +959,8 @@ fn written(file: &mut [u8], name: &[u8], record: &Record, now: u32) -> Written {
 fn written_line(random: &mut Random, file: &[u8], name: &[u8], offset: usize, before: Record) {
     let now = samples::time(random);
     let record = Record {
-        nt: random.hash(),
-        lm: random.hash(),
+        nt: samples::hash_or_none(random),
+        lm: samples::hash_or_none(random),
         disabled: before.disabled,
         expired: false,
     };

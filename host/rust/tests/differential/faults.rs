@@ -17,7 +17,7 @@ const FLAGS_AT: usize = 1117;
 
 /// A length for the block in the place of its own, often one next to a limit.
 fn length(random: &mut Random, own: usize) -> u32 {
-    let any = random.next() as u32;
+    let any = random.number() as u32;
     let odd = random.between(0, 255) as u32 * 2 + 1;
     let near = random.pick(&[513, 514, 515, 0x8000_0000]);
     let over = 513 + any % (u32::MAX - 512);

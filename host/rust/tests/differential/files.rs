@@ -195,16 +195,15 @@ fn file(random: &mut Random, mut file: Vec<u8>, seen: &mut Seen) {
         10_001..=50_000 => "file: up to 50,000 octets",
         _ => "file: up to 64 KiB",
     });
-    let draw = &mut samples::Random::new(random.next());
     for _ in 0..3 {
-        let name = samples::sought(&file, draw);
-        let (now, max_age) = samples::times(draw);
+        let name = samples::sought(&file, random);
+        let (now, max_age) = samples::times(random);
         find(random, &file, &name, Times { now, max_age }, seen);
     }
-    let (now, max_age) = samples::times(draw);
+    let (now, max_age) = samples::times(random);
     let times = Times { now, max_age };
     count(&file, times, seen);
-    let name = samples::sought(&file, draw);
+    let name = samples::sought(&file, random);
     write(random, &mut file, &name, now, seen);
     find(random, &file, &name, times, seen);
     count(&file, times, seen);
@@ -213,10 +212,9 @@ fn file(random: &mut Random, mut file: Vec<u8>, seen: &mut Seen) {
 #[test]
 fn account_files_agree() {
     let seen = run("account files", 120_000, |random, seen| {
-        let draw = &mut samples::Random::new(random.next());
-        let good = samples::random_file(draw);
+        let good = samples::random_file(random);
         let drawn = match random.chance(50) {
-            true => samples::damaged(&good, draw),
+            true => samples::damaged(&good, random),
             false => good,
         };
         file(random, drawn, seen);
@@ -255,10 +253,9 @@ fn account_files_agree() {
 #[test]
 fn long_account_files_agree() {
     let seen = run("long account files", 1_000, |random, seen| {
-        let draw = &mut samples::Random::new(random.next());
         let mut long = Vec::new();
         while long.len() < MOST {
-            long.extend(samples::random_file(draw));
+            long.extend(samples::random_file(random));
             if !long.is_empty() && !long.ends_with(b"\n") {
                 long.push(b'\n');
             }
@@ -269,7 +266,7 @@ fn long_account_files_agree() {
             long.truncate(last.map_or(0, |last| last + 1));
         }
         if random.chance(30) {
-            long = samples::damaged(&long, draw);
+            long = samples::damaged(&long, random);
         }
         file(random, long, seen);
     });

@@ -1,6 +1,6 @@
 //! Runs numbered cases, and tells the case that fails.
 
-use crate::random::{Random, SEED};
+use crate::random::{of_case, Random, SEED};
 use std::collections::BTreeMap;
 use std::io::{stderr, IsTerminal, Write};
 
@@ -55,7 +55,7 @@ pub fn run(what: &'static str, count: u64, mut case: impl FnMut(&mut Random, &mu
         if terminal && number % 10_000 == 0 {
             let _ = write!(stderr(), "\r{what}: {number} of {count} ");
         }
-        case(&mut Random::new(number), &mut seen);
+        case(&mut of_case(number), &mut seen);
     }
     if terminal {
         let _ = writeln!(stderr(), "\r{what}: {count} of {count} ");
