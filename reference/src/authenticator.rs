@@ -21,6 +21,8 @@ pub struct Account {
     pub no_dialin: bool,
     /// Expired.
     pub expired: bool,
+    /// How many Responses in a row were invalid (request 2026-09): "0 in a record newly made".
+    pub failures: u8,
 }
 
 /// What a conversation awaits.
@@ -92,6 +94,8 @@ pub struct Conversation {
     pub retries: u8,
     /// Whether LM is allowed.
     pub lm: bool,
+    /// How many invalid Responses in a row lock an account: from 1 to 255, but in [`REFUSED`] 0.
+    pub limit: u8,
     /// What is awaited.
     pub phase: Phase,
     /// The last answer, or none before the first.
@@ -104,6 +108,7 @@ pub const REFUSED: Conversation = Conversation {
     challenge: [0; 8],
     retries: 0,
     lm: false,
+    limit: 0,
     phase: Phase::Ended,
     last: None,
 };
@@ -170,22 +175,25 @@ pub struct Answer {
     pub written: usize,
     /// The next conversation; on refusal and for a repeat the one given.
     pub conversation: Conversation,
-    /// The record handed out by an accepted change.
+    /// The record handed out: after a judged Response the one lent, with its new count; by an
+    /// accepted change the new one; none where none was lent, and with every other answer.
     pub record: Option<Account>,
 }
 
 /// Opens a conversation, spends its challenge and writes it. `None` for `retries` or `lm` is an
-/// opening silent about it. A refused opening leaves all that it was lent as it was.
+/// opening silent about it; `limit` is always named. A refused opening leaves all that it was lent
+/// as it was.
 pub fn open(
     id: u8,
     challenge: &[u8; 8],
     retries: Option<u8>,
     lm: Option<bool>,
+    limit: u8,
     issued: &mut Issued<'_>,
     buffer: &mut [u8],
 ) -> Opening {
     let retries = retries.unwrap_or(DEFAULT_RETRIES);
-    match refuse_or_spend(challenge, retries, issued, buffer.len()) {
+    match refuse_or_spend(challenge, retries, limit, issued, buffer.len()) {
         Err(refusal) => Opening {
             refusal,
             written: 0,
@@ -199,6 +207,7 @@ pub fn open(
                 challenge: *challenge,
                 retries,
                 lm: lm.unwrap_or(DEFAULT_LM),
+                limit,
                 phase: Phase::Response,
                 last: None,
             },
@@ -206,14 +215,19 @@ pub fn open(
     }
 }
 
-/// The refusals of an opening in their order: 13 for retries over 7, 2 for a buffer under 17
-/// octets, then those of the list, to which the entries are added where there is none.
+/// The refusals of an opening in their order: "18, limit 0, checked first", 13 for retries over 7,
+/// 2 for a buffer under 17 octets, then those of the list, to which the entries are added where
+/// there is none.
 fn refuse_or_spend(
     challenge: &[u8; 8],
     retries: u8,
+    limit: u8,
     issued: &mut Issued<'_>,
     room: usize,
 ) -> Result<(), u8> {
+    if limit == 0 {
+        return Err(18);
+    }
     if retries > MOST_RETRIES {
         return Err(13);
     }
@@ -359,7 +373,8 @@ fn judge_response(
     record: Option<&Account>,
 ) -> Judgement {
     let reason = reason(conversation, fields, record);
-    let (retry, next) = match (reason, record) {
+    let handed = record.map(|account| counted(conversation, fields, account));
+    let (retry, next) = match (reason, handed) {
         (691, _) if conversation.retries > 0 => {
             let next = Conversation {
                 id: next_identifier(conversation.id),
@@ -370,7 +385,8 @@ fn judge_response(
             (true, next)
         }
         (648, Some(account)) => {
-            let phase = Phase::Change(*account);
+            // The record kept is the one handed out, so that its count is 0.
+            let phase = Phase::Change(account);
             (
                 false,
                 Conversation {
@@ -387,7 +403,7 @@ fn judge_response(
         retry,
         fault: None,
         conversation: next,
-        record: None,
+        record: handed,
     }
 }
 
@@ -399,6 +415,7 @@ fn reason(
 ) -> u16 {
     match record {
         None => 691,
+        Some(account) if locked(conversation, account) => 691,
         Some(account) if !valid(conversation, fields, account) => 691,
         Some(account) if account.disabled => 647,
         Some(account) if account.hours => 646,
@@ -408,7 +425,30 @@ fn reason(
     }
 }
 
-/// Whether a Response is valid for a record.
+/// "at or over a limit of 1 to 255 every Response is judged invalid": the limit is that of the
+/// conversation, the count that of the record lent.
+fn locked(conversation: &Conversation, account: &Account) -> bool {
+    account.failures >= conversation.limit
+}
+
+/// The record handed out after a judged Response: the one lent, with only its count changed.
+fn counted(conversation: &Conversation, fields: &ResponseFields<'_>, account: &Account) -> Account {
+    let is_valid = valid(conversation, fields, account);
+    let failures = match (is_valid, locked(conversation, account)) {
+        // "a valid one sets it to 0", whatever reason follows.
+        (true, false) => 0,
+        // "and a valid one adds nothing": nor does it set the count to 0.
+        (true, true) => account.failures,
+        // "Each judged invalid Response adds 1, to at most 255", at and over the limit too.
+        (false, _) => account.failures.saturating_add(1),
+    };
+    Account {
+        failures,
+        ..*account
+    }
+}
+
+/// Whether a Response is valid for a record, whatever its count.
 fn valid(conversation: &Conversation, fields: &ResponseFields<'_>, account: &Account) -> bool {
     let right = |hash: &[u8; 16]| hashes::challenge_response(hash, &conversation.challenge);
     match (fields.flag, &account.nt, &account.lm) {
@@ -426,6 +466,7 @@ fn judge_change(conversation: &Conversation, fields: &ChangeFields, kept: &Accou
                 nt: Some(hash),
                 lm: None,
                 expired: false,
+                failures: 0,
                 ..*kept
             };
             (0, None, Some(record))

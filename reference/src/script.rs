@@ -15,6 +15,8 @@ const MOST_LISTED: usize = 1024;
 const MOST_EMPTY: u64 = 128;
 /// The places at the start.
 const FIRST_PLACES: usize = 8;
+/// The limit at the start.
+const FIRST_LIMIT: u8 = 255;
 
 /// How a line that is no comment is read.
 #[derive(Clone, Copy, Debug, PartialEq, Eq)]
@@ -32,6 +34,7 @@ pub struct Session {
     conversation: Conversation,
     account: Option<Account>,
     handed_out: Option<Account>,
+    limit: u8,
     list: List,
 }
 
@@ -69,14 +72,15 @@ pub fn run(input: &str) -> String {
 type Outcome = Option<String>;
 
 impl Session {
-    /// The state at the start: commands, no account, the conversation of a refused opening, and
-    /// an empty list.
+    /// The state at the start: commands, no account, the conversation of a refused opening, the
+    /// greatest limit, and an empty list.
     pub fn new() -> Session {
         Session {
             section: Section::Cases,
             conversation: authenticator::REFUSED,
             account: None,
             handed_out: None,
+            limit: FIRST_LIMIT,
             list: List::empty(FIRST_PLACES),
         }
     }
@@ -191,7 +195,15 @@ impl Session {
                 return Some(None);
             }
             ["account", nt, lm, marks] => {
-                self.account = Some(account(nt, lm, marks)?);
+                self.account = Some(account(nt, lm, marks, "0")?);
+                return Some(None);
+            }
+            ["account", nt, lm, marks, count] => {
+                self.account = Some(account(nt, lm, marks, count)?);
+                return Some(None);
+            }
+            ["limit", limit] => {
+                self.limit = octet(limit)?;
                 return Some(None);
             }
             ["list", buffer, used, counts] => {
@@ -280,7 +292,15 @@ impl Session {
             used: self.list.used,
             counts: &mut self.list.counts,
         };
-        let opening = authenticator::open(id, &challenge, retries, lm, &mut issued, &mut buffer);
+        let opening = authenticator::open(
+            id,
+            &challenge,
+            retries,
+            lm,
+            self.limit,
+            &mut issued,
+            &mut buffer,
+        );
         self.list.used = issued.used;
         self.conversation = opening.conversation;
         Some(format!(
@@ -402,7 +422,8 @@ fn show_account(account: &Account) -> String {
     .iter()
     .map(|mark| if *mark { '1' } else { '0' })
     .collect();
-    format!("{}/{}/{}", hash(&account.nt), hash(&account.lm), marks)
+    let (nt, lm, count) = (hash(&account.nt), hash(&account.lm), account.failures);
+    format!("{nt}/{lm}/{marks}/{count}")
 }
 
 fn show_conversation(conversation: &Conversation) -> String {
@@ -412,11 +433,12 @@ fn show_conversation(conversation: &Conversation) -> String {
         Phase::Ended => ("ended", "-".to_string()),
     };
     format!(
-        "{} {} {} {} {} {} {}",
+        "{} {} {} {} {} {} {} {}",
         conversation.id,
         hex(&conversation.challenge),
         conversation.retries,
         if conversation.lm { "yes" } else { "no" },
+        conversation.limit,
         phase,
         kept,
         conversation
@@ -524,7 +546,7 @@ fn list(buffer: &str, used: &str, counts: &str) -> Option<List> {
     })
 }
 
-fn account(nt: &str, lm: &str, marks: &str) -> Option<Account> {
+fn account(nt: &str, lm: &str, marks: &str, count: &str) -> Option<Account> {
     let hash = |word: &str| match word {
         "-" => Some(None),
         given => Some(Some(fixed::<16>(given)?)),
@@ -544,6 +566,7 @@ fn account(nt: &str, lm: &str, marks: &str) -> Option<Account> {
         hours: mark(hours)?,
         no_dialin: mark(no_dialin)?,
         expired: mark(expired)?,
+        failures: octet(count)?,
     })
 }
 
@@ -579,7 +602,7 @@ mod tests {
         let mut session = Session::new();
         assert_eq!(
             session.run("step - -\n"),
-            "step - - = 2 0 0 0 0 - 0 0000000000000000 0 no ended - - -\n"
+            "step - - = 2 0 0 0 0 - 0 0000000000000000 0 no 0 ended - - -\n"
         );
         session.run("account 00*16 - 0001\nopen 3 00*8 5 no AA*17\n");
         assert_eq!(session.conversation().retries, 5);

@@ -32,7 +32,8 @@ pub struct Record {
 }
 
 impl Record {
-    /// The record as the box takes it: "the hours and dial-in marks are clear".
+    /// The record as the box takes it: "the hours and dial-in marks are clear", and by request
+    /// 2026-09 the count is "0 in a record newly made or read from the account file".
     pub fn account(&self) -> Account {
         Account {
             nt: self.nt,
@@ -41,6 +42,7 @@ impl Record {
             hours: false,
             no_dialin: false,
             expired: self.expired,
+            failures: 0,
         }
     }
 }

@@ -40,7 +40,7 @@ const E691R0: &str = "453D36393120523D3020563D32";
 const E648: &str = "453D36343820523D3020563D32";
 const E709: &str = "453D37303920523D3020563D32";
 const AA3: &str = "AAAAAA";
-const NOTHING: &str = "0 0000000000000000 0 no ended - -";
+const NOTHING: &str = "0 0000000000000000 0 no 0 ended - -";
 
 fn bytes(digits: &str) -> Vec<u8> {
     let digits: Vec<char> = digits.chars().filter(|c| *c != ' ').collect();
@@ -123,6 +123,33 @@ fn text(message: &str) -> String {
     hex(message.as_bytes())
 }
 
+/// A record but for its count, as it is printed.
+fn uncounted(account: &Account) -> String {
+    let hash = |hash: Option<[u8; 16]>| hash.map_or("-".to_string(), |hash| hex(&hash));
+    let marks = [
+        account.disabled,
+        account.hours,
+        account.no_dialin,
+        account.expired,
+    ];
+    let digits: String = marks.map(|mark| if mark { "1" } else { "0" }).concat();
+    format!("{}/{}/{digits}", hash(account.nt), hash(account.lm))
+}
+
+/// CR09-2, -3, -6: what a judged Response below the limit hands out which is lent this record: the
+/// same, its count one more, but at most 255, where it is invalid; 0 where it is valid, whatever
+/// reason follows.
+fn after_response(lent: Option<Account>, reason: &str) -> String {
+    let Some(lent) = lent else {
+        return "-".to_string();
+    };
+    let count = match reason {
+        "691" => (u16::from(lent.failures) + 1).min(255),
+        _ => 0,
+    };
+    format!("{}/{count}", uncounted(&lent))
+}
+
 /// The parts of a step's result.
 struct Stepped {
     refusal: String,
@@ -145,8 +172,8 @@ impl Stepped {
     /// The same reply and the same next conversation, octet for octet.
     fn answers_as(&self, other: &Stepped) {
         assert_eq!(
-            (&self.buffer, &self.conversation),
-            (&other.buffer, &other.conversation)
+            (&self.buffer, &self.conversation, &self.last),
+            (&other.buffer, &other.conversation, &other.last)
         );
     }
 }
@@ -154,11 +181,22 @@ impl Stepped {
 struct Sheet {
     text: String,
     session: Session,
+    /// The limit of the openings, 255 at the start.
+    limit: u8,
     /// The steps so far that drew a reply which is no repeat.
     judged: usize,
 }
 
 impl Sheet {
+    fn new() -> Sheet {
+        Sheet {
+            text: String::new(),
+            session: Session::new(),
+            limit: 255,
+            judged: 0,
+        }
+    }
+
     fn copied(&mut self, line: &str) {
         assert_eq!(self.session.line(line), line);
         self.text.push_str(line);
@@ -204,6 +242,16 @@ impl Sheet {
         self.is(&format!("account {nt} {lm} {marks}"), "");
     }
 
+    /// The same with a count.
+    fn counted(&mut self, nt: &str, lm: &str, marks: &str, count: u8) {
+        self.is(&format!("account {nt} {lm} {marks} {count}"), "");
+    }
+
+    fn limit(&mut self, limit: u8) {
+        self.is(&format!("limit {limit}"), "");
+        self.limit = limit;
+    }
+
     /// An empty list, long enough for any opening.
     fn places(&mut self) {
         self.is("places 8", "");
@@ -218,7 +266,8 @@ impl Sheet {
         assert_eq!(
             result,
             format!(
-                "0 13 {buffer} {id} {challenge} {retries} {allowed} response - - {}",
+                "0 13 {buffer} {id} {challenge} {retries} {allowed} {} response - - {}",
+                self.limit,
                 spent(challenge, retries.parse().unwrap())
             )
         );
@@ -251,24 +300,38 @@ impl Sheet {
         assert_eq!(
             answer.conversation,
             format!(
-                "8 {CHX} 2 {} change {nt}/{lm}/0001",
-                if choice == "yes" { "yes" } else { "no" }
+                "8 {CHX} 2 {} {} change {nt}/{lm}/0001/0",
+                if choice == "yes" { "yes" } else { "no" },
+                self.limit
             )
         );
     }
 
     fn step(&mut self, packet: &[u8], buffer: &str) -> Stepped {
+        let lent = self.session.account().copied();
         let result = self.ask(&format!("step {} {buffer}", hex(packet)));
         let words: Vec<&str> = result.split(' ').collect();
-        assert_eq!(words.len(), 14, "{result}");
+        assert_eq!(words.len(), 15, "{result}");
         // What is awaited is never what was answered last, so that no repeat is taken for a try.
-        let awaited = match words[10] {
+        let awaited = match words[11] {
             "response" => format!("2:{}:", words[6]),
             "change" => format!("6:{}:", words[6]),
             _ => String::from("none"),
         };
-        assert!(!words[12].starts_with(&awaited), "{result}");
-        self.judged += usize::from(words[0] == "0" && words[2] == "0");
+        assert!(!words[13].starts_with(&awaited), "{result}");
+        let judged = words[0] == "0" && words[2] == "0";
+        self.judged += usize::from(judged);
+        // CR09-6, -12: with a judged Response the record lent, the same but for its count; with an
+        // accepted change one; with nothing else.
+        let record = words[14];
+        match (judged, packet.first(), lent) {
+            (true, Some(2), Some(lent)) => {
+                let (but_count, _) = record.rsplit_once('/').unwrap();
+                assert_eq!(but_count, uncounted(&lent), "{result}");
+            }
+            (true, Some(6), _) => assert_eq!(record == "-", words[1] == "709", "{result}"),
+            _ => assert_eq!(record, "-", "{result}"),
+        }
         // CR04-2, -5, -6: a fault beside each 709 that is no repeat, and beside nothing else.
         let faulty = words[..3] == ["0", "709", "0"];
         assert_eq!(words[3] != "0", faulty, "{result}");
@@ -283,15 +346,19 @@ impl Sheet {
             } else {
                 bytes(words[5])
             },
-            conversation: words[6..12].join(" "),
-            last: words[12].to_string(),
-            record: words[13].to_string(),
+            conversation: words[6..13].join(" "),
+            last: words[13].to_string(),
+            record: record.to_string(),
         }
     }
 
-    /// A step that draws Success.
+    /// A step that draws Success. A Response sets the count to 0.
     fn success(&mut self, packet: &[u8]) -> Stepped {
+        let lent = self.session.account().copied();
         let answer = self.step(packet, B);
+        if packet[0] == 2 {
+            assert_eq!(answer.record, after_response(lent, "0"));
+        }
         let expected = format!("03{:02X}0004{}", packet[1], hex(&[0xAA; 16]));
         assert_eq!(
             (answer.refusal.as_str(), answer.reason.as_str()),
@@ -309,8 +376,28 @@ impl Sheet {
         answer
     }
 
-    /// A step that draws a Failure.
+    /// A step that draws a Failure; a Response below the limit, or an invalid one.
     fn failure(&mut self, packet: &[u8], reason: &str, r: u8) -> Stepped {
+        let lent = self.session.account().copied();
+        let answer = self.failed(packet, reason, r);
+        let expected = match packet[0] {
+            2 => after_response(lent, reason),
+            _ => "-".to_string(),
+        };
+        assert_eq!(answer.record, expected, "{}", hex(packet));
+        answer
+    }
+
+    /// CR09-4, -5: a valid Response at or over the limit: 691, and the count stays as it is.
+    fn locked(&mut self, packet: &[u8], r: u8) -> Stepped {
+        let lent = self.session.account().copied().unwrap();
+        let answer = self.failed(packet, "691", r);
+        let expected = format!("{}/{}", uncounted(&lent), lent.failures);
+        assert_eq!(answer.record, expected, "{}", hex(packet));
+        answer
+    }
+
+    fn failed(&mut self, packet: &[u8], reason: &str, r: u8) -> Stepped {
         let answer = self.step(packet, B);
         let message = text(&format!("E={reason} R={r} V=2"));
         assert_eq!(
@@ -323,7 +410,7 @@ impl Sheet {
             hex(&answer.buffer),
             format!("04{:02X}0011{message}{AA3}", packet[1])
         );
-        assert_eq!((answer.written, answer.record.as_str()), (17, "-"));
+        assert_eq!(answer.written, 17);
         let last = format!("{}:{}:{reason}/{r}", packet[0], packet[1]);
         assert_eq!(
             (answer.repeated.as_str(), answer.last.as_str()),
@@ -391,11 +478,7 @@ impl Sheet {
 
 #[test]
 fn cases() {
-    let mut sheet = Sheet {
-        text: String::new(),
-        session: Session::new(),
-        judged: 0,
-    };
+    let mut sheet = Sheet::new();
     vectors(&mut sheet);
     frames(&mut sheet);
     names(&mut sheet);
@@ -416,12 +499,13 @@ fn cases() {
     issued_challenges(&mut sheet);
     faults(&mut sheet);
     faulty_handsets(&mut sheet);
+    guesses(&mut sheet);
 
     // The whole file, run afresh, gives the lines that were checked.
     let again = reference::script::run(&sheet.text);
     assert_eq!(again.lines().count(), sheet.text.lines().count());
     // The program `vectors` reads no more than 524,288 octets.
-    assert!(sheet.text.len() < 500_000, "{}", sheet.text.len());
+    assert!(sheet.text.len() < 520_000, "{}", sheet.text.len());
     let stored = concat!(
         env!("CARGO_MANIFEST_DIR"),
         "/../crates/vectors/data/cases.txt"
@@ -973,12 +1057,12 @@ fn conversations(s: &mut Sheet) {
     s.title("R-CONV-2, -3: all that it holds; what no rule names stays");
     s.open(255, CHX, "2", "yes");
     let answer = s.success(&resp(255, Z24, NR, 1, b"u"));
-    assert_eq!(answer.conversation, format!("255 {CHX} 2 yes ended -"));
+    assert_eq!(answer.conversation, format!("255 {CHX} 2 yes 255 ended -"));
     s.title("R-CONV-4: the kept record is dropped at the end");
     s.expire(H, L);
     let answer = s.success(&change(8, &CH, P, Q));
-    assert_eq!(answer.conversation, format!("8 {CHX} 2 no ended -"));
-    assert_eq!(answer.record, format!("{HQ}/-/0000"));
+    assert_eq!(answer.conversation, format!("8 {CHX} 2 no 255 ended -"));
+    assert_eq!(answer.record, format!("{HQ}/-/0000/0"));
     s.title("R-OPEN-1: any identifier");
     for id in [0, 1, 128, 255] {
         s.open(id, CHX, "-", "-");
@@ -997,7 +1081,7 @@ fn conversations(s: &mut Sheet) {
     s.account(H, "-", "0000");
     s.open(7, CHX, "0", "-");
     let answer = s.failure(&bad, "691", 0);
-    assert_eq!(answer.conversation, format!("7 {CHX} 0 no ended -"));
+    assert_eq!(answer.conversation, format!("7 {CHX} 0 no 255 ended -"));
     s.title("R-OPEN-3: a silent opening has 2 retries");
     s.open7();
     s.failure(&bad, "691", 1);
@@ -1089,7 +1173,7 @@ fn lm_choices(s: &mut Sheet) {
     s.account(H, L, "0001");
     s.failure(&resp(8, LR23, Z24, 0, b"u"), "691", 1);
     let answer = s.failure(&resp(9, Z24, NR46, 1, b"u"), "648", 0);
-    let last = format!("10 {CH46} 0 no change {H}/{L}/0001");
+    let last = format!("10 {CH46} 0 no 255 change {H}/{L}/0001/0");
     assert_eq!(answer.conversation, last);
     s.title("CR06-2: an account without an NT hash, where LM is asked for: in, and after a retry");
     s.account("-", L, "0000");
@@ -1138,7 +1222,7 @@ fn responses(s: &mut Sheet) {
     s.title("R-VALID-6: the grown challenge after a retry");
     s.open7();
     let answer = s.failure(&bad, "691", 1);
-    assert_eq!(answer.conversation, format!("8 {CH23} 1 no response -"));
+    assert_eq!(answer.conversation, format!("8 {CH23} 1 no 255 response -"));
     s.success(&resp(8, Z24, NR23, 1, b"u"));
     s.open7();
     s.failure(&bad, "691", 1);
@@ -1182,10 +1266,10 @@ fn responses(s: &mut Sheet) {
                 if reason == "648" {
                     assert_eq!(
                         answer.conversation,
-                        format!("8 {CHX} 2 yes change {nt}/{lm}/0001")
+                        format!("8 {CHX} 2 yes 255 change {nt}/{lm}/0001/0")
                     );
                 } else {
-                    assert_eq!(answer.conversation, format!("7 {CHX} 2 yes ended -"));
+                    assert_eq!(answer.conversation, format!("7 {CHX} 2 yes 255 ended -"));
                 }
             }
         }
@@ -1194,7 +1278,7 @@ fn responses(s: &mut Sheet) {
     s.account(H, "-", "0000");
     s.open(7, CHX, "1", "no");
     let answer = s.failure(&bad, "691", 1);
-    assert_eq!(answer.conversation, format!("8 {CH23} 0 no response -"));
+    assert_eq!(answer.conversation, format!("8 {CH23} 0 no 255 response -"));
     s.failure(&resp(8, Z24, BAD, 1, b"u"), "691", 0);
     s.title("R-NEXT-2: identifier 255, then 0");
     s.open(255, CHX, "-", "-");
@@ -1207,7 +1291,7 @@ fn responses(s: &mut Sheet) {
         let answer = s.failure(&bad, "691", 1);
         assert_eq!(
             answer.conversation,
-            format!("8 {after}02030405060708 1 no response -")
+            format!("8 {after}02030405060708 1 no 255 response -")
         );
     }
     s.title("R-NEXT-4: expired, identifier 255");
@@ -1216,7 +1300,7 @@ fn responses(s: &mut Sheet) {
     let answer = s.failure(&resp(255, Z24, NR, 1, b"u"), "648", 0);
     assert_eq!(
         answer.conversation,
-        format!("0 {CHX} 3 no change {H}/{L}/0001")
+        format!("0 {CHX} 3 no 255 change {H}/{L}/0001/0")
     );
     s.title("R-REPLY-1, -2: the message, the answered identifier");
     s.open(9, CHX, "-", "-");
@@ -1254,7 +1338,7 @@ fn responses(s: &mut Sheet) {
     s.is(
         &format!("open 7 {CHX} - - 0102030405060708090A0B0C0D0E0F1011"),
         &format!(
-            "0 13 0107000D08{CHX}0E0F1011 7 {CHX} 2 no response - - {}",
+            "0 13 0107000D08{CHX}0E0F1011 7 {CHX} 2 no 255 response - - {}",
             spent(CHX, 2)
         ),
     );
@@ -1262,7 +1346,7 @@ fn responses(s: &mut Sheet) {
 
 fn changes(s: &mut Sheet) {
     let chg = change(8, &CH, P, Q);
-    let renewed = format!("{HQ}/-/0000");
+    let renewed = format!("{HQ}/-/0000/0");
     s.title("R-CHANGE-1: the kept record has no NT hash");
     s.expire("-", L);
     s.bad_change(&chg, Fault::NoNtHash);
@@ -1281,13 +1365,13 @@ fn changes(s: &mut Sheet) {
     s.expire(H, L);
     assert_eq!(
         s.success(&empty).record,
-        "31D6CFE0D16AE931B73C59D7E0C089C0/-/0000"
+        "31D6CFE0D16AE931B73C59D7E0C089C0/-/0000/0"
     );
     let longest = vec![0x61; 512];
     s.expire(H, L);
     assert_eq!(
         s.success(&change(8, &CH, P, &longest)).record,
-        "71AD0EBE8DB92F0DECA36C233E1AC4CB/-/0000"
+        "71AD0EBE8DB92F0DECA36C233E1AC4CB/-/0000/0"
     );
     s.note("block lengths 513, 514, 7, 65550");
     for (length, fault) in [
@@ -1321,13 +1405,13 @@ fn changes(s: &mut Sheet) {
     s.expire(H, "-");
     assert_eq!(
         s.success(&change(8, &CH, P, P)).record,
-        format!("{H}/-/0000")
+        format!("{H}/-/0000/0")
     );
     s.title("R-CHANGE-8 to -10: 709 ends; nothing more is answered but a repeat");
     s.expire(H, L);
     let wrong_old = change(8, &CH, BADPW, Q);
     let answer = s.bad_change(&wrong_old, Fault::Over);
-    assert_eq!(answer.conversation, format!("8 {CHX} 2 no ended -"));
+    assert_eq!(answer.conversation, format!("8 {CHX} 2 no 255 ended -"));
     s.repeats(&chg, B, &format!("04080011{E709}"), "709");
     s.refused(&with(&chg, &[(1, &[9])]), B, "1");
     s.refused(&resp(8, Z24, NR, 1, b"u"), B, "1");
@@ -1350,7 +1434,7 @@ fn changes(s: &mut Sheet) {
     let answer = s.failure(&resp(7, LR, Z24, 0, b"u"), "648", 0);
     assert_eq!(
         answer.conversation,
-        format!("8 {CHX} 0 yes change {H}/{L}/0001")
+        format!("8 {CHX} 0 yes 255 change {H}/{L}/0001/0")
     );
     assert_eq!(s.success(&chg).record, renewed);
 }
@@ -1838,10 +1922,16 @@ fn table_of_twelve(s: &mut Sheet) {
     s.account(H, "-", "0000");
     s.open(255, "E802030405060708", "1", "-");
     let answer = s.failure(&resp(255, Z24, Z24, 1, b"u"), "691", 1);
-    assert_eq!(answer.conversation, "0 FF02030405060708 0 no response -");
+    assert_eq!(
+        answer.conversation,
+        "0 FF02030405060708 0 no 255 response -"
+    );
     s.open(7, "E902030405060708", "1", "-");
     let answer = s.failure(&resp(7, Z24, Z24, 1, b"u"), "691", 1);
-    assert_eq!(answer.conversation, "8 0002030405060708 0 no response -");
+    assert_eq!(
+        answer.conversation,
+        "8 0002030405060708 0 no 255 response -"
+    );
     s.is("expand FFFFFFFFFFFFFF", "FEFEFEFEFEFEFEFE");
     s.is("expand 01000000000000", "0080000000000000");
     s.places();
@@ -1976,7 +2066,7 @@ fn exchanges(s: &mut Sheet) {
     peer.respond(s, P, renew);
     assert_eq!(peer.turn, format!("8 {CHX}"));
     let answer = peer.change(s, P, Q, "success");
-    assert_eq!(answer.record, format!("{HQ}/-/0000"));
+    assert_eq!(answer.record, format!("{HQ}/-/0000/0"));
     s.note("the record handed out lets the new password in, and the old one not");
     s.is("relend", "");
     let mut peer = Peer::meet(s, 7, "-");
@@ -1993,7 +2083,7 @@ fn exchanges(s: &mut Sheet) {
     assert_eq!(peer.turn, format!("0 {CH23}"));
     let longest = vec![0x41; 512];
     let answer = peer.change(s, P, &longest, "success");
-    assert_eq!(answer.conversation, format!("0 {CH23} 0 no ended -"));
+    assert_eq!(answer.conversation, format!("0 {CH23} 0 no 255 ended -"));
     s.is("relend", "");
     let mut peer = Peer::meet(s, 1, "0");
     peer.respond(s, &longest, "success");
@@ -2152,13 +2242,13 @@ fn repeats(s: &mut Sheet) {
     s.note("a Response again while a change is awaited, which is then accepted");
     s.repeats(&four, B, &expired7, "648");
     s.repeats(&bad, B, &expired7, "648");
-    assert_eq!(s.success(&chg).record, format!("{HQ}/-/0000"));
+    assert_eq!(s.success(&chg).record, format!("{HQ}/-/0000/0"));
 
     s.title("CR01-3, -4, -6: between tries; whatever its other contents, it is not judged");
     s.account(H, L, "0000");
     s.open(7, CHX, "1", "-");
     let answer = s.failure(&bad, "691", 1);
-    assert_eq!(answer.conversation, format!("8 {CH23} 0 no response -"));
+    assert_eq!(answer.conversation, format!("8 {CH23} 0 no 255 response -"));
     s.repeats(&bad, B, &retry7, "691");
     s.note("the right password under the old identifier, to either challenge");
     s.repeats(&good, B, &retry7, "691");
@@ -2180,7 +2270,7 @@ fn repeats(s: &mut Sheet) {
 
     s.title("CR01-5: an accepted change again hands out no record");
     s.expire(H, L);
-    assert_eq!(s.success(&chg).record, format!("{HQ}/-/0000"));
+    assert_eq!(s.success(&chg).record, format!("{HQ}/-/0000/0"));
     s.repeats(&chg, B, "03080004", "0");
     s.repeats(&bytes("06080004"), "AA*17", "03080004", "0");
     s.note("the Response before it is no longer kept; and relend finds none: still expired");
@@ -2320,7 +2410,7 @@ fn repeats(s: &mut Sheet) {
     peer.again(s, "failure 648 0 - 2 change2");
     peer.again(s, "failure 648 0 - 2 change2");
     let answer = peer.change(s, P, Q, "success");
-    assert_eq!(answer.record, format!("{HQ}/-/0000"));
+    assert_eq!(answer.record, format!("{HQ}/-/0000/0"));
     peer.again(s, "success");
     assert_eq!(s.judged - before, 3);
     s.title("CR01-2, -7: identifiers 255 and 0");
@@ -2375,9 +2465,11 @@ impl Sheet {
 
     /// An opening that is not refused, and the list afterwards.
     fn spends(&mut self, challenge: &str, r: u8, list: &str) {
+        let written = format!("0 13 0107000D08{challenge}AAAAAAAA");
+        let opened = format!("7 {challenge} {r} no {} response - -", self.limit);
         self.is(
             &format!("open 7 {challenge} {r} - AA*17"),
-            &format!("0 13 0107000D08{challenge}AAAAAAAA 7 {challenge} {r} no response - - {list}"),
+            &format!("{written} {opened} {list}"),
         );
     }
 
@@ -2415,9 +2507,10 @@ fn issued_challenges(s: &mut Sheet) {
     s.spends(C1, 1, &format!("2 {C1}{C18}{Z8}{Z8} 08:2"));
     s.note("a silent opening has 2 retries");
     s.is("places 4", "");
+    let opened = format!("0 13 0107000D08{C1}AAAAAAAA 7 {C1} 2 no 255 response - -");
     s.is(
         &format!("open 7 {C1} - - AA*17"),
-        &format!("0 13 0107000D08{C1}AAAAAAAA 7 {C1} 2 no response - - 3 {C1}{C18}{C2F}{Z8} 08:3"),
+        &format!("{opened} 3 {C1}{C18}{C2F}{Z8} 08:3"),
     );
     s.note("the first octet wraps, with no carry");
     s.is("places 3", "");
@@ -2735,7 +2828,7 @@ fn issued_challenges(s: &mut Sheet) {
     let kept = format!("2 {CHX}{CH23}{Z8}{Z8} 41:2");
     s.spends(CHX, 1, &kept);
     let answer = s.failure(&resp(7, Z24, BAD, 1, b"u"), "691", 1);
-    assert_eq!(answer.conversation, format!("8 {CH23} 0 no response -"));
+    assert_eq!(answer.conversation, format!("8 {CH23} 0 no 255 response -"));
     s.success(&resp(8, Z24, NR23, 1, b"u"));
     s.keeps(CHX, 0, 16, &kept);
     s.keeps(CH23, 0, 16, &kept);
@@ -2836,7 +2929,7 @@ fn faults(s: &mut Sheet) {
     s.refused(&with(&bad, &[(2, &[4, 0x5D])]), B, "6");
     s.refused(&with(&bad, &[(1116, &[0, 4])]), B, "7");
     let answer = s.success(&change(9, &array(CH23), P, Q));
-    assert_eq!(answer.record, format!("{HQ}/-/0000"));
+    assert_eq!(answer.record, format!("{HQ}/-/0000/0"));
     assert_eq!(s.judged - before, 3);
     s.note("647, 646, 649, and 691 with no retry left");
     for (marks, nt, reason) in [
@@ -3134,20 +3227,421 @@ fn faulty_handsets(s: &mut Sheet) {
     s.expire(H, L);
     let answer = s.success(&change(8, &CH, P, &ended));
     let hash = "64DC7FA1F2FD0CA2F86AA447782D79BE";
-    assert_eq!(answer.record, format!("{hash}/-/0000"));
+    assert_eq!(answer.record, format!("{hash}/-/0000/0"));
     s.is("relend", "");
     s.open(7, CHX, "0", "-");
     s.failure(&resp(7, Z24, NQ, 1, b"u"), "691", 0);
 }
 
+/// Request 2026-09: the count of invalid Responses in a row, and the limit of the opening.
+fn guesses(s: &mut Sheet) {
+    counts_of_tries(s);
+    at_the_limit(s);
+    one_answer_for_all(s);
+    what_is_not_counted(s);
+    tries_by_lm(s);
+    counts_and_changes(s);
+    calling_back(s);
+    limits(s);
+}
+
+/// A right and a wrong try, with the identifiers of a first one and of its retries.
+fn tries() -> [(Vec<u8>, Vec<u8>); 3] {
+    [(7, NR), (8, NR23), (9, NR46)].map(|(id, right)| {
+        let try_with = |response| resp(id, Z24, response, 1, b"u");
+        (try_with(right), try_with(BAD))
+    })
+}
+
+impl Sheet {
+    /// Opens, sends one Response, and gives the count of the record handed out.
+    fn count_after(&mut self, packet: &[u8], reason: &str) -> String {
+        self.open7();
+        let answer = match reason {
+            "0" => self.success(packet),
+            "691" => self.failed(packet, reason, 1),
+            _ => self.failure(packet, reason, 0),
+        };
+        answer.record.rsplit('/').next().unwrap().to_string()
+    }
+}
+
+fn counts_of_tries(s: &mut Sheet) {
+    let [(right, wrong), (right8, wrong8), (right9, wrong9)] = tries();
+    s.title("CR09-1, -2: a record made without a count has 0; an invalid Response adds 1");
+    s.account(H, "-", "0000");
+    assert_eq!(s.count_after(&wrong, "691"), "1");
+    s.note("to at most 255, the limit being 255 too");
+    for (count, after) in [(1, "2"), (127, "128"), (254, "255"), (255, "255")] {
+        s.counted(H, "-", "0000", count);
+        assert_eq!(s.count_after(&wrong, "691"), after);
+    }
+    s.note("in a row: the record handed out is passed on; then the right password sets 0");
+    s.counted(H, "-", "0000", 0);
+    s.open(7, CHX, "2", "-");
+    for (packet, r, count) in [(&wrong, 1, 1), (&wrong8, 1, 2), (&wrong9, 0, 3)] {
+        let answer = s.failure(packet, "691", r);
+        assert_eq!(answer.record, format!("{H}/-/0000/{count}"));
+        s.is("relend", "");
+    }
+    assert_eq!(s.count_after(&right, "0"), "0");
+
+    s.title(
+        "CR09-3: a valid one sets 0, also where 647, 646, 649 or 648 follows; limit 3, count 2",
+    );
+    s.limit(3);
+    for (marks, reason) in [
+        ("0000", "0"),
+        ("1000", "647"),
+        ("0100", "646"),
+        ("0010", "649"),
+        ("0001", "648"),
+        ("1111", "647"),
+    ] {
+        s.counted(H, L, marks, 2);
+        assert_eq!(s.count_after(&right, reason), "0");
+    }
+    s.note("after a retry too; the record kept is the one handed out");
+    s.counted(H, L, "0001", 1);
+    s.open7();
+    s.failure(&wrong, "691", 1);
+    s.is("relend", "");
+    let answer = s.failure(&right8, "648", 0);
+    assert_eq!(answer.record, format!("{H}/{L}/0001/0"));
+    let kept = format!("9 {CH23} 1 no 3 change {H}/{L}/0001/0");
+    assert_eq!(answer.conversation, kept);
+
+    s.title("CR09-6: the record lent with only its count changed, whatever it has");
+    for (nt, lm, marks) in [(H, L, "1111"), ("-", L, "0110"), ("-", "-", "1001")] {
+        s.counted(nt, lm, marks, 1);
+        s.open7();
+        let answer = s.failure(&wrong, "691", 1);
+        assert_eq!(answer.record, format!("{nt}/{lm}/{marks}/2"));
+    }
+    s.note("another account's record, and its count; none where there was none");
+    s.counted("11*16", "-", "0000", 0);
+    assert_eq!(s.count_after(&right, "691"), "1");
+    s.is("account -", "");
+    s.open7();
+    for (packet, r) in [(&right, 1), (&wrong8, 1), (&right9, 0)] {
+        assert_eq!(s.failure(packet, "691", r).record, "-");
+    }
+}
+
+/// CR09-4, -5: for a limit and a count, what the right and what a wrong password draws.
+fn at_the_limit(s: &mut Sheet) {
+    let [(right, wrong), (right8, _), (right9, wrong9)] = tries();
+    s.title("CR09-4, -5: at or over the limit a right try draws 691 and leaves the count");
+    let table = [
+        (
+            3,
+            &[(2, false), (3, true), (4, true), (254, true), (255, true)][..],
+        ),
+        (1, &[(0, false), (1, true)]),
+        (127, &[(126, false), (128, true)]),
+        (128, &[(127, false), (128, true)]),
+        (255, &[(254, false), (255, true)]),
+    ];
+    for (limit, counts) in table {
+        s.limit(limit);
+        for (count, locked) in counts {
+            s.counted(H, "-", "0000", *count);
+            let (reason, after) = match locked {
+                true => ("691", *count),
+                false => ("0", 0),
+            };
+            assert_eq!(s.count_after(&right, reason), after.to_string());
+        }
+    }
+    s.note("a wrong one adds 1 there as below it");
+    s.limit(3);
+    for (count, after) in [(2, "3"), (3, "4"), (4, "5"), (254, "255"), (255, "255")] {
+        s.counted(H, "-", "0000", count);
+        assert_eq!(s.count_after(&wrong, "691"), after);
+    }
+    s.limit(1);
+    for (count, after) in [(0, "1"), (1, "2")] {
+        s.counted(H, "-", "0000", count);
+        assert_eq!(s.count_after(&wrong, "691"), after);
+    }
+    s.title("CR09-4: by the retry rule; before any mark is looked at; limit 3, count 3");
+    s.limit(3);
+    for marks in ["1000", "0100", "0010", "0001", "1111"] {
+        s.counted(H, L, marks, 3);
+        s.open7();
+        let answer = s.locked(&right, 1);
+        assert_eq!(answer.conversation, format!("8 {CH23} 1 no 3 response -"));
+    }
+    s.note("the right password at each retry, and a wrong one at the last");
+    s.counted(H, "-", "0001", 3);
+    s.open7();
+    s.locked(&right, 1);
+    s.is("relend", "");
+    let answer = s.locked(&right8, 1);
+    assert_eq!(answer.conversation, format!("9 {CH46} 0 no 3 response -"));
+    s.is("relend", "");
+    let answer = s.failure(&wrong9, "691", 0);
+    assert_eq!(answer.record, format!("{H}/-/0001/4"));
+    assert_eq!(answer.conversation, format!("9 {CH46} 0 no 3 ended -"));
+    s.note("the record is asked, not the conversation: one that is not locked gets in");
+    s.counted(H, "-", "0000", 3);
+    s.open7();
+    s.locked(&right, 1);
+    s.locked(&right8, 1);
+    s.counted(H, "-", "0000", 2);
+    s.success(&right9);
+}
+
+fn one_answer_for_all(s: &mut Sheet) {
+    let [(right, wrong), ..] = tries();
+    s.title("CR09-8: no record, a wrong try, and either at the limit: one reply, one conversation");
+    for r in ["-", "0"] {
+        let left = u8::from(r == "-");
+        s.is("account -", "");
+        s.open(7, CHX, r, "-");
+        let none = s.failure(&right, "691", left);
+        for (marks, count, packet) in [("0000", 2, &wrong), ("1111", 3, &wrong)] {
+            s.counted(H, L, marks, count);
+            s.open(7, CHX, r, "-");
+            s.failure(packet, "691", left).answers_as(&none);
+        }
+        for (marks, count) in [("0000", 3), ("0001", 255)] {
+            s.counted(H, L, marks, count);
+            s.open(7, CHX, r, "-");
+            s.locked(&right, left).answers_as(&none);
+        }
+    }
+}
+
+fn what_is_not_counted(s: &mut Sheet) {
+    let [(right, wrong), (right8, wrong8), _] = tries();
+    let retry7 = format!("04070011{E691R1}");
+    s.title("CR09-12: a wrong try, its repeat: one record, count 1");
+    s.counted(H, "-", "0000", 0);
+    s.open7();
+    assert!(s.failure(&wrong, "691", 1).record.ends_with("/1"));
+    s.is("relend", "");
+    s.repeats(&wrong, B, &retry7, "691");
+    s.note("nor do others that are not judged: relend finds none, and the next wrong try makes 2");
+    s.repeats(&right, B, &retry7, "691");
+    s.refused(&wrong8, "AA*16", "2");
+    s.refused(&wrong8[..54], B, "3");
+    s.refused(&bytes("06080004"), B, "4");
+    s.refused(&resp(9, Z24, BAD, 1, b"u"), B, "5");
+    s.refused(&bytes("02080004"), B, "6");
+    s.refused(&resp(8, Z24, BAD, 2, b"u"), B, "7");
+    s.is("relend", "");
+    assert!(s.failure(&wrong8, "691", 1).record.ends_with("/2"));
+    s.note("at the limit a repeat and a refused packet are what they were");
+    s.counted(H, "-", "0000", 3);
+    s.repeats(&right8, B, &format!("04080011{E691R1}"), "691");
+    s.refused(&right, B, "5");
+    s.note("after the end: Success again, and refusal 1");
+    s.counted(H, "-", "0000", 2);
+    s.open7();
+    s.success(&right);
+    s.counted(H, "-", "0000", 3);
+    s.repeats(&right, B, "03070004", "0");
+    s.refused(&wrong8, B, "1");
+}
+
+fn tries_by_lm(s: &mut Sheet) {
+    let right = resp(7, LR, Z24, 0, b"u");
+    let right_flag1 = resp(7, LR, Z24, 1, b"u");
+    let wrong = resp(7, BAD, NR, 0, b"u");
+    s.title("CR09-2 to -5: tries by LM, where LM is allowed; limit 3");
+    for (nt, packet) in [(H, &right), ("-", &right_flag1)] {
+        s.counted(nt, L, "0000", 2);
+        s.open7_lm();
+        assert!(s.success(packet).record.ends_with("/0"));
+        s.counted(nt, L, "0000", 3);
+        s.open7_lm();
+        assert!(s.locked(packet, 1).record.ends_with("/3"));
+    }
+    for (count, after) in [(2, "/3"), (3, "/4")] {
+        s.counted(H, L, "0000", count);
+        s.open7_lm();
+        assert!(s.failure(&wrong, "691", 1).record.ends_with(after));
+    }
+    s.note("the right LM response beside a wrong NT response, flag 1: no way back, and 1 more");
+    s.counted(H, L, "0000", 1);
+    s.open7_lm();
+    let fallen = s.failure(&resp(7, LR, BAD, 1, b"u"), "691", 1);
+    assert!(fallen.record.ends_with("/2"));
+    s.title("CR09-2, -5: where LM is off a try by LM is invalid: 1 more, also at the limit");
+    for (nt, count, after, packet) in [
+        (H, 1, "/2", &right),
+        ("-", 2, "/3", &right_flag1),
+        (H, 3, "/4", &right),
+        ("-", 3, "/4", &right_flag1),
+    ] {
+        s.counted(nt, L, "0000", count);
+        s.open7();
+        assert!(s.failure(packet, "691", 1).record.ends_with(after));
+    }
+    s.note("the right NT response with flag 0 goes to LM, which is off");
+    s.counted(H, L, "0000", 0);
+    s.open7();
+    let by_flag = s.failure(&resp(7, LR, NR, 0, b"u"), "691", 1);
+    assert!(by_flag.record.ends_with("/1"));
+}
+
+fn counts_and_changes(s: &mut Sheet) {
+    let [(right, wrong), _, _] = tries();
+    let new = resp(7, Z24, NQ, 1, b"u");
+    s.title("CR09-3, -7: 648 keeps count 0; the accepted change hands out count 0");
+    s.counted(H, L, "0001", 2);
+    s.open7();
+    let answer = s.failure(&right, "648", 0);
+    let kept = format!("8 {CHX} 2 no 3 change {H}/{L}/0001/0");
+    assert_eq!(answer.conversation, kept);
+    s.note("the count lent with a change has no effect, at the limit neither");
+    s.counted(H, L, "0001", 3);
+    let answer = s.success(&change(8, &CH, P, Q));
+    assert_eq!(answer.record, format!("{HQ}/-/0000/0"));
+    s.title("CR09-13: that record lets the new password in where the limit is 1, and again");
+    s.is("relend", "");
+    s.limit(1);
+    for _ in 0..2 {
+        assert_eq!(s.count_after(&new, "0"), "0");
+        s.is("relend", "");
+    }
+    s.note("the old one draws 691 and locks it");
+    assert_eq!(s.count_after(&right, "691"), "1");
+    s.is("relend", "");
+    assert_eq!(s.count_after(&new, "691"), "1");
+    s.title("CR09-6, -7: a change that draws 709 hands out none, and leaves the count");
+    s.limit(3);
+    s.counted(H, "-", "0001", 1);
+    s.open7();
+    s.failure(&right, "648", 0);
+    s.is("relend", "");
+    s.bad_change(&change(8, &CH, BADPW, Q), Fault::Over);
+    s.is("relend", "");
+    assert_eq!(s.count_after(&wrong, "691"), "1");
+}
+
+fn calling_back(s: &mut Sheet) {
+    let [(right, wrong), (_, wrong8), _] = tries();
+    s.title("CR09-2, -4, -5: hanging up and calling back: the retries are fresh, the count is not");
+    s.counted(H, "-", "0000", 0);
+    s.open7();
+    s.failure(&wrong, "691", 1);
+    s.is("relend", "");
+    s.failure(&wrong8, "691", 1);
+    s.is("relend", "");
+    assert_eq!(s.count_after(&wrong, "691"), "3");
+    for (packet, count) in [(&right, "3"), (&wrong, "4"), (&right, "4")] {
+        s.is("relend", "");
+        assert_eq!(s.count_after(packet, "691"), count);
+    }
+    s.note("the keeper of the accounts sets the count to 0");
+    s.counted(H, "-", "0000", 0);
+    assert_eq!(s.count_after(&right, "0"), "0");
+    s.note("in a row: two wrong, the right one, and two more may be wrong before the right one");
+    for _ in 0..2 {
+        s.is("relend", "");
+        assert_eq!(s.count_after(&wrong, "691"), "1");
+        s.is("relend", "");
+        assert_eq!(s.count_after(&wrong, "691"), "2");
+        s.is("relend", "");
+        assert_eq!(s.count_after(&right, "0"), "0");
+    }
+
+    let retry = "failure 691 1 - 2 retry";
+    s.title("CR09-9, -10: our peer, the record last handed out passed in: 0 and 2 are below 3");
+    s.counted(H, "-", "0000", 0);
+    let mut peer = Peer::meet(s, 7, "2");
+    for (password, verdict, count) in [(BADPW, retry, 1), (Q, retry, 2), (P, "success", 0)] {
+        let answer = peer.respond(s, password, verdict);
+        assert_eq!(answer.record, format!("{H}/-/0000/{count}"));
+        s.is("relend", "");
+    }
+    s.title("CR09-10: but not below 2, and the right password draws 691");
+    s.limit(2);
+    let mut peer = Peer::meet(s, 7, "2");
+    for (password, verdict, count) in [
+        (BADPW, retry, 1),
+        (Q, retry, 2),
+        (P, "failure 691 0 - 2 end", 2),
+    ] {
+        let answer = peer.respond(s, password, verdict);
+        assert_eq!(answer.record, format!("{H}/-/0000/{count}"));
+        s.is("relend", "");
+    }
+}
+
+fn limits(s: &mut Sheet) {
+    let [(right, _), ..] = tries();
+    s.title("CR09-4: the limit is that of the conversation, whatever others have");
+    for (limit, reason, count) in [(3, "691", "3"), (4, "0", "0"), (1, "691", "3")] {
+        s.limit(limit);
+        s.counted(H, "-", "0000", 3);
+        assert_eq!(s.count_after(&right, reason), count);
+    }
+    s.note("a limit named after the opening is for the next one");
+    s.limit(3);
+    s.open7();
+    s.limit(255);
+    let answer = s.locked(&right, 1);
+    assert_eq!(answer.conversation, format!("8 {CH23} 1 no 3 response -"));
+    s.limit(3);
+    s.counted(H, "-", "0000", 2);
+    s.open7();
+    s.limit(1);
+    s.success(&right);
+
+    s.title("CR09-11: limit 0 is refused with 18, before 13, 2, 24, 16 and 17");
+    s.limit(0);
+    s.is("places 1", "");
+    s.keeps(C1, 8, 18, &format!("0 {Z8} -"));
+    s.keeps(C1, 0, 18, &format!("0 {Z8} -"));
+    s.keeps(C1, 1, 18, &format!("0 {Z8} -"));
+    for (r, lm, size) in [("-", "-", 16), ("8", "yes", 16), ("2", "no", 0)] {
+        let (buffer, octets) = match size {
+            0 => ("-".to_string(), "-".to_string()),
+            _ => (format!("AA*{size}"), "AA".repeat(size)),
+        };
+        s.is(
+            &format!("open 7 {C1} {r} {lm} {buffer}"),
+            &format!("18 0 {octets} {NOTHING} 0 {Z8} -"),
+        );
+    }
+    s.note("a list of half a place, one with more used than it has, untrue and too few counts");
+    for (size, used, counts, shown) in [
+        (12, 0, NO_COUNTS, "-"),
+        (16, 3, NO_COUNTS, "-"),
+        (16, 1, "00*512", "-"),
+        (16, 0, "0001", "00:1"),
+    ] {
+        s.list(&format!("EE*{size}"), used, counts);
+        s.keeps(C1, 0, 18, &format!("{used} {} {shown}", "EE".repeat(size)));
+    }
+    s.note("a challenge spent, and a list that is full; with limits 1 and 255 what they draw");
+    s.is("places 1", "");
+    s.limit(1);
+    let full = format!("1 {C1} 08:1");
+    s.spends(C1, 0, &full);
+    for (limit, refusals) in [(0, [18, 18, 18]), (1, [13, 16, 17]), (255, [13, 16, 17])] {
+        s.limit(limit);
+        for ((challenge, r), refusal) in [(C1, 8), (C1, 0), (D11, 0)].into_iter().zip(refusals) {
+            s.keeps(challenge, r, refusal, &full);
+        }
+    }
+    s.note("a refused opening leaves no conversation");
+    s.limit(0);
+    s.keeps(D11, 0, 18, &full);
+    s.refused(&right, B, "1");
+    s.note("the limit as at the start");
+    s.limit(255);
+    s.open7();
+    s.success(&right);
+}
+
 /// A line that is no command draws an error; the stored scripts have none.
 #[test]
 fn malformed_lines() {
-    let mut sheet = Sheet {
-        text: String::new(),
-        session: Session::new(),
-        judged: 0,
-    };
+    let mut sheet = Sheet::new();
     for line in [
         "unknown",
         "md4",
@@ -3177,6 +3671,16 @@ fn malformed_lines() {
         "account - - 00000",
         "account - - 0002",
         "account 00 - 0000",
+        "account - - 0000 -",
+        "account - - 0000 x",
+        "account - - 0000 256",
+        "account - - 0000 1 1",
+        "account - - 1",
+        "limit",
+        "limit -",
+        "limit 256",
+        "limit -1",
+        "limit 3 3",
         "list",
         "list - 0",
         "list - 0 - -",
@@ -3210,7 +3714,8 @@ fn malformed_lines() {
     }
 }
 
-/// R-CHANGE-7 and O-8, O-9: values that no opening makes.
+/// R-CHANGE-7, O-8, O-9 and CR09-7: values that no opening makes. A count over the limit in the kept
+/// record is no bar to a change.
 #[test]
 fn conversations_made_by_hand() {
     use reference::authenticator::{step, Conversation, Last, Reply};
@@ -3221,12 +3726,14 @@ fn conversations_made_by_hand() {
         hours: true,
         no_dialin: true,
         expired: true,
+        failures: 5,
     };
     let mut conversation = Conversation {
         id: 8,
         challenge: CH,
         retries: 200,
         lm: true,
+        limit: 3,
         phase: Phase::Change(kept),
         last: None,
     };
@@ -3236,6 +3743,7 @@ fn conversations_made_by_hand() {
         nt: Some(array(HQ)),
         lm: None,
         expired: false,
+        failures: 0,
         ..kept
     };
     assert_eq!(

@@ -180,6 +180,7 @@ fn lm_is_judged_where_the_box_was_asked_for_it() {
             &challenge,
             Some(0),
             asked,
+            255,
             &mut issued,
             &mut reply,
         );
@@ -244,6 +245,7 @@ fn answered(packet: &[u8], challenge: [u8; 8]) -> Answer {
         challenge,
         retries: 2,
         lm: false,
+        limit: 255,
         phase: Phase::Change(kept),
         last: None,
     };

@@ -64,6 +64,12 @@ fn packet_near(random: &mut Random, id: u8) -> Vec<u8> {
     packet
 }
 
+/// An octet, mostly one of few values, so that counts are often at a limit.
+fn near_octet(random: &mut Random) -> u8 {
+    let any = random.next() as u8;
+    [0, 1, 2, 3, 4, 254, 255, any][random.below(8)]
+}
+
 /// A last answer, or none. Its identifier is mostly the one before the awaited one, and sometimes
 /// the awaited one, as no conversation has it that an opening and steps made.
 fn last_near(random: &mut Random, id: u8) -> Option<Last> {
@@ -115,6 +121,7 @@ fn steps() {
             hours: random.below(2) > 0,
             no_dialin: random.below(2) > 0,
             expired: random.below(2) > 0,
+            failures: near_octet(&mut random),
         };
         let phase = match random.below(8) {
             0 | 1 => Phase::Ended,
@@ -126,6 +133,7 @@ fn steps() {
             challenge: random.array(),
             retries: random.below(9) as u8,
             lm: random.below(2) > 0,
+            limit: near_octet(&mut random),
             phase,
             last: None,
         };
@@ -174,6 +182,15 @@ fn steps() {
             assert_eq!(again, buffer);
         } else {
             judged += 1;
+            // None of these Responses is valid: each adds 1 to the count of the record lent, to at
+            // most 255, whatever the limit is. A change hands out none, as none is accepted.
+            let added = record.map(|account| Account {
+                failures: account.failures.checked_add(1).unwrap_or(255),
+                ..account
+            });
+            let is_response = phase == Phase::Response;
+            assert_eq!(answer.record, added.filter(|_| is_response));
+            assert_eq!(answer.reason, if is_response { 691 } else { 709 });
             assert!(answer.written == 4 || answer.written == 17);
             assert_eq!(buffer[answer.written..], lent[answer.written..]);
             assert_eq!(buffer[1], before.id);
@@ -244,6 +261,7 @@ fn change_with_faults(random: &mut Random, challenge: &[u8; 8], set: u8) -> (Acc
     let kept = Account {
         nt: (!holds(0)).then_some(old_hash),
         lm: (random.below(2) > 0).then(|| random.array()),
+        failures: near_octet(random),
         ..Account::default()
     };
     (kept, packet::change(random.next() as u8, &fields))
@@ -263,6 +281,7 @@ fn every_set_of_faults_tells_its_first() {
             challenge,
             retries: 2,
             lm: true,
+            limit: near_octet(&mut random),
             phase: Phase::Change(kept),
             last: None,
         };
@@ -275,7 +294,9 @@ fn every_set_of_faults_tells_its_first() {
         };
         assert_eq!(u32::from(Fault::number(answer.fault)), number, "{set:06b}");
         assert_eq!((answer.reason == 709, answer.refusal), (set != 0, 0));
-        assert_eq!(answer.record.is_some(), set == 0);
+        // An accepted change hands out count 0, whatever the limit is and the kept record has.
+        let count = answer.record.map(|record| record.failures);
+        assert_eq!(count, (set == 0).then_some(0));
         told[number as usize] += 1;
         // The reply has the same octets whatever the fault is.
         if set != 0 {
@@ -327,6 +348,7 @@ fn openings() {
         let room = [0, 16, 17, 17, 17, 17, 20, 20][random.below(8)];
         let challenge = near_challenge(&mut random);
         let retries = (random.below(4) > 0).then(|| random.below(9) as u8);
+        let limit = near_octet(&mut random);
         let r = usize::from(retries.unwrap_or(2));
 
         let reply = random.octets(room);
@@ -338,8 +360,15 @@ fn openings() {
             counts: &mut later_counts,
         };
         let id = random.next() as u8;
-        let opening =
-            authenticator::open(id, &challenge, retries, None, &mut issued, &mut later_reply);
+        let opening = authenticator::open(
+            id,
+            &challenge,
+            retries,
+            None,
+            limit,
+            &mut issued,
+            &mut later_reply,
+        );
         let later_used = issued.used;
 
         let added: Vec<[u8; 8]> = (0..=r)
@@ -350,7 +379,9 @@ fn openings() {
             })
             .collect();
         let whole = list.len().is_multiple_of(8);
-        let expected = if r > 7 {
+        let expected = if limit == 0 {
+            18
+        } else if r > 7 {
             13
         } else if room < 17 {
             2
@@ -374,7 +405,7 @@ fn openings() {
             assert_eq!((later_list, later_used, later_counts), (list, used, counts));
             assert_eq!(later_reply, reply);
         } else {
-            assert_eq!(opening.written, 13);
+            assert_eq!((opening.written, opening.conversation.limit), (13, limit));
             assert_eq!(later_reply[13..], reply[13..]);
             assert_eq!(
                 peer::read_challenge(&later_reply),
@@ -387,7 +418,7 @@ fn openings() {
             assert_eq!(tally(&later_list, later_used), Some(later_counts));
         }
     }
-    for refusal in [0, 2, 13, 16, 17, 24] {
+    for refusal in [0, 2, 13, 16, 17, 18, 24] {
         assert!(drawn[refusal] > 1_000, "{refusal}: {drawn:?}");
     }
 }
@@ -402,9 +433,11 @@ fn peer_to_box_and_back() {
         let new = random.octets(size);
         let id = random.next() as u8;
         let challenge: [u8; 8] = random.array();
+        let limit = near_octet(&mut random).max(1);
         let record = Account {
             nt: hashes::nt_hash(&old).ok(),
             expired: true,
+            failures: random.below(limit.into()) as u8,
             ..Account::default()
         };
         let mut reply = [0u8; 17];
@@ -413,7 +446,15 @@ fn peer_to_box_and_back() {
             used: 0,
             counts: &mut [0; 256],
         };
-        let opened = authenticator::open(id, &challenge, Some(0), None, &mut issued, &mut reply);
+        let opened = authenticator::open(
+            id,
+            &challenge,
+            Some(0),
+            None,
+            limit,
+            &mut issued,
+            &mut reply,
+        );
         let turn = peer::read_challenge(&reply).unwrap();
         assert_eq!(turn, Turn { id, challenge });
         let mut out = vec![0u8; 1118];
@@ -422,6 +463,13 @@ fn peer_to_box_and_back() {
         let written = peer::write_response(&turn, &old, &name, &mut out);
         let first = authenticator::step(&opened.conversation, &out, Some(&record), &mut reply);
         assert_eq!((written.written, first.reason), (54 + name.len(), 648));
+        // The count of the record handed out is 0, and that record is kept.
+        let reset = Account {
+            failures: 0,
+            ..record
+        };
+        assert_eq!(first.record, Some(reset));
+        assert_eq!(first.conversation.phase, Phase::Change(reset));
         // The peer missed the reply, and sends the same packet again.
         let mut missed = [0u8; 17];
         let again = authenticator::step(&first.conversation, &out, None, &mut missed);
@@ -434,7 +482,11 @@ fn peer_to_box_and_back() {
             (second.reason, second.conversation.phase),
             (0, Phase::Ended)
         );
-        assert_eq!(second.record.unwrap().nt, hashes::nt_hash(&new).ok());
+        let renewed = Account {
+            nt: hashes::nt_hash(&new).ok(),
+            ..Account::default()
+        };
+        assert_eq!(second.record, Some(renewed));
         assert_eq!(peer::read_reply(next.id, &reply), Ok(Verdict::Success));
         let again = authenticator::step(&second.conversation, &out, None, &mut reply);
         assert_eq!((again.repeated, again.record), (true, None));
@@ -534,6 +586,7 @@ fn script_lines() {
         "des",
         "unseal",
         "account",
+        "limit",
         "list",
         "places",
         "open",

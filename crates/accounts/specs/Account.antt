@@ -1,5 +1,5 @@
--- Account records (document 01, "How the box judges"): how one is made, what a lookup finds, how
--- one is updated, and which are the rightful user's.
+-- Account records (document 01, "How the box judges", and document 02, request 2026-09): how one is
+-- made, what a lookup finds, how one is updated, and which are the rightful user's.
 -- Assumes nothing: these are definitions.
 use mathlib.Core.Bool.{Bool, true, false}
 use mathlib.Core.List.{List}
@@ -26,7 +26,8 @@ abbrev pub hashFrom : Option (List ℕ) → Hash
 hashFrom none = noHash
 hashFrom (some h) = hashOf h
 
--- NT hash, LM hash, and the marks disabled, barred by hours, no dial-in, expired
+-- NT hash, LM hash, and the marks disabled, barred by hours, no dial-in, expired. "A count of
+-- invalid Responses in a row, 0 in a record newly made".
 abbrev pub accountWith : Hash → Hash → Bool → Bool → Bool → Bool → Account
 accountWith nt lm disabled hours dialin expired =
     record {
@@ -36,6 +37,7 @@ accountWith nt lm disabled hours dialin expired =
       «hours_denied» = hours;
       «dialin_denied» = dialin;
       expired = expired;
+      failures = 0;
     }
 
 -- neither hash, no mark
@@ -55,10 +57,24 @@ notFound = lookupOf false blankAccount
 
 -- ---- updated
 
--- after an accepted change: the new NT hash, no LM hash, expired cleared, the other marks kept
+-- after an accepted change: the new NT hash, no LM hash, expired cleared, the other marks kept; "an
+-- accepted change sets the count to 0"
 abbrev pub changed : Account → List ℕ → Account
 changed a h =
     accountWith (hashOf h) noHash (a .disabled) (a .«hours_denied») (a .«dialin_denied») false
+
+-- the same record with another count
+abbrev pub withFailures : ℕ → Account → Account
+withFailures n a =
+    record {
+      nt = a .nt;
+      lm = a .lm;
+      disabled = a .disabled;
+      «hours_denied» = a .«hours_denied»;
+      «dialin_denied» = a .«dialin_denied»;
+      expired = a .expired;
+      failures = n;
+    }
 
 -- ---- permitted to log on
 

@@ -11,6 +11,7 @@ ghost use Rattle.accounts.specs.Account.{
   found,
   lookupOf,
   changed,
+  withFailures,
 };
 
 // A hash, or none: what stands in the octets of an absent hash has no effect.
@@ -19,8 +20,8 @@ pub struct Hash {
     pub octets: [u8; 16],
 }
 
-// An account record: an NT hash or none, an LM hash or none, and document 01's four marks:
-// disabled, barred by hours, no dial-in, expired.
+// An account record: an NT hash or none, an LM hash or none, document 01's four marks: disabled,
+// barred by hours, no dial-in, expired; and how many Responses in a row were judged invalid.
 pub struct Account {
     pub nt: Hash,
     pub lm: Hash,
@@ -28,6 +29,7 @@ pub struct Account {
     pub hours_denied: bool,
     pub dialin_denied: bool,
     pub expired: bool,
+    pub failures: u8,
 }
 
 // The record of the named account, or none: the account has no effect unless it was found.
@@ -56,6 +58,7 @@ pub fn no_hash() -> Hash
     hash_if(false, [0; 16])
 }
 
+// A record that is newly made counts no failures.
 pub fn account_with(
     nt: Hash,
     lm: Hash,
@@ -73,10 +76,11 @@ pub fn account_with(
         hours_denied: hours,
         dialin_denied: dialin,
         expired,
+        failures: 0,
     }
 }
 
-// Neither hash, no mark.
+// Neither hash, no mark, no failures.
 pub fn blank_account() -> Account
     ensures { λ r. ⌜ r ≡ blankAccount ⌝ }
 {
@@ -105,7 +109,7 @@ pub fn not_found() -> Lookup
 
 // ---- updated
 
-// The record after an accepted change of the password.
+// The record after an accepted change of the password: it counts no failures.
 pub fn changed(account: Account, hash: [u8; 16]) -> Account
     ensures { λ r. ⌜ r ≡ changed account hash ⌝ }
 {
@@ -117,4 +121,21 @@ pub fn changed(account: Account, hash: [u8; 16]) -> Account
         account.dialin_denied,
         false,
     )
+}
+
+// The same record with another count of failures. With 0 it is unlocked.
+pub fn with_failures(account: Account, failures: u8) -> Account
+    ensures { λ r. ⌜ r ≡ withFailures failures account ⌝ }
+{
+    let nt = account.nt;
+    let lm = account.lm;
+    Account {
+        nt,
+        lm,
+        disabled: account.disabled,
+        hours_denied: account.hours_denied,
+        dialin_denied: account.dialin_denied,
+        expired: account.expired,
+        failures,
+    }
 }

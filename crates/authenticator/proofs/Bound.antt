@@ -14,7 +14,7 @@ use Rattle.packets.specs.declared.Change as changes
 use Rattle.accounts.specs.declared.Account.{Account}
 use Rattle.accounts.specs.declared.Lookup.{Lookup}
 use Rattle.message.specs.Reasons.{authenticationFailure, passwordExpired}
-use Rattle.verify.specs.Response.{responseReason}
+use Rattle.verify.specs.Response.{counted, responseReason}
 use Rattle.authenticator.specs.Conversation.{isEnded, ended, retried, awaitingChange}
 use Rattle.authenticator.specs.Opening.{Opening, retriesOf, firstConversation}
 use Rattle.authenticator.specs.Judge.{
@@ -61,7 +61,8 @@ after-less c a e ph = which (eqb e authenticationFailure) (ltb 0 (c .retries))
 response-less : (c : Conversation) (l : Lookup) (f : responses.Response) → c .phase ≡ Response
     → leftIn (judgeResponse c l f .next) < c .retries + 2
 unfolding judgeResponse
-response-less c l f ph = after-less c (l .account) (responseReason (c .terms) (c .challenge) l f) ph
+response-less c l f ph = after-less c (counted (c .terms) (c .challenge) (l .account) f)
+    (responseReason (c .terms) (c .challenge) l f) ph
 
 change-less : (c : Conversation) (f : changes.Change) → leftIn (judgeChange c f .next) < 1
 unfolding judgeChange

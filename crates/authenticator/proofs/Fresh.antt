@@ -18,7 +18,7 @@ use Rattle.packets.specs.Response.{readResponse}
 use Rattle.packets.specs.Change.{readChange}
 use Rattle.packets.specs.declared.Response as responses
 use Rattle.packets.specs.declared.Change as changes
-use Rattle.verify.specs.Response.{responseReason}
+use Rattle.verify.specs.Response.{counted, responseReason}
 use Rattle.authenticator.specs.Conversation.{
   isEnded,
   noAnswer,
@@ -82,7 +82,8 @@ module _ (c : Conversation) where
       → isEnded (judgeResponse c l f .next .phase) ≡ false
       → judgeResponse c l f .next .id ≡ nextId (c .id)
   unfolding judgeResponse
-  response-next l f = after-next (l .account) (responseReason (c .terms) (c .challenge) l f)
+  response-next l f = after-next (counted (c .terms) (c .challenge) (l .account) f)
+      (responseReason (c .terms) (c .challenge) l f)
 
   change-ends : (f : changes.Change) → isEnded (judgeChange c f .next .phase) ≡ true
   unfolding judgeChange

@@ -17,7 +17,7 @@ use Rattle.packets.specs.Response.{readResponse}
 use Rattle.packets.specs.declared.Response as fields
 use Rattle.packets.specs.declared.Change as changes
 use Rattle.authenticator.specs.Conversation.{ended, retried, awaitingChange}
-use Rattle.verify.specs.Response.{responseReason}
+use Rattle.verify.specs.Response.{counted, responseReason}
 use Rattle.authenticator.specs.Judge.{
   afterReason,
   judgeResponse,
@@ -69,7 +69,7 @@ after-adds-none c a e x = which (eqb e authenticationFailure) (ltb 0 (c .retries
 response-adds-none : (c : Conversation) (l : Lookup) (f : fields.Response) (x : List ℕ)
     → CanBeInForce (judgeResponse c l f .next) x → CanBeInForce c x
 unfolding judgeResponse
-response-adds-none c l f x h = after-adds-none c (l .account)
+response-adds-none c l f x h = after-adds-none c (counted (c .terms) (c .challenge) (l .account) f)
     (responseReason (c .terms) (c .challenge) l f) x h
 
 change-adds-none : (c : Conversation) (f : changes.Change) (x : List ℕ)

@@ -9,7 +9,7 @@ use lib.Dec.{eqb}
 use Rattle.accounts.specs.declared.Account.{Account}
 use Rattle.accounts.specs.declared.Lookup.{Lookup}
 use Rattle.message.specs.Reasons.{passwordExpired}
-use Rattle.verify.specs.Response.{responseReason}
+use Rattle.verify.specs.Response.{counted, responseReason}
 use Rattle.packets.specs.Response.{readResponse}
 use Rattle.authenticator.specs.Conversation.{ended, retried, awaitingChange}
 use Rattle.authenticator.specs.Opening.{Opening, lmAllowed, opened}
@@ -59,7 +59,8 @@ judged-terms : (ph : Phase) (c : Conversation) (p : List ℕ) (l : Lookup)
     → judgeIn ph c p l .next .terms ≡ c .terms
 unfolding judgeResponse judgeChange
 judged-terms Response c p l =
-    after-terms c (l .account) (responseReason (c .terms) (c .challenge) l (readResponse p))
+    after-terms c (counted (c .terms) (c .challenge) (l .account) (readResponse p))
+    (responseReason (c .terms) (c .challenge) l (readResponse p))
 judged-terms Change c p l = refl
 judged-terms Ended c p l = refl
 

@@ -83,7 +83,7 @@ withLast last c =
 abbrev pub closed : Conversation
 closed =
     record {
-      terms = record { lm = false };
+      terms = record { lm = false; limit = 0 };
       id = 0;
       challenge = replicate 8 0;
       retries = 0;

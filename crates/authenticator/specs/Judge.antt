@@ -1,7 +1,7 @@
 -- The second part of a step: how an awaited packet is judged (document 01, "How the box judges").
--- Whether a Response is valid and a change accepted, and what is wrong with one that is not, is
--- defined in `verify`; here is what follows: the reply, the next conversation and the updated
--- record.
+-- Whether a Response is judged valid and a change accepted, what is wrong with one that is not, and
+-- how a Response is counted, is defined in `verify`; here is what follows: the reply, the next
+-- conversation and the updated record.
 -- Assumes nothing: these are definitions.
 use mathlib.Core.Bool.{Bool, false, cond, _&&_}
 use mathlib.Core.List.{List}
@@ -21,7 +21,7 @@ use Rattle.packets.specs.Response.{readResponse}
 use Rattle.packets.specs.Change.{readChange}
 use Rattle.packets.specs.declared.Response as responses
 use Rattle.packets.specs.declared.Change as changes
-use Rattle.verify.specs.Response.{valid, responseReason}
+use Rattle.verify.specs.Response.{valid, checkedResponse}
 use Rattle.verify.specs.Faults.{isFaultless}
 use Rattle.verify.specs.Change.{checkedChange, newHash}
 use Rattle.verify.specs.declared.ChangeFault.the-variants.{NoFault}
@@ -57,18 +57,20 @@ abbrev pub afterReason : Conversation → Account → ℕ → Conversation
 afterReason c a e =
     cond (mayRetry c e) (retried c) (cond (eqb e passwordExpired) (awaitingChange c a) (ended c))
 
-abbrev pub judgementFor : Conversation → Account → ℕ → Judgement
-judgementFor c a e =
+-- the record that is kept is the one that is handed out, with its count
+abbrev pub judgementFor : Conversation → Lookup → ℕ → Judgement
+judgementFor c updated e =
     record {
       reply = replyFor c e;
       fault = NoFault;
-      next = afterReason c a e;
-      updated = notFound;
+      next = afterReason c (updated .account) e;
+      updated = updated;
     }
 
 unfoldable pub judgeResponse : Conversation → Lookup → responses.Response → Judgement
 judgeResponse c l f =
-    judgementFor c (l .account) (responseReason (c .terms) (c .challenge) l f)
+    let v = checkedResponse (c .terms) (c .challenge) l f in
+    judgementFor c (v .updated) (v .reason)
 
 -- ---- a change
 

@@ -1,5 +1,6 @@
--- The opening of a conversation: it spends its challenge and its successors, which adds them to the
--- list of issued challenges (document 02, request 2026-03), and writes the Challenge.
+-- The opening of a conversation: it fixes the limit of invalid Responses in a row (document 02,
+-- request 2026-09), spends its challenge and its successors, which adds them to the list of issued
+-- challenges (request 2026-03), and writes the Challenge.
 -- Assumes nothing: these are definitions.
 use mathlib.Core.Bool.{Bool, true, false, cond}
 use mathlib.Core.List.{List}
@@ -27,6 +28,7 @@ pub record Opening : Type 0 where
   pub challenge : List ℕ
   pub retries : Retries
   pub lm : LmChoice
+  pub limit : ℕ
   pub issued : Issued
   pub buffer : List ℕ
 
@@ -54,12 +56,17 @@ spends o = challengesFrom (suc (retriesOf (o .retries))) (o .challenge)
 abbrev pub tooManyRetries : Opening → Bool
 tooManyRetries o = ltb mostRetries (retriesOf (o .retries))
 
--- 13, 2, and then 24, 16, 17 of the list, whose entries have 8 octets; 0 is none
+-- "18, limit 0, checked first at opening": no limit is what silence means
+abbrev pub noLimit : Opening → Bool
+noLimit o = eqb (o .limit) 0
+
+-- 18, 13, 2, and then 24, 16, 17 of the list, whose entries have 8 octets; 0 is none
 unfoldable pub openRefusal : Opening → ℕ
 openRefusal o =
-    cond (tooManyRetries o) 13
+    cond (noLimit o) 18
+    (cond (tooManyRetries o) 13
     (cond (badReplyBuffer (o .buffer)) 2
-    (spendRefusal 8 (spends o) (o .issued)))
+    (spendRefusal 8 (spends o) (o .issued))))
 
 -- the list afterwards: "all are added", or it is as it was
 unfoldable pub openedIssued : Opening → Issued
@@ -68,7 +75,7 @@ openedIssued o = cond (eqb (openRefusal o) 0) (added 8 (spends o) (o .issued)) (
 abbrev pub firstConversation : Opening → Conversation
 firstConversation o =
     record {
-      terms = record { lm = lmAllowed (o .lm) };
+      terms = record { lm = lmAllowed (o .lm); limit = o .limit };
       id = o .id;
       challenge = o .challenge;
       retries = retriesOf (o .retries);

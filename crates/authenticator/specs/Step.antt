@@ -48,6 +48,21 @@ pub record Outcome : Type 0 where
   pub answer : Answer
   pub buffer : List ℕ
 
+-- An outcome but for the record that it hands out: "The sentence in 01 about equal replies stands
+-- for reply and conversation" (document 02, request 2026-09).
+abbrev pub withoutRecord : Outcome → Outcome
+withoutRecord o =
+    record {
+      answer = record {
+        kind = o .answer .kind;
+        fault = o .answer .fault;
+        next = o .answer .next;
+        written = o .answer .written;
+        updated = notFound;
+      };
+      buffer = o .buffer;
+    }
+
 -- "Every reply carries the answered identifier": the one that the conversation awaited. The next
 -- conversation keeps the answer.
 abbrev pub judgedAs : Conversation → Judgement → List ℕ → Outcome

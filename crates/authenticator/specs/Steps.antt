@@ -1,5 +1,5 @@
 -- The authenticator's steps, one after the other. Words in quotes are document 01's, "The series in
--- demand 3", and document 02's, request 2026-01.
+-- demand 3", and document 02's, requests 2026-01 and 2026-09.
 -- Assumes nothing: these are definitions.
 use mathlib.Core.Bool.{Bool, true, false, cond, not, _&&_, _||_}
 use mathlib.Core.List.{List}
@@ -11,7 +11,10 @@ use lib.Dec.{eqb, ltb}
 use lib.ListN.{length, take}
 use Rattle.octets.specs.Parts.{agrees}
 use Rattle.packets.specs.Frame.{octet, badFrame, writtenOver}
+use Rattle.packets.specs.Codes.{responseCode}
 use Rattle.packets.specs.Reply.{badReplyBuffer}
+use Rattle.packets.specs.Response.{readResponse}
+use Rattle.verify.specs.Response.{countedLookup}
 use Rattle.authenticator.specs.Admit.{carries, refusalFor}
 use Rattle.authenticator.specs.Step.{Outcome, step, refusalIn, isRepeated}
 use Rattle.accounts.specs.declared.Lookup.{Lookup}
@@ -116,8 +119,10 @@ module _ (box : Box) where
   -- reply buffer as they were" (demand 1): a step that draws no reply, which leaves the buffer,
   -- leaves the conversation too and hands out no record. So does a repeat: "the conversation stays
   -- as it was, and no record is handed out". A repeat "draws the same reply octets", whatever else
-  -- is in it, and the octets of the buffer behind them stay. And the box calls a step what it is:
-  -- refused exactly where no reply is drawn, and repeated exactly where it is a repeat.
+  -- is in it, and the octets of the buffer behind them stay. The box calls a step what it is:
+  -- refused exactly where no reply is drawn, and repeated exactly where it is a repeat. And "the box
+  -- hands out the record after every judged Response where there is one", as it was passed but for
+  -- its count.
   pub record StepClaim (p : BoxState) (s : StepInput) : Type 0 where
     pub leaves : judged p s ≡ 0
         → (nextAfter (p .conversation) s ≡ p .conversation)
@@ -128,3 +133,7 @@ module _ (box : Box) where
     pub saysRefused : eqb (refusalAt (p .conversation) s) 0
         ≡ drewReply (box (p .conversation) s) (s .buffer)
     pub saysRepeated : isRepeated (box (p .conversation) s .answer .kind) ≡ isRepeatAt p s
+    pub handsOut : isJudged p s ≡ true → octet 0 (s .packet) ≡ responseCode
+        → box (p .conversation) s .answer .updated
+        ≡ countedLookup (p .conversation .terms) (p .conversation .challenge) (s .account)
+        (readResponse (s .packet))

@@ -1,5 +1,6 @@
-// The second part of a step: how an awaited packet is judged. Whether a Response is valid and a
-// change accepted, and what is wrong with one that is not, is found out by `verify`.
+// The second part of a step: how an awaited packet is judged. Whether a Response is judged valid
+// and how it is counted, whether a change is accepted, and what is wrong with one that is not, is
+// found out by `verify`.
 ghost use mathlib.Core.Path.{_≡_};
 ghost use Rattle.packets.specs.Response.{readResponse};
 ghost use Rattle.packets.specs.Change.{readChange};
@@ -54,18 +55,19 @@ impl Conversation {
         self.to_end()
     }
 
-    // A Response that is not refused.
+    // A Response that is not refused. The record that is kept is the one that is handed out.
     fn response(self, packet: &[u8], lookup: Lookup) -> Judgement
         ensures { λ r. ⌜ r ≡ judgeResponse self lookup (readResponse (now (packet .entry))) ⌝ }
     {
         let terms = self.terms;
         let challenge = self.challenge;
-        let account = lookup.account;
         let fields = packets::read_response(packet);
-        let reason = verify::response_reason(terms, challenge, lookup, fields);
+        let checked = verify::check_response(terms, challenge, lookup, fields);
+        let reason = checked.reason;
+        let updated = checked.updated;
+        let account = updated.account;
         let reply = self.reply_for(reason);
         let next = self.after(account, reason);
-        let updated = not_found();
         Judgement {
             reply,
             fault: ChangeFault::NoFault,

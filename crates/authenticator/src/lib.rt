@@ -85,7 +85,8 @@ pub enum Reply {
 }
 
 // How a packet is judged: the reply, what is wrong with a change, the next conversation, and the
-// record that an accepted change updates.
+// record that is handed out: after a Response the one that was passed, with its count of failures,
+// and after an accepted change the new one.
 pub struct Judgement {
     pub reply: Reply,
     pub fault: ChangeFault,
@@ -103,7 +104,8 @@ pub enum Kind {
 
 // What a step answers: the kind, beside a change that was judged and not accepted what is wrong
 // with it (else NoFault), the next conversation, how many octets of the reply buffer the reply
-// takes, and the record that an accepted change updates. The peer is told nothing of the fault.
+// takes, and the record that is handed out, to be passed with the next packet of that account. The
+// peer is told nothing of the fault, nor of the record.
 pub struct Answer {
     pub kind: Kind,
     pub fault: ChangeFault,

@@ -1,7 +1,7 @@
 // The opening of a conversation.
 ghost use mathlib.Core.Path.{_≡_};
 ghost use mathlib.Core.Bool.{cond};
-ghost use lib.Dec.{ltb};
+ghost use lib.Dec.{eqb, ltb};
 ghost use Rattle.packets.specs.Reply.{badReplyBuffer};
 ghost use Prim.Native.Nat.{suc, _≤_};
 ghost use Rattle.issued.specs.Issued.{spendRefusal, spent};
@@ -43,13 +43,14 @@ fn is_lm_allowed(lm: LmChoice) -> bool
     }
 }
 
-// 13, then 2; 0 is none.
-fn argument_refusal(r: u8, reply: &[u8]) -> u8
-    ensures { λ n. ⌜ n
-        ≡ cond (ltb mostRetries r) 13 (cond (badReplyBuffer (now (reply .entry))) 2 0) ⌝ }
+// 18, then 13, then 2; 0 is none.
+fn argument_refusal(limit: u8, r: u8, reply: &[u8]) -> u8
+    ensures { λ n. ⌜ n ≡ cond (eqb limit 0) 18
+        (cond (ltb mostRetries r) 13 (cond (badReplyBuffer (now (reply .entry))) 2 0)) ⌝ }
 {
     let buffer = refuse_if(packets::is_bad_reply_buffer(reply), 2, 0);
-    refuse_if(MOST_RETRIES < r, 13, buffer)
+    let retries = refuse_if(MOST_RETRIES < r, 13, buffer);
+    refuse_if(limit == 0, 18, retries)
 }
 
 fn refused_opening(refusal: u8, used: usize) -> Opened
@@ -86,14 +87,16 @@ fn spend(challenge: [u8; 8], r: u8, list: &mut [u8], used: usize, counts: &mut [
 impl Conversation {
     // Opens a conversation: spends its challenge and r successors, which adds them to the list of
     // issued challenges, and writes its Challenge. The list is what stands in the first used places
-    // of the buffer list, 8 octets each, and counts are how many of them end in each octet.
-    // Refusals, which leave all as it was, in this order: 13 (r over 7), 2 (reply under 17 octets),
-    // 24 (a bad list), 16 (one of them was issued before), 17 (too few places are left).
+    // of the buffer list, 8 octets each, and counts are how many of them end in each octet. An
+    // account with limit failures or more is locked. Refusals, which leave all as it was, in this
+    // order: 18 (limit 0), 13 (r over 7), 2 (reply under 17 octets), 24 (a bad list), 16 (one of
+    // them was issued before), 17 (too few places are left).
     pub fn open(
         id: u8,
         challenge: [u8; 8],
         retries: Retries,
         lm: LmChoice,
+        limit: u8,
         list: &mut [u8],
         used: usize,
         counts: &mut [u16],
@@ -104,6 +107,7 @@ impl Conversation {
           challenge = challenge;
           retries = retries;
           lm = lm;
+          limit = limit;
           issued = record {
             buffer = now (list .entry);
             used = used;
@@ -115,7 +119,7 @@ impl Conversation {
             (now (reply .exit)) ⌝ }
     {
         let r = retries_of(retries);
-        let refusal = argument_refusal(r, reply);
+        let refusal = argument_refusal(limit, r, reply);
         if refusal != 0 {
             return refused_opening(refusal, used);
         }
@@ -130,7 +134,7 @@ impl Conversation {
         Opened {
             refusal: 0,
             conversation: Conversation {
-                terms: Terms { lm },
+                terms: Terms { lm, limit },
                 id,
                 challenge,
                 retries: r,

@@ -141,7 +141,10 @@ pub fn closed_conversation() -> Conversation
     let kept = blank_account();
     let last = no_answer();
     Conversation {
-        terms: Terms { lm: false },
+        terms: Terms {
+            lm: false,
+            limit: 0,
+        },
         id: 0,
         challenge: [0; 8],
         retries: 0,

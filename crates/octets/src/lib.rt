@@ -97,7 +97,7 @@ pub fn copy_at(target: &mut [u8], at: usize, source: &[u8])
 
 // x where both conditions hold, else y. The place in a row of three decides: of a conditional, or
 // of a product with one condition, the compiler makes a branch again.
-fn where_both(a: bool, b: bool, x: u8, y: u8) -> u8
+pub fn where_both(a: bool, b: bool, x: u8, y: u8) -> u8
     ensures { λ r. ⌜ r ≡ cond (a && b) x y ⌝ }
 {
     let row = [y, y, x];

@@ -2,3 +2,4 @@ pub mod Checked
 pub mod Accepted
 pub mod FirstFault
 pub mod Reasons
+pub mod Counting

@@ -4,7 +4,7 @@
 use mathlib.Core.Bool.{Bool, true, false, cond, not, _&&_}
 use mathlib.Core.List.{List}
 use mathlib.Core.Logic.{_≢_}
-use mathlib.Core.Path.{_≡_, ap, ap₂, _∙_}
+use mathlib.Core.Path.{_≡_, refl, ap, ap₂, _∙_}
 use Prim.Native.Nat.{ℕ, _<_}
 use native.Mathlib.Omega.{arith}
 use Rattle.octets.specs.Parts.{agrees}
@@ -27,6 +27,7 @@ use Rattle.packets.specs.declared.Response.{Response}
 use Rattle.verify.specs.Response.{
   answers,
   valid,
+  judgedValid,
   foundValid,
   firstReason,
   responseReason,
@@ -90,6 +91,22 @@ not-changing v a = which v (a .disabled) (a .«hours_denied») (a .«dialin_deni
     which true false false false true e = omega (arith, e)
     which true false false false false e = omega (arith, e)
 
+-- and only what is not judged valid draws that of an invalid one
+pub failed-invalid : (v : Bool) (a : Account) → firstReason v a ≡ authenticationFailure → v ≡ false
+unfolding firstReason
+failed-invalid v a = which v (a .disabled) (a .«hours_denied») (a .«dialin_denied») (a .expired)
+  where
+    which : (v d h n x : Bool)
+        → cond (not v) authenticationFailure (cond d accountDisabled (cond h restrictedLogonHours
+        (cond n noDialinPermission (cond x passwordExpired noReason)))) ≡ authenticationFailure
+        → v ≡ false
+    which false d h n x e = refl
+    which true true h n x e = absurd (omega (arith, e))
+    which true false true n x e = absurd (omega (arith, e))
+    which true false false true x e = absurd (omega (arith, e))
+    which true false false false true e = absurd (omega (arith, e))
+    which true false false false false e = absurd (omega (arith, e))
+
 module _ (t : Terms) (challenge : List ℕ) (f : Response) where
   pub response-not-changing : (l : Lookup) → responseReason t challenge l f ≢ changingPassword
   unfolding responseReason
@@ -105,8 +122,8 @@ module _ (t : Terms) (challenge : List ℕ) (f : Response) where
   unfolding responseReason firstReason
   reason-invalid l v = simp v
 
-  -- a valid one of an account that is permitted to log on
-  pub permitted-reason : (a : Account) → LogonPermitted a → valid t challenge a f ≡ true
+  -- one that is judged valid, of an account that is permitted to log on
+  pub permitted-reason : (a : Account) → LogonPermitted a → judgedValid t challenge a f ≡ true
       → responseReason t challenge (found a) f ≡ cond (a .expired) passwordExpired noReason
   unfolding responseReason firstReason
   permitted-reason a g v = rw (v, g .enabled, g .hours, g .dialin)

@@ -1,3 +1,4 @@
+pub mod Lockout
 pub mod Response
 pub mod Accepted
 pub mod Faults

@@ -3,12 +3,24 @@
 // conversation and no packets: the challenge in force, the record and the fields decide.
 mod changes;
 mod faults;
+mod lockout;
 mod responses;
+
+use accounts::Lookup;
 
 // What the opening fixes for the whole conversation.
 pub struct Terms {
     // whether an LM response may count
     pub lm: bool,
+    // with how many invalid Responses in a row an account is locked
+    pub limit: u8,
+}
+
+// A Response that was checked: the reason that it draws (0 is Success), and what was looked up,
+// with the record's count as the Response leaves it.
+pub struct CheckedResponse {
+    pub reason: u16,
+    pub updated: Lookup,
 }
 
 // What is wrong with a change that is not accepted: the first that holds, in this order.
@@ -38,4 +50,4 @@ pub use changes::check_change;
 pub use faults::fault_number;
 pub use faults::fault_with;
 pub use faults::is_faultless;
-pub use responses::response_reason;
+pub use responses::check_response;

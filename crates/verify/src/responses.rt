@@ -1,14 +1,20 @@
 // Whether a Response is valid, and the reason that it draws.
 //
 // A Response that is not valid takes the same work in whatever way it is not (a wrong response, no
-// record, no hash, LM off), so that the time does not tell an unknown account. Hash and response
-// are chosen without a branch, and one response is made and compared in every case.
+// record, no hash, LM off, a locked account), so that the time does not tell an unknown account.
+// Hash and response are chosen without a branch, and one response is made and compared in every
+// case.
 ghost use mathlib.Core.Path.{_≡_};
 ghost use mathlib.Core.Bool.{cond, _&&_};
-ghost use Rattle.verify.specs.Response.{foundValid, firstReason, responseReason};
+ghost use Rattle.verify.specs.Response.{valid, firstReason, checkedResponse};
+use crate::CheckedResponse;
 use crate::Terms;
+use crate::lockout::failures_after;
+use crate::lockout::is_locked;
 use accounts::Account;
 use accounts::Lookup;
+use accounts::lookup_of;
+use accounts::with_failures;
 use message::reasons;
 
 fn chosen_hash(a: bool, b: bool, both: [u8; 16], other: [u8; 16]) -> [u8; 16]
@@ -27,17 +33,11 @@ fn chosen_response(a: bool, b: bool, both: [u8; 24], other: [u8; 24]) -> [u8; 24
     response
 }
 
-// There is a record, and the Response is valid for it. With flag 1 and an NT hash the NT response
-// counts, and a wrong one is not made good by the LM response.
-fn is_found_valid(
-    terms: Terms,
-    challenge: [u8; 8],
-    lookup: Lookup,
-    fields: packets::Response,
-) -> bool
-    ensures { λ r. ⌜ r ≡ foundValid terms challenge lookup fields ⌝ }
+// With flag 1 and an NT hash the NT response counts, and a wrong one is not made good by the LM
+// response.
+fn is_valid(terms: Terms, challenge: [u8; 8], account: Account, fields: packets::Response) -> bool
+    ensures { λ r. ⌜ r ≡ valid terms challenge account fields ⌝ }
 {
-    let account = lookup.account;
     let nt = account.nt;
     let lm = account.lm;
     let nt_hash = nt.octets;
@@ -50,7 +50,7 @@ fn is_found_valid(
     let response = chosen_response(flagged, present, nt_response, lm_response);
     let expected = credentials::challenge_response(hash, challenge);
     let counts = (flagged & present) | (terms.lm & lm.present);
-    octets::agree_if_both(lookup.found, counts, &response, &expected)
+    octets::agree_if_both(true, counts, &response, &expected)
 }
 
 // A reason where a test holds, and else the rest: the order of the reasons is composed by this.
@@ -82,15 +82,21 @@ fn first_reason(valid: bool, account: Account) -> u16
     reason_if(!valid, reasons::AUTHENTICATION_FAILURE, disabled)
 }
 
-// The first reason that applies; 0 is Success.
-pub fn response_reason(
+// The first reason that applies (0 is Success), and what was looked up with the record's count as
+// the Response leaves it. A locked account is answered as one that is not known.
+pub fn check_response(
     terms: Terms,
     challenge: [u8; 8],
     lookup: Lookup,
     fields: packets::Response,
-) -> u16
-    ensures { λ r. ⌜ r ≡ responseReason terms challenge lookup fields ⌝ }
+) -> CheckedResponse
+    ensures { λ r. ⌜ r ≡ checkedResponse terms challenge lookup fields ⌝ }
 {
     let account = lookup.account;
-    first_reason(is_found_valid(terms, challenge, lookup, fields), account)
+    let locked = is_locked(terms, account);
+    let valid = is_valid(terms, challenge, account, fields);
+    let failures = failures_after(locked, valid, account.failures);
+    let reason = first_reason(lookup.found & (!locked & valid), account);
+    let updated = lookup_of(lookup.found, with_failures(account, failures));
+    CheckedResponse { reason, updated }
 }
