@@ -139,7 +139,8 @@ mod tests {
                 used: self.used,
                 counts: &mut self.counts,
             };
-            let opening = authenticator::open(9, challenge, retries, None, &mut issued, &mut reply);
+            let opening =
+                authenticator::open(9, challenge, retries, None, 255, &mut issued, &mut reply);
             self.used = issued.used;
             if opening.refusal > 0 {
                 assert_eq!(*self, before);

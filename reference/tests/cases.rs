@@ -3714,8 +3714,8 @@ fn malformed_lines() {
     }
 }
 
-/// R-CHANGE-7, O-8, O-9 and CR09-7: values that no opening makes. A count over the limit in the kept
-/// record is no bar to a change.
+/// R-CHANGE-7, O-8, O-9 and CR09-7: values that no opening makes, a kept record with a count over
+/// the limit among them, which is no bar to a change.
 #[test]
 fn conversations_made_by_hand() {
     use reference::authenticator::{step, Conversation, Last, Reply};

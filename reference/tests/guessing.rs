@@ -54,6 +54,14 @@ fn count(failures: u8, record: Account) -> Account {
     Account { failures, ..record }
 }
 
+/// "adds 1, to at most 255".
+fn one_more(count: u8) -> u8 {
+    match count {
+        255 => 255,
+        _ => count + 1,
+    }
+}
+
 /// A record with the marks of a number's four bits, disabled being the highest.
 fn marked(marks: u8, record: Account) -> Account {
     Account {
@@ -101,16 +109,14 @@ fn opening(id: u8, challenge: &[u8; 8], r: u8, lm: bool, limit: u8) -> Opening {
 }
 
 /// A box opened with identifier 7 and CH.
-fn boxed(r: u8, limit: u8) -> Conversation {
-    let opening = opening(7, &CH, r, false, limit);
+fn boxed_with(lm: bool, r: u8, limit: u8) -> Conversation {
+    let opening = opening(7, &CH, r, lm, limit);
     assert_eq!(opening.refusal, 0);
     opening.conversation
 }
 
-fn boxed_with_lm(r: u8, limit: u8) -> Conversation {
-    let opening = opening(7, &CH, r, true, limit);
-    assert_eq!(opening.refusal, 0);
-    opening.conversation
+fn boxed(r: u8, limit: u8) -> Conversation {
+    boxed_with(false, r, limit)
 }
 
 /// What a conversation awaits, as our peer has it.
@@ -204,9 +210,8 @@ fn cr09_2() {
         let conversation = boxed(2, limit);
         let packet = wrong(&conversation);
         for before in 0..=255 {
-            let after = if before < 255 { before + 1 } else { 255 };
             let drawn = judged(&conversation, &packet, &count(before, R0));
-            assert_eq!(drawn, (691, Some(count(after, R0))));
+            assert_eq!(drawn, (691, Some(count(one_more(before), R0))));
         }
     }
 }
@@ -533,37 +538,43 @@ fn tries_by_lm_count() {
     for (record, flag) in [(both, 0), (lm_only, 0), (lm_only, 1)] {
         for before in [0, 2, 3, 4, 255] {
             let lent = count(before, record);
-            let added = before.saturating_add(1);
-            let (asked, off) = (boxed_with_lm(2, 3), boxed(2, 3));
+            let (asked, off) = (boxed_with(true, 2, 3), boxed(2, 3));
             let packet = by_lm(&asked, &LM, flag);
             let expected = match before < 3 {
                 true => (0, Some(record)),
                 false => (691, Some(lent)),
             };
             assert_eq!(judged(&asked, &packet, &lent), expected);
-            let invalid = (691, Some(count(added, record)));
+            let invalid = (691, Some(count(one_more(before), record)));
             assert_eq!(judged(&off, &packet, &lent), invalid);
-            for box_ in [asked, off] {
-                assert_eq!(judged(&box_, &by_lm(&box_, &NT, flag), &lent), invalid);
-            }
+            let wrong = by_lm(&asked, &NT, flag);
+            assert_eq!(judged(&asked, &wrong, &lent), invalid);
+            assert_eq!(judged(&off, &wrong, &lent), invalid);
         }
     }
     // No way back to LM where the NT response is wrong.
-    let asked = boxed_with_lm(2, 3);
+    let asked = boxed_with(true, 2, 3);
     let drawn = judged(&asked, &by_lm(&asked, &LM, 1), &both);
     assert_eq!(drawn, (691, Some(count(1, both))));
 }
 
-/// "which limit: the present conversation's": the same record in two boxes.
+/// The limit is that of the opening, and stays to the end of the conversation.
 #[test]
 fn the_limit_is_the_conversations() {
-    for before in 0..10 {
-        for limit in 1..10 {
-            let conversation = boxed(0, limit);
-            let packet = right(&conversation);
-            let (reason, _) = judged(&conversation, &packet, &count(before, R0));
-            assert_eq!(reason, if before < limit { 0 } else { 691 });
+    for limit in LIMITS {
+        let mut conversation = boxed(2, limit);
+        for _ in 0..3 {
+            let (answer, _) = draw(&conversation, &wrong(&conversation), Some(&R0));
+            conversation = answer.conversation;
+            assert_eq!(conversation.limit, limit);
         }
+        assert_eq!(conversation.phase, Phase::Ended);
+        let conversation = boxed(2, limit);
+        let (answer, _) = draw(&conversation, &right(&conversation), Some(&R0X));
+        let awaited = answer.conversation;
+        let packet = change(&awaited, &characters("MyPw"), &characters("clientPass"));
+        let (answer, _) = draw(&awaited, &packet, None);
+        assert_eq!((awaited.limit, answer.conversation.limit), (limit, limit));
     }
 }
 
@@ -601,24 +612,23 @@ struct Seen {
     refused: usize,
 }
 
+/// At most 14 octets, so that there is an LM hash of it too, and enough that no two are the same.
 fn password(random: &mut Random) -> Vec<u8> {
-    let size = 2 * random.between(1, 7);
+    let size = 2 * random.between(4, 7);
     random.octets(size)
 }
 
-/// The LM hash of the first 14 octets of an NT password: any LM hash will do.
 fn lm_hash(password: &[u8]) -> [u8; 16] {
-    hashes::lm_hash(&password[..password.len().min(14)]).unwrap()
+    hashes::lm_hash(password).unwrap()
 }
 
 impl Run {
     fn new(random: &mut Random) -> Run {
         let password = password(random);
         let marks = random.pick(&[0, 0, 0, 1, 1, 8, 4, 2, 15]);
+        let nt = hashes::nt_hash(&password).unwrap();
         let record = Account {
-            nt: random
-                .chance(90)
-                .then(|| hashes::nt_hash(&password).unwrap()),
+            nt: random.chance(90).then_some(nt),
             lm: random.chance(60).then(|| lm_hash(&password)),
             ..marked(marks, Account::default())
         };
@@ -677,65 +687,67 @@ impl Run {
         }
     }
 
+    fn is_locked(&self) -> bool {
+        self.in_a_row >= usize::from(self.limit)
+    }
+
     fn step(&mut self, random: &mut Random, seen: &mut Seen) {
-        let Sent {
-            packet,
-            is_valid,
-            new,
-        } = self.packet(random);
-        let awaits_response = self.conversation.phase == Phase::Response;
-        let lent = self.record;
-        let (answer, _) = draw(&self.conversation, &packet, Some(&lent));
+        let sent = self.packet(random);
+        let (before, lent) = (self.conversation, self.record);
+        let (answer, _) = draw(&before, &sent.packet, Some(&lent));
         self.conversation = answer.conversation;
         self.record = answer.record.unwrap_or(lent);
-        seen.repeated += usize::from(answer.repeated);
-        seen.refused += usize::from(answer.refusal > 0);
         if !is_judged(&answer) {
+            seen.repeated += usize::from(answer.repeated);
+            seen.refused += usize::from(answer.refusal > 0);
             assert_eq!(answer.record, None);
             return;
         }
-        self.last = packet;
-        if !awaits_response {
-            if answer.reason == 0 {
-                seen.changed += 1;
-                assert_eq!(self.record.failures, 0);
-                assert_eq!(self.record.nt, hashes::nt_hash(&new).ok());
-                self.in_a_row = 0;
-                self.password = new;
-            }
-            return;
+        if before.phase == Phase::Response {
+            self.responded(&lent, sent.is_valid, &answer, seen);
+        } else if answer.reason == 0 {
+            seen.changed += 1;
+            let nt = hashes::nt_hash(&sent.new).ok();
+            assert_eq!((self.record.nt, self.record.failures), (nt, 0));
+            self.password = sent.new;
+            self.in_a_row = 0;
         }
+        self.last = sent.packet;
+    }
+
+    /// After a judged Response.
+    fn responded(&mut self, lent: &Account, is_valid: bool, answer: &Answer, seen: &mut Seen) {
+        let is_locked = self.is_locked();
         seen.responses += 1;
-        let is_locked = self.in_a_row >= usize::from(self.limit);
-        // The claim: after so many it is 691 again.
-        if is_locked {
-            assert_eq!(answer.reason, 691);
-        }
-        // And no sooner: what is drawn is what document 01 says.
-        let expected = match is_valid && !is_locked {
-            true => reason_by_marks(&lent),
-            false => 691,
-        };
-        assert_eq!(answer.reason, expected);
         seen.shut_out += usize::from(is_locked && is_valid);
         seen.let_in += usize::from(answer.reason == 0);
+        // The claim: after so many it is 691 again. And no sooner than that: a valid one draws what
+        // it draws by document 01.
+        let reason = match is_valid && !is_locked {
+            true => reason_by_marks(lent),
+            false => 691,
+        };
+        assert_eq!(answer.reason, reason);
+        // The count: at the limit the wrong ones still add to it, the right ones leave it.
+        let failures = match (is_valid, is_locked) {
+            (true, false) => 0,
+            (true, true) => lent.failures,
+            (false, _) => one_more(lent.failures),
+        };
+        assert_eq!(answer.record, Some(count(failures, *lent)));
         self.in_a_row = match answer.reason {
             691 => self.in_a_row + 1,
             _ => 0,
         };
-        // The count itself: the wrong ones in a row, without the right ones at the limit.
-        let failures = match (is_valid, is_locked) {
-            (true, false) => 0,
-            (true, true) => lent.failures,
-            (false, _) => lent.failures.saturating_add(1),
-        };
-        assert_eq!(answer.record, Some(count(failures, lent)));
     }
 }
 
+/// Over runs of conversations with one account and one limit, the record last handed out passed in:
+/// after as many judged Responses in a row that drew 691 as the limit says, every further one draws
+/// 691, until the count is set to 0.
 #[test]
 fn guessing_stops_across_conversations() {
-    let mut random = Random::new(2026_09);
+    let mut random = Random::new(9);
     let mut seen = Seen::default();
     for _ in 0..600 {
         let mut run = Run::new(&mut random);
@@ -743,13 +755,14 @@ fn guessing_stops_across_conversations() {
             let over = run.conversation.phase == Phase::Ended && random.chance(70);
             if over || random.chance(10) {
                 run.call(&mut random);
-                seen.called_back += usize::from(run.in_a_row >= usize::from(run.limit));
+                seen.called_back += usize::from(run.is_locked());
             }
-            // The keeper of the accounts sets the count to 0.
+            // The keeper of the accounts sets the count to 0; a password grows old.
             if random.chance(2) {
                 run.record.failures = 0;
                 run.in_a_row = 0;
             }
+            run.record.expired |= random.chance(2);
             run.step(&mut random, &mut seen);
         }
     }
@@ -766,84 +779,102 @@ fn guessing_stops_across_conversations() {
     }
 }
 
-/// What a packet draws that our peer reads as the reply to its own.
-fn verdict(conversation: &Conversation, packet: &[u8], record: &Account) -> (Answer, Verdict) {
-    let (answer, reply) = draw(conversation, packet, Some(record));
-    let verdict = peer::read_reply(packet[1], &reply).unwrap();
-    (answer, verdict)
+/// A rightful user with one box: wrong tries, then the right password, and where the record is
+/// expired the change.
+struct User {
+    conversation: Conversation,
+    record: Account,
+    /// The last packet.
+    last: Vec<u8>,
+    /// How many packets were judged.
+    judged: usize,
 }
 
-/// A rightful user whose count and wrong tries together are below the limit gets in, whatever is
-/// refused or repeated in between; with the record expired, by way of a change. Where they are not
-/// below it, the right password draws 691.
+impl User {
+    /// Packets that are refused, and repeats, with any record: nothing moves.
+    fn noise(&self, random: &mut Random) {
+        for _ in 0..random.below(3) {
+            let other_id = self.conversation.id.wrapping_add(7);
+            let packet = match random.pick(&[0, 1]) {
+                0 => self.last.clone(),
+                _ => vec![2, other_id, 0, 4],
+            };
+            let record = count(random.octet(), R0);
+            let (answer, _) = draw(&self.conversation, &packet, Some(&record));
+            assert!(!is_judged(&answer));
+            assert_eq!(answer.record, None);
+            assert_eq!(answer.conversation, self.conversation);
+        }
+    }
+
+    /// Sends a packet with the record last handed out, and gives the reason as our peer reads it, 0
+    /// for Success.
+    fn send(&mut self, packet: Vec<u8>) -> u64 {
+        let (answer, reply) = draw(&self.conversation, &packet, Some(&self.record));
+        self.judged += usize::from(is_judged(&answer));
+        self.conversation = answer.conversation;
+        self.record = answer.record.unwrap_or(self.record);
+        let read = peer::read_reply(packet[1], &reply);
+        self.last = packet;
+        match read {
+            Ok(Verdict::Success) => 0,
+            Ok(Verdict::Failure(fields)) => fields.e,
+            Err(refusal) => panic!("{refusal}"),
+        }
+    }
+}
+
+/// With a count of n and k wrong tries the right password gets in where n + k is below the limit,
+/// whatever is refused or repeated in between, and the box judges k + 1 packets, or k + 2 with the
+/// record expired. Where n + k is not below it, the right password draws 691.
 #[test]
 fn a_rightful_user_gets_in_below_the_limit() {
     let mut random = Random::new(3);
     let (mut below, mut not_below, mut changed) = (0, 0, 0);
     for _ in 0..2_000 {
         let limit: u8 = random.pick(&[1, 2, 3, 5, 9, 128, 255, 255]);
-        let r = random.below(8) as u8;
-        let k = random.between(0, r.into()) as u8;
+        let r = random.below(8);
+        let k = random.between(0, r);
         let n = match random.chance(50) {
             true => limit.saturating_sub(random.below(10) as u8),
-            false => random.between(0, 255) as u8,
+            false => random.octet(),
         };
-        let right = password(&mut random);
-        let record = Account {
-            nt: hashes::nt_hash(&right).ok(),
-            expired: random.chance(30),
-            failures: n,
-            ..Account::default()
+        let password = password(&mut random);
+        let expired = random.chance(30);
+        let opening = opening(random.octet(), &random.array(), r as u8, false, limit);
+        let mut user = User {
+            conversation: opening.conversation,
+            record: Account {
+                nt: hashes::nt_hash(&password).ok(),
+                expired,
+                failures: n,
+                ..Account::default()
+            },
+            last: Vec::new(),
+            judged: 0,
         };
-        let opening = opening(random.octet(), &random.array(), r, false, limit);
-        let (mut conversation, mut record) = (opening.conversation, record);
-        let (mut judged, mut last) = (0, Vec::new());
-        for place in 0..=k {
-            // Packets that are refused or repeats, with any record.
-            for _ in 0..random.below(3) {
-                let packet = match random.pick(&[0, 1]) {
-                    0 => last.clone(),
-                    _ => vec![2, conversation.id.wrapping_add(7), 0, 4],
-                };
-                let other = count(random.octet(), R0);
-                let (answer, _) = draw(&conversation, &packet, Some(&other));
-                assert!(!is_judged(&answer));
-                assert_eq!((answer.record, answer.conversation), (None, conversation));
-            }
-            let password = match place == k {
-                true => right.clone(),
-                false => [&right[..], b"x\0"].concat(),
-            };
-            last = response(&conversation, &password);
-            let (answer, _) = verdict(&conversation, &last, &record);
-            judged += usize::from(is_judged(&answer));
-            if place < k {
-                assert_eq!(answer.reason, 691);
-            }
-            (conversation, record) = (answer.conversation, answer.record.unwrap());
+        for _ in 0..k {
+            user.noise(&mut random);
+            let wrong = response(&user.conversation, &[&password[..], b"x\0"].concat());
+            assert_eq!(user.send(wrong), 691);
         }
-        let reason = conversation.last.unwrap().reply.failed().map(|(e, _)| e);
-        if u16::from(n) + u16::from(k) >= u16::from(limit) {
+        user.noise(&mut random);
+        let reason = user.send(response(&user.conversation, &password));
+        if usize::from(n) + k >= usize::from(limit) {
+            assert_eq!(reason, 691);
             not_below += 1;
-            assert_eq!(reason, Some(691));
             continue;
         }
-        below += 1;
-        let new = password(&mut random);
-        if record.expired {
-            assert_eq!(reason, Some(648));
-            let packet = change(&conversation, &right, &new);
-            let (answer, verdict) = verdict(&conversation, &packet, &record);
-            judged += usize::from(is_judged(&answer));
-            assert_eq!(verdict, Verdict::Success);
-            record = answer.record.unwrap();
+        assert_eq!(reason, if expired { 648 } else { 0 });
+        if expired {
+            user.noise(&mut random);
+            let packet = change(&user.conversation, &password, b"n\0e\0w\0");
+            assert_eq!(user.send(packet), 0);
             changed += 1;
-        } else {
-            assert_eq!(reason, None);
         }
-        let packets = usize::from(k) + 1 + usize::from(reason.is_some());
-        assert_eq!((judged, record.failures), (packets, 0));
-        assert!(!record.expired);
+        assert_eq!(user.judged, k + 1 + usize::from(expired));
+        assert_eq!((user.record.failures, user.record.expired), (0, false));
+        below += 1;
     }
     for (kind, times) in [
         ("below", below),

@@ -185,7 +185,7 @@ fn steps() {
             // None of these Responses is valid: each adds 1 to the count of the record lent, to at
             // most 255, whatever the limit is. A change hands out none, as none is accepted.
             let added = record.map(|account| Account {
-                failures: account.failures.checked_add(1).unwrap_or(255),
+                failures: account.failures.saturating_add(1),
                 ..account
             });
             let is_response = phase == Phase::Response;

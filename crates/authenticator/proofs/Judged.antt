@@ -1,28 +1,29 @@
 -- What a packet that passes the checks draws: an invalid Response, a valid one of an account that
--- is permitted to log on, an accepted change. And "No record and an invalid response give the same reply and the same next
--- conversation, octet for octet."
+-- is permitted to log on, an accepted change. And "No record and an invalid response give the same
+-- reply and the same next conversation, octet for octet", and so does a locked account.
 -- Assumes nothing.
 use mathlib.Core.Bool.{Bool, true, false, cond}
 use mathlib.Core.List.{List}
 use mathlib.Core.Logic.{_≢_}
 use mathlib.Core.Option.{some}
-use mathlib.Core.Path.{_≡_, refl, sym, ap, _∙_}
-use Prim.Native.Nat.{ℕ, _<_}
+use mathlib.Core.Path.{_≡_, refl, sym, ap, ap₂, _∙_}
+use Prim.Native.Nat.{ℕ, _≤_, _<_}
 use native.Mathlib.Omega.{arith}
 use borrow.Author.Tests.{lt-ltb}
-use Rattle.accounts.specs.Account.{notFound, found, changed, LogonPermitted, Rightful}
+use Rattle.accounts.specs.Account.{notFound, found, changed, withFailures, LogonPermitted, Rightful}
 use Rattle.accounts.specs.declared.Account.{Account}
 use Rattle.accounts.specs.declared.Lookup.{Lookup}
 use Rattle.message.specs.Reasons.{authenticationFailure, passwordExpired, noReason}
 use Rattle.packets.specs.Response.{readResponse}
 use Rattle.packets.specs.Change.{readChange}
-use Rattle.verify.specs.Response.{valid, foundValid, responseReason}
+use Rattle.verify.specs.Response.{judgedValid, foundValid, responseReason, countedLookup}
 use Rattle.verify.specs.Change.{checkedChange, newHash}
 use Rattle.verify.specs.Accepted.{SameButIgnored}
 use Rattle.verify.specs.declared.ChangeFault.the-variants.{NoFault}
 use Rattle.verify.specs.declared.CheckedChange.{CheckedChange}
 use Rattle.verify.proofs.Accepted.{ignored-change, checked-accepted}
 use Rattle.verify.proofs.Reasons.{reason-invalid, permitted-reason}
+use Rattle.verify.proofs.Counting.{judged-at-limit, counted-valid}
 use Rattle.authenticator.specs.Conversation.{ended, retried, awaitingChange}
 use Rattle.authenticator.specs.Judge.{
   judgementFor,
@@ -32,7 +33,7 @@ use Rattle.authenticator.specs.Judge.{
   judgeIn,
   judge,
 }
-use Rattle.authenticator.specs.Step.{judgedAs, step}
+use Rattle.authenticator.specs.Step.{Outcome, judgedAs, withoutRecord, step}
 use Rattle.authenticator.specs.declared.Conversation.{Conversation}
 use Rattle.authenticator.specs.declared.Judgement.{Judgement}
 use Rattle.authenticator.specs.declared.Phase.{Phase}
@@ -44,15 +45,15 @@ use Rattle.authenticator.proofs.Steps.{repeated-step, refused-step}
 
 -- ---- what is drawn
 
--- an authentication failure with a retry; an expired password; Success; Success and an updated
+-- an authentication failure with a retry; an expired password; Success; Success and a changed
 -- record
-abbrev pub tryAgain : Conversation → Judgement
-tryAgain c =
+abbrev pub tryAgain : Conversation → Lookup → Judgement
+tryAgain c updated =
     record {
       reply = Failure authenticationFailure true;
       fault = NoFault;
       next = retried c;
-      updated = notFound;
+      updated = updated;
     }
 
 abbrev pub expiredFor : Conversation → Account → Judgement
@@ -61,11 +62,11 @@ expiredFor c a =
       reply = Failure passwordExpired false;
       fault = NoFault;
       next = awaitingChange c a;
-      updated = notFound;
+      updated = found a;
     }
 
-abbrev pub accepted : Conversation → Judgement
-accepted c = record { reply = Success; fault = NoFault; next = ended c; updated = notFound }
+abbrev pub accepted : Conversation → Account → Judgement
+accepted c a = record { reply = Success; fault = NoFault; next = ended c; updated = found a }
 
 abbrev pub changedTo : Conversation → List ℕ → Judgement
 changedTo c h =
@@ -84,8 +85,8 @@ module _ (c : Conversation) (p b : List ℕ) (ok : Passes c p b) where
 
   response-step : (l : Lookup) → c .phase ≡ Response
       → step c p l b
-      ≡ judgedAs c (judgementFor c (l .account) (responseReason (c .terms) (c .challenge) l
-      (readResponse p))) b
+      ≡ judgedAs c (judgementFor c (countedLookup (c .terms) (c .challenge) l (readResponse p))
+      (responseReason (c .terms) (c .challenge) l (readResponse p))) b
   unfolding judgeResponse
   response-step l e = step-in l e
 
@@ -95,33 +96,40 @@ module _ (c : Conversation) (p b : List ℕ) (ok : Passes c p b) where
   unfolding judgeChange
   change-step l e = step-in l e
 
-retry-judged : (c : Conversation) (a : Account) → 0 < c .retries
-    → judgementFor c a authenticationFailure ≡ tryAgain c
-retry-judged c a h = rw (lt-ltb 0 (c .retries) h)
+retry-judged : (c : Conversation) (u : Lookup) → 0 < c .retries
+    → judgementFor c u authenticationFailure ≡ tryAgain c u
+retry-judged c u h = rw (lt-ltb 0 (c .retries) h)
 
 permitted-judged : (x : Bool) (c : Conversation) (a : Account)
-    → judgementFor c a (cond x passwordExpired noReason) ≡ cond x (expiredFor c a) (accepted c)
+    → judgementFor c (found a) (cond x passwordExpired noReason)
+    ≡ cond x (expiredFor c a) (accepted c a)
 permitted-judged true c a = refl
 permitted-judged false c a = refl
 
 module _ (c : Conversation) (p b : List ℕ) (ok : Passes c p b) where
   pub invalid-law : (l : Lookup) → c .phase ≡ Response
       → foundValid (c .terms) (c .challenge) l (readResponse p) ≡ false → 0 < c .retries
-      → step c p l b ≡ judgedAs c (tryAgain c) b
+      → step c p l b
+      ≡ judgedAs c (tryAgain c (countedLookup (c .terms) (c .challenge) l (readResponse p))) b
   invalid-law l ph v pos =
+      let u = countedLookup (c .terms) (c .challenge) l (readResponse p) in
       response-step c p b ok l ph
-      ∙ ap (λ (e : ℕ). judgedAs c (judgementFor c (l .account) e) b)
+      ∙ ap (λ (e : ℕ). judgedAs c (judgementFor c u e) b)
       (reason-invalid (c .terms) (c .challenge) (readResponse p) l v)
-      ∙ ap (λ (j : Judgement). judgedAs c j b) (retry-judged c (l .account) pos)
+      ∙ ap (λ (j : Judgement). judgedAs c j b) (retry-judged c u pos)
 
+  -- the record is handed out with no failures, and that one is kept
   pub valid-law : (a : Account) → c .phase ≡ Response → LogonPermitted a
-      → valid (c .terms) (c .challenge) a (readResponse p) ≡ true
-      → step c p (found a) b ≡ judgedAs c (cond (a .expired) (expiredFor c a) (accepted c)) b
+      → judgedValid (c .terms) (c .challenge) a (readResponse p) ≡ true
+      → step c p (found a) b
+      ≡ judgedAs c (cond (a .expired) (expiredFor c (withFailures 0 a))
+      (accepted c (withFailures 0 a))) b
   valid-law a ph g v =
       response-step c p b ok (found a) ph
-      ∙ ap (λ (e : ℕ). judgedAs c (judgementFor c a e) b)
+      ∙ ap₂ (λ (d : Account) (e : ℕ). judgedAs c (judgementFor c (found d) e) b)
+      (counted-valid (c .terms) (c .challenge) a (readResponse p) v)
       (permitted-reason (c .terms) (c .challenge) (readResponse p) a g v)
-      ∙ ap (λ (j : Judgement). judgedAs c j b) (permitted-judged (a .expired) c a)
+      ∙ ap (λ (j : Judgement). judgedAs c j b) (permitted-judged (a .expired) c (withFailures 0 a))
 
   -- the record passed with it has no effect
   pub change-law : (l : Lookup) (h : List ℕ) → c .phase ≡ Change
@@ -150,23 +158,25 @@ changed-rightful a h g =
 
 -- ---- no record and an invalid Response
 
--- the whole outcome, answer and buffer: by the phase, and by whether the packet is judged
+-- The whole outcome, answer and buffer, but for the record that is handed out: by the phase, and by
+-- whether the packet is judged.
 module _ (c : Conversation) (p b : List ℕ) where
   -- a refused packet and a repeat are answered without the record
-  by-case : (l m : Lookup) → (Passes c p b → step c p l b ≡ step c p m b)
-      → step c p l b ≡ step c p m b
-  by-case l m ok = which (case-of c p l b)
+  by-case : (l m : Lookup) (seen : Outcome → Outcome)
+      → (Passes c p b → seen (step c p l b) ≡ seen (step c p m b))
+      → seen (step c p l b) ≡ seen (step c p m b)
+  by-case l m seen ok = which (case-of c p l b)
     where
-      which : Case c p l b → step c p l b ≡ step c p m b
-      which (refused n e) = e ∙ sym (refused-step c p m b n)
-      which (repeated z r e) = e ∙ sym (repeated-step c p m b z r)
+      which : Case c p l b → seen (step c p l b) ≡ seen (step c p m b)
+      which (refused n e) = ap seen (e ∙ sym (refused-step c p m b n))
+      which (repeated z r e) = ap seen (e ∙ sym (repeated-step c p m b z r))
       which (judged h e) = ok h
 
   -- where no Response is awaited, the record passed has no effect
   pub same-record : (l m : Lookup) → c .phase ≢ Response → step c p l b ≡ step c p m b
   unfolding judge
   same-record l m h =
-      by-case l m
+      by-case l m (λ o. o)
       (λ ok. judged-step c p l b ok ∙ ap (λ (j : Judgement). judgedAs c j b) (which (c .phase) h)
       ∙ sym (judged-step c p m b ok))
     where
@@ -175,26 +185,39 @@ module _ (c : Conversation) (p b : List ℕ) where
       which Change n = refl
       which Ended n = refl
 
-  -- two lookups with no record, or with one for which the Response is invalid: in every phase, for
-  -- any packet, refused or not
+  -- two lookups with no record, or with one for which the Response is judged invalid, since it is
+  -- or since the account is locked: in every phase, for any packet, refused or not
   pub same-invalid : (l m : Lookup) → foundValid (c .terms) (c .challenge) l (readResponse p)
       ≡ false
       → foundValid (c .terms) (c .challenge) m (readResponse p) ≡ false
-      → step c p l b ≡ step c p m b
-  same-invalid l m v w = by-case l m (λ ok. which (c .phase) ok refl)
+      → withoutRecord (step c p l b) ≡ withoutRecord (step c p m b)
+  same-invalid l m v w = by-case l m withoutRecord (λ ok. which (c .phase) ok refl)
     where
-      which : (ph : Phase) → Passes c p b → c .phase ≡ ph → step c p l b ≡ step c p m b
-      which Response ok e =
-          response-step c p b ok l e
-          ∙ ap (λ (n : ℕ). judgedAs c (judgementFor c (l .account) n) b)
-          (reason-invalid (c .terms) (c .challenge) (readResponse p) l v)
-          ∙ ap (λ (n : ℕ). judgedAs c (judgementFor c (m .account) n) b)
-          (sym (reason-invalid (c .terms) (c .challenge) (readResponse p) m w))
-          ∙ sym (response-step c p b ok m e)
-      which Change ok e = same-record l m (λ f. let z : _≡_ {A = ℕ} 0 1 = cc in absurd
-          (omega arith))
-      which Ended ok e = same-record l m (λ f. let z : _≡_ {A = ℕ} 0 1 = cc in absurd (omega arith))
+      unseen : Lookup → ℕ → Outcome
+      unseen u n = withoutRecord (judgedAs c (judgementFor c u n) b)
 
-  pub same-answer : (a : Account) → valid (c .terms) (c .challenge) a (readResponse p) ≡ false
-      → step c p notFound b ≡ step c p (found a) b
+      drawn : Lookup → Lookup
+      drawn k = countedLookup (c .terms) (c .challenge) k (readResponse p)
+
+      which : (ph : Phase) → Passes c p b → c .phase ≡ ph
+          → withoutRecord (step c p l b) ≡ withoutRecord (step c p m b)
+      which Response ok e =
+          ap withoutRecord (response-step c p b ok l e)
+          ∙ ap (unseen (drawn l))
+          (reason-invalid (c .terms) (c .challenge) (readResponse p) l v)
+          ∙ ap (unseen (drawn m))
+          (sym (reason-invalid (c .terms) (c .challenge) (readResponse p) m w))
+          ∙ sym (ap withoutRecord (response-step c p b ok m e))
+      which Change ok e = ap withoutRecord (same-record l m
+          (λ f. let z : _≡_ {A = ℕ} 0 1 = cc in absurd (omega arith)))
+      which Ended ok e = ap withoutRecord (same-record l m
+          (λ f. let z : _≡_ {A = ℕ} 0 1 = cc in absurd (omega arith)))
+
+  pub same-answer : (a : Account) → judgedValid (c .terms) (c .challenge) a (readResponse p) ≡ false
+      → withoutRecord (step c p notFound b) ≡ withoutRecord (step c p (found a) b)
   same-answer a v = same-invalid notFound (found a) refl v
+
+  -- so is a locked account, whatever the packet says
+  pub same-locked : (a : Account) → c .terms .limit ≤ a .failures
+      → withoutRecord (step c p notFound b) ≡ withoutRecord (step c p (found a) b)
+  same-locked a h = same-answer a (judged-at-limit (c .terms) (c .challenge) a (readResponse p) h)

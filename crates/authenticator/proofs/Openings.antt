@@ -6,7 +6,7 @@ use mathlib.Core.Bool.{Bool, true, false, cond}
 use mathlib.Core.List.{List, _++_}
 use mathlib.Core.Logic.{_≢_}
 use mathlib.Core.Path.{_≡_, refl, sym, ap, _∙_, subst}
-use Prim.Native.Nat.{ℕ, suc, _+_, _≤_}
+use Prim.Native.Nat.{ℕ, suc, _+_, _≤_, _<_}
 use native.Mathlib.Omega.{arith}
 use borrow.Author.Tests.{eqb-true, eqb-false, ne-eqb, le-ltb, ltb-false}
 use lib.Dec.{eqb}
@@ -21,7 +21,7 @@ use Rattle.packets.specs.Reply.{challengePacket, badReplyBuffer}
 use Rattle.challenges.proofs.Laid.{length-challenges-from}
 use Rattle.packets.proofs.Writing.{taken}
 use Rattle.authenticator.specs.Conversation.{closed}
-use Rattle.authenticator.specs.Opening.{Opening, retriesOf, spends, tooManyRetries, openRefusal, openedIssued, firstConversation, openingPacket, openedBy, opened, openedBuffer, OpenedAs}
+use Rattle.authenticator.specs.Opening.{Opening, retriesOf, spends, noLimit, tooManyRetries, openRefusal, openedIssued, firstConversation, openingPacket, openedBy, opened, openedBuffer, OpenedAs}
 use Rattle.authenticator.specs.declared.Conversation.{Conversation}
 use Rattle.authenticator.specs.declared.Opened.{Opened}
 use Rattle.authenticator.proofs.Spends.{challenges-wide, challenges-distinct}
@@ -35,34 +35,37 @@ opened-number o = which (eqb (openRefusal o) 0) refl
     which true e = let z = eqb-true (openRefusal o) 0 e in ap (λ (n : ℕ). openedBy n o .refusal) z ∙ sym z
     which false e = rw e
 
--- ---- 13 and 2, which are tested before the list is looked at
+-- ---- 18, 13 and 2, which are tested before the list is looked at
 
 abbrev pub argumentRefusal : Opening → ℕ
-argumentRefusal o = cond (tooManyRetries o) 13 (cond (badReplyBuffer (o .buffer)) 2 0)
+argumentRefusal o = cond (noLimit o) 18 (cond (tooManyRetries o) 13 (cond (badReplyBuffer (o .buffer)) 2 0))
 
 pub record GoodArguments (o : Opening) : Type 0 where
+  pub limited : noLimit o ≡ false
   pub few : tooManyRetries o ≡ false
   pub roomy : badReplyBuffer (o .buffer) ≡ false
 
 pub arguments-good : (o : Opening) → argumentRefusal o ≡ 0 → GoodArguments o
 arguments-good o e =
-    let good = both-passed (tooManyRetries o) 13 (badReplyBuffer (o .buffer)) 2 (omega arith) (omega arith) e in
-    record { few = good .0; roomy = good .1 }
+    let first = none-refused (noLimit o) (omega arith) e in
+    let good = both-passed (tooManyRetries o) 13 (badReplyBuffer (o .buffer)) 2 (omega arith) (omega arith) (first .1) in
+    record { limited = first .0; few = good .0; roomy = good .1 }
 
 pub list-refusal : (o : Opening) → GoodArguments o
     → openRefusal o ≡ spendRefusal 8 (spends o) (o .issued)
 unfolding openRefusal
-list-refusal o good = simp (good .few, good .roomy)
+list-refusal o good = simp (good .limited, good .few, good .roomy)
 
 pub argument-refusal : (o : Opening) → argumentRefusal o ≢ 0 → openRefusal o ≡ argumentRefusal o
 unfolding openRefusal
-argument-refusal o some = which (tooManyRetries o) (badReplyBuffer (o .buffer)) some
+argument-refusal o some = which (noLimit o) (tooManyRetries o) (badReplyBuffer (o .buffer)) some
   where
-    which : (t u : Bool) → _≢_ {A = ℕ} (cond t 13 (cond u 2 0)) 0
-        → _≡_ {A = ℕ} (cond t 13 (cond u 2 (spendRefusal 8 (spends o) (o .issued)))) (cond t 13 (cond u 2 0))
-    which true u h = refl
-    which false true h = refl
-    which false false h = absurd (h refl)
+    which : (s t u : Bool) → _≢_ {A = ℕ} (cond s 18 (cond t 13 (cond u 2 0))) 0
+        → _≡_ {A = ℕ} (cond s 18 (cond t 13 (cond u 2 (spendRefusal 8 (spends o) (o .issued))))) (cond s 18 (cond t 13 (cond u 2 0)))
+    which true t u h = refl
+    which false true u h = refl
+    which false false true h = refl
+    which false false false h = absurd (h refl)
 
 module _ (o : Opening) where
   module _ (ok : opened o .refusal ≡ 0) where
@@ -79,9 +82,17 @@ module _ (o : Opening) where
     passed : (tooManyRetries o ≡ false) × (badReplyBuffer (o .buffer) ≡ false) × (spendRefusal 8 (spends o) (o .issued) ≡ 0)
     unfolding openRefusal
     passed =
-        let first = none-refused (tooManyRetries o) (omega arith) not-refused in
+        let limited = none-refused (noLimit o) (omega arith) not-refused in
+        let first = none-refused (tooManyRetries o) (omega arith) (limited .1) in
         let second = none-refused (badReplyBuffer (o .buffer)) (omega arith) (first .1) in
         (first .0, second .0, second .1)
+
+    -- the limit is at least 1
+    pub opened-limited : 0 < o .limit
+    unfolding openRefusal
+    opened-limited =
+        let z = eqb-false (o .limit) 0 (none-refused (noLimit o) (omega arith) not-refused .0) in
+        omega (arith, z)
 
     roomy : 17 ≤ length (o .buffer)
     roomy = ltb-false (length (o .buffer)) 17 (passed .1)
@@ -167,10 +178,10 @@ module _ (o : Opening) where
 
 -- ---- what is not refused
 
-module _ (o : Opening) (few : retriesOf (o .retries) ≤ 7) (room : 17 ≤ length (o .buffer)) where
+module _ (o : Opening) (limited : 0 < o .limit) (few : retriesOf (o .retries) ≤ 7) (room : 17 ≤ length (o .buffer)) where
   may-open-by : spendRefusal 8 (spends o) (o .issued) ≡ 0 → opened o .refusal ≡ 0
   unfolding openRefusal
-  may-open-by e = opened-number o ∙ simp (le-ltb 7 (retriesOf (o .retries)) few, le-ltb (length (o .buffer)) 17 room, e)
+  may-open-by e = opened-number o ∙ simp (ne-eqb (o .limit) 0 (λ z. omega (arith, z)), le-ltb 7 (retriesOf (o .retries)) few, le-ltb (length (o .buffer)) 17 room, e)
 
   -- on a sound list, with challenges that were not issued and places for them
   pub may-open : badBuffer 8 (o .issued .buffer) (o .issued .used) ≡ false → o .issued .counts ≡ countsOf (listed 8 (o .issued))

@@ -12,9 +12,12 @@ use borrow.Author.Tests.{ne-eqb}
 use lib.Dec.{eqb}
 use lib.ListN.{length}
 use Rattle.packets.specs.Frame.{octet, writtenOver}
-use Rattle.authenticator.specs.Conversation.{noAnswer}
+use Rattle.packets.specs.Codes.{responseCode}
+use Rattle.packets.specs.Response.{readResponse}
+use Rattle.verify.specs.Response.{countedLookup}
+use Rattle.authenticator.specs.Conversation.{noAnswer, awaitedCode}
 use Rattle.authenticator.specs.Admit.{isRepeat, refusalFor, stepRefusal}
-use Rattle.authenticator.specs.Judge.{judge}
+use Rattle.authenticator.specs.Judge.{judgeResponse, judgeIn, judge}
 use Rattle.authenticator.specs.Encode.{replyPacket}
 use Rattle.authenticator.specs.Step.{Outcome, judgedAs, stepRepeats}
 use Rattle.authenticator.specs.Steps.{
@@ -29,6 +32,8 @@ use Rattle.authenticator.specs.Steps.{repeatsAnswered, isRepeatAt, ruled
 use Rattle.authenticator.specs.Steps.{isJudged, judged, nextState, NotJudged, StepClaim}
 use Rattle.authenticator.specs.declared.Conversation.{Conversation}
 use Rattle.authenticator.specs.declared.LastAnswer.{LastAnswer}
+use Rattle.authenticator.specs.declared.Phase.{Phase}
+use Rattle.authenticator.specs.declared.Phase.the-variants.{Response, Change, Ended}
 use Rattle.authenticator.proofs.Admitted.{Passes, passes, repeat-seen}
 use Rattle.authenticator.proofs.Steps as steps
 use Rattle.authenticator.proofs.Steps.{
@@ -200,6 +205,26 @@ module _ (p : BoxState) (s : StepInput) (kept : Tracks p) where
           ∙ sym (ap (λ (t : Bool). eqb (stepRefusal c (s .packet) (s .buffer)) 0 && t) (h .fresh))
           ∙ repeats-now))
 
+  -- the record that is handed out after a Response
+  hands-out : isJudged stepOn p s ≡ true → octet 0 (s .packet) ≡ responseCode
+      → stepOn c s .answer .updated ≡ countedLookup (c .terms) (c .challenge) (s .account)
+      (readResponse (s .packet))
+  unfolding judge judgeResponse
+  hands-out y code = which seen
+    where
+      judged-so : (ph : Phase) → responseCode ≡ awaitedCode ph
+          → judgeIn ph c (s .packet) (s .account) .updated
+          ≡ countedLookup (c .terms) (c .challenge) (s .account) (readResponse (s .packet))
+      judged-so Response e = refl
+      judged-so Change e = absurd (omega (arith, e))
+      judged-so Ended e = absurd (omega (arith, e))
+
+      which : Seen p s → stepOn c s .answer .updated
+          ≡ countedLookup (c .terms) (c .challenge) (s .account) (readResponse (s .packet))
+      which (unjudged z e u) = absurd (false≢true (sym z ∙ y))
+      which (judgedNow _ h e) = ap (λ (o : Outcome). o .answer .updated) e
+          ∙ judged-so (c .phase) (sym code ∙ h .code)
+
   pub step-claim : StepClaim stepOn p s
   step-claim =
       record {
@@ -207,6 +232,7 @@ module _ (p : BoxState) (s : StepInput) (kept : Tracks p) where
         sameReply = same-reply;
         saysRefused = drew-exactly c s;
         saysRepeated = repeats-step c (s .packet) (s .account) (s .buffer) ∙ sym repeat-at;
+        handsOut = hands-out;
       }
     where
       which : Seen p s → judged stepOn p s ≡ 0

@@ -9,7 +9,7 @@ use Prim.Native.Nat.{ℕ, suc, _≤_}
 use native.Mathlib.Omega.{arith}
 use borrow.Author.Needs.{needs}
 use borrow.Author.Tests.{ltb-false}
-use lib.Dec.{ltb}
+use lib.Dec.{eqb, ltb}
 use lib.ListN.{length}
 use Rattle.issued.specs.Issued.{Issued, spendRefusal, spent}
 use Rattle.issued.proofs.Spending.{spent-refused}
@@ -48,6 +48,7 @@ opening c =
       challenge = a .challenge;
       retries = a .retries;
       lm = a .lm;
+      limit = a .limit;
       issued = record { buffer = a .list .now; used = a .used; counts = a .counts .now };
       buffer = a .reply .now;
     }
@@ -56,11 +57,11 @@ told : (c : tie.After-argument-refusal)
     → c .argument-refusal .result ≡ argumentRefusal (opening c)
 told c =
     c .argument-refusal .ensures
-    ∙ ap (λ (r : ℕ). cond {A = ℕ} (ltb mostRetries r) 13
-    (cond (badReplyBuffer (opening c .buffer)) 2 0))
+    ∙ ap (λ (r : ℕ). cond {A = ℕ} (eqb (opening c .limit) 0) 18 (cond (ltb mostRetries r) 13
+    (cond (badReplyBuffer (opening c .buffer)) 2 0)))
     (retries c .retries-of .ensures)
 
--- 13, 2
+-- 18, 13, 2
 returns : tie.Need-returns
 returns c =
     let k = c .before .before in

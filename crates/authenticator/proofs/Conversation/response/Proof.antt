@@ -1,9 +1,10 @@
 -- `authenticator::Conversation::response` meets its contract.
 -- Assumes nothing.
 use borrow.Author.Needs.{needs}
-use mathlib.Core.Path.{_≡_, ap, _∙_}
+use mathlib.Core.Path.{_≡_, refl, ap, _∙_}
 use Rattle.packets.specs.declared.Response.{Response}
-use Rattle.verify.specs.Response.{responseReason}
+use Rattle.verify.specs.Response.{checkedResponse}
+use Rattle.verify.specs.declared.CheckedResponse.{CheckedResponse}
 use Rattle.authenticator.specs.Judge.{judgementFor, judgeResponse}
 use Rattle.authenticator.proofs.Judgements.{judgement-same}
 use Rattle.authenticator.proofs.Conversation.response.Statement.{statement}
@@ -12,20 +13,19 @@ use Rattle.authenticator.proofs.Conversation.response.Tie as tie
 returns : tie.Need-returns
 unfolding judgeResponse
 returns c =
-    let after = c .before in
-    let reply = after .before in
-    let reason = reply .before in
-    let fields = reason .before in
-    let a = fields .before .before .before .before .before .args in
-    let e = reason .response-reason .ensures
-    ∙ ap (λ (f : Response). responseReason (a .self .terms) (a .self .challenge) (a .lookup) f)
+    let reply = c .before in
+    let checked = reply .before .before .before in
+    let fields = checked .before in
+    let a = fields .before .before .before .before .args in
+    let e = checked .check-response .ensures
+    ∙ ap (λ (f : Response). checkedResponse (a .self .terms) (a .self .challenge) (a .lookup) f)
     (fields .read-response .ensures) in
-    judgement-same (reply .reply-for .ensures) (after .after .ensures) (c .not-found .ensures)
-    ∙ ap (judgementFor (a .self) (a .lookup .account)) e
+    judgement-same (reply .reply-for .ensures) (c .after .ensures) refl
+    ∙ ap (λ (v : CheckedResponse). judgementFor (a .self) (v .updated) (v .reason)) e
 
 pub response-spec : {M : Type 1} → statement M
 response-spec =
     tie.close
     (tie.spec
     (λ c κs. search needs) (λ c κs. search needs) (λ c κs. search needs) (λ c κs. search needs)
-    (λ c κs. search needs) returns)
+    returns)

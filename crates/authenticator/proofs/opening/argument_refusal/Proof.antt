@@ -10,4 +10,6 @@ returns c = cc
 pub argument-refusal-spec : {M : Type 1} → statement M
 argument-refusal-spec =
     tie.close
-    (tie.spec (λ c κs. search needs) (λ c κs. search needs) (λ c κs. search needs) returns)
+    (tie.spec
+    (λ c κs. search needs) (λ c κs. search needs) (λ c κs. search needs) (λ c κs. search needs)
+    returns)
