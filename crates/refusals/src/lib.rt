@@ -30,6 +30,7 @@
 //     15  the name sought is on two lines of the account file
 //     16  a challenge to be spent is in the list of issued ones
 //     17  too few places are left in that list
+//     18  the limit of invalid Responses in a row is 0
 //     24  the list is bad: its places, the used ones or its counts
 //
 // From 100 on the numbers are ours, for what document 01 does not speak of:
