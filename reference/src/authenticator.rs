@@ -175,8 +175,8 @@ pub struct Answer {
     pub written: usize,
     /// The next conversation; on refusal and for a repeat the one given.
     pub conversation: Conversation,
-    /// The record handed out: after a judged Response the one lent, with its new count; by an
-    /// accepted change the new one; none where none was lent, and with every other answer.
+    /// The record handed out: after a judged Response the one lent, if any, with its new count;
+    /// by an accepted change the new one; none with every other answer.
     pub record: Option<Account>,
 }
 
@@ -426,7 +426,8 @@ fn reason(
 }
 
 /// "at or over a limit of 1 to 255 every Response is judged invalid": the limit is that of the
-/// conversation, the count that of the record lent.
+/// conversation, the count that of the record lent. (A limit of 0, which no opening gives, locks
+/// every record.)
 fn locked(conversation: &Conversation, account: &Account) -> bool {
     account.failures >= conversation.limit
 }

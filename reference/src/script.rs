@@ -617,6 +617,26 @@ mod tests {
     }
 
     #[test]
+    fn the_limit_goes_to_openings_and_the_count_to_steps() {
+        let mut session = Session::new();
+        session.run("open 3 00*8 0 no AA*17\naccount 00*16 - 0000\n");
+        assert_eq!(session.conversation().limit, 255);
+        assert_eq!(session.account().unwrap().failures, 0);
+        assert_eq!(session.line("limit 3"), "limit 3");
+        session.run("limit 256\nlimit -\n");
+        assert_eq!(session.conversation().limit, 255);
+        session.run("open 3 01*8 0 no AA*17\naccount 00*16 - 0000 2\naccount - - 0000 256\n");
+        assert_eq!(session.conversation().limit, 3);
+        assert_eq!(session.account().unwrap().failures, 2);
+        let out = session.line(&format!("step 0203003731{}0175 AA*17", "00".repeat(48)));
+        assert!(out.ends_with("00000000/-/0000/3"), "{out}");
+        session.run("relend\n");
+        assert_eq!(session.account().unwrap().failures, 3);
+        session.run("limit 0\nopen 3 02*8 8 no AA*16\n");
+        assert_eq!(session.conversation(), &authenticator::REFUSED);
+    }
+
+    #[test]
     fn the_list_goes_from_opening_to_opening() {
         fn list_after(session: &mut Session, line: &str) -> String {
             let out = session.line(line);

@@ -9,11 +9,15 @@ use lib.ListN.{length, replicate, length-append, length-replicate}
 use Rattle.credentials.specs.Credentials.{ntHashOf}
 use Rattle.message.specs.Reasons.{authenticationFailure, passwordExpired}
 use Rattle.packets.specs.Response.{readResponse}
+use Rattle.packets.specs.declared.Response.{Response}
+use Rattle.verify.specs.Response.{counted, countedLookup}
+use Rattle.verify.specs.declared.Terms.{Terms}
+use Rattle.verify.proofs.Counting.{counted-invalid}
 use Rattle.packets.specs.Reply.{successPacket}
 use Rattle.authenticator.specs.Encode.{replyPacket}
-use Rattle.accounts.specs.Account.{blankAccount, found, changed, Rightful}
+use Rattle.accounts.specs.Account.{blankAccount, found, changed, withFailures, Rightful}
 use Rattle.authenticator.specs.Judge.{validIn}
-use Rattle.authenticator.specs.Opening.{retriesOf, opened}
+use Rattle.authenticator.specs.Opening.{Opening, retriesOf, opened}
 use Rattle.authenticator.specs.Step.{Outcome, judgedAs, step}
 use Rattle.authenticator.specs.Steps.{StepInput, stepOn, BoxState, unanswered, nextAfter, judged}
 use Rattle.authenticator.specs.Steps.{nextState, NotJudged, StepClaim}
@@ -25,8 +29,8 @@ use Rattle.authenticator.proofs.Seen.{step-claim}
 use Rattle.authenticator.proofs.Replies.{readingFor}
 use Rattle.authenticator.proofs.Judged.{tryAgain, changedTo, changed-rightful}
 use Rattle.authenticator.specs.declared.Conversation.{Conversation}
-use Rattle.authenticator.specs.declared.Phase.the-variants.{Response, Change}
-use Rattle.authenticator.proofs.Openings.{opened-first}
+use Rattle.authenticator.specs.declared.Phase.the-variants as phases
+use Rattle.authenticator.proofs.Openings.{opened-first, opened-limited}
 use Rattle.authenticator.proofs.Bound.{leftIn, left-first, judged-less}
 use Rattle.peer.specs.Peer.{afterReply}
 use Rattle.peer.specs.Turn.{nextTurn}
@@ -41,11 +45,14 @@ use Rattle.peer.proofs.Left.{
   filler-full,
   change-left,
 }
-use Rattle.series.specs.Course.{end, Along}
+use Rattle.series.specs.Course.{collect, end, Along}
 use Rattle.series.specs.Series.{
   invalid,
   right,
   passwordChange,
+  Passed,
+  own,
+  another,
   ExchangeInput,
   Step,
   ours,
@@ -57,6 +64,8 @@ use Rattle.series.specs.Series.{
   packetKinds,
   plan,
   SeriesState,
+  passedWith,
+  storedAfter,
   start,
   reaching,
   Exchange,
@@ -92,6 +101,13 @@ use Rattle.series.proofs.Taken.{InStep, invalid-taken, right-taken, cha
 use Rattle.series.proofs.Ready.{
   FitIn,
   fit-plan,
+  Counts,
+  FitRecord,
+  fit-first,
+  fit-another,
+  fit-counted,
+  fit-cleared,
+  fit-changed,
   opened-in-step,
   retried-in-step,
   ended-in-step,
@@ -115,7 +131,7 @@ module _ (p : SeriesState) (i : Faithful (p .box)) (h : InStep (p .box .conversa
 
   -- a try
   module _ (password name : List ℕ) (l : ExchangeInput) (kept : TryWithin password name l)
-      (ph : p .box .conversation .phase ≡ Response) where
+      (ph : p .box .conversation .phase ≡ phases.Response) where
     abbrev wrote : Wrote
     wrote = writeResponse turn password name (l .out)
 
@@ -123,40 +139,56 @@ module _ (p : SeriesState) (i : Faithful (p .box)) (h : InStep (p .box .conversa
     try-written = response-written turn password name (l .out) (kept .not8) (kept .not10)
         (kept .not9)
 
-    try-left : reaching wrote l .packet ≡ responseFor turn password name ++ l .packetPadding
+    try-left : reaching (p .account) wrote l .packet
+        ≡ responseFor turn password name ++ l .packetPadding
     try-left = ap (λ (x : List ℕ). x ++ l .packetPadding)
         (response-left turn password name (l .out) try-written)
 
     try-name : (1 ≤ length name) × (length name ≤ 256)
     try-name = name-fits turn password name (l .out) try-written
 
-    invalid-exchanged : (l .account .found && validIn (p .box .conversation) (l .account .account)
-        (readResponse (reaching wrote l .packet))) ≡ false → 0 < p .box .conversation .retries
-        → Exchanged p wrote l (tryAgain (p .box .conversation))
-    invalid-exchanged v pos =
-        exchanged p wrote l (tryAgain (p .box .conversation)) (i .tracks) (h .id) try-written
-        (kept .not2) (omega arith)
-        (ap (λ (x : List ℕ). step (p .box .conversation) x (l .account) (l .buffer)) try-left
-        ∙ invalid-taken (p .box .conversation) turn h (i .fresh) ph password name (l .packetPadding)
-        (l .buffer) (kept .not2) try-name (l .account)
-        (ap (λ (x : List ℕ). l .account .found && validIn (p .box .conversation)
-        (l .account .account) (readResponse x)) (sym try-left) ∙ v) pos)
+    -- the record that is passed, and as it is counted
+    abbrev passed : Lookup
+    passed = passedWith (p .account) (l .account)
 
-    right-exchanged : (a : Account) → Rightful a → ntHashOf password ≡ a .nt .octets → l .account
-        ≡ found a
+    abbrev countedIn : List ℕ → Lookup
+    countedIn x =
+        countedLookup (p .box .conversation .terms) (p .box .conversation .challenge) passed
+        (readResponse x)
+
+    invalid-exchanged : (passed .found && validIn (p .box .conversation) (passed .account)
+        (readResponse (reaching (p .account) wrote l .packet))) ≡ false
+        → 0 < p .box .conversation .retries
+        → Exchanged p wrote l (tryAgain (p .box .conversation)
+        (countedIn (reaching (p .account) wrote l .packet)))
+    invalid-exchanged v pos =
+        let c = p .box .conversation in
+        let x = reaching (p .account) wrote l .packet in
+        exchanged p wrote l (tryAgain c (countedIn x)) (i .tracks) (h .id) try-written
+        (kept .not2) (omega arith)
+        (ap (λ (y : List ℕ). step c y passed (l .buffer)) try-left
+        ∙ invalid-taken c turn h (i .fresh) ph password name (l .packetPadding)
+        (l .buffer) (kept .not2) try-name passed
+        (ap (λ (y : List ℕ). passed .found && validIn c (passed .account) (readResponse y))
+        (sym try-left) ∙ v) pos
+        ∙ ap (λ (y : List ℕ). judgedAs c (tryAgain c (countedIn y)) (l .buffer)) (sym try-left))
+
+    right-exchanged : (a : Account) → Rightful a
+        → a .failures < p .box .conversation .terms .limit → ntHashOf password ≡ a .nt .octets
+        → passed ≡ found a
         → Exchanged p wrote l (drawnRight (a .expired) (p .box .conversation) a)
-    right-exchanged a g hash input =
+    right-exchanged a g below hash input =
         exchanged p wrote l (drawnRight (a .expired) (p .box .conversation) a) (i .tracks)
         (h .id) try-written (kept .not2)
         (right-small (a .expired) (p .box .conversation) a)
         (ap₂ (λ (x : List ℕ) (y : Lookup). step (p .box .conversation) x y (l .buffer)) try-left
         input
         ∙ right-taken (p .box .conversation) turn h (i .fresh) ph password name (l .packetPadding)
-        (l .buffer) (kept .not2) try-name a g hash)
+        (l .buffer) (kept .not2) try-name a g below hash)
 
   -- the change
   module _ (old new filler : List ℕ) (l : ExchangeInput) (kept : ChangeWithin old new filler l)
-      (ph : p .box .conversation .phase ≡ Change) where
+      (ph : p .box .conversation .phase ≡ phases.Change) where
     abbrev changeWrote : Wrote
     changeWrote = writeChange turn old new filler (l .out)
 
@@ -166,16 +198,17 @@ module _ (p : SeriesState) (i : Faithful (p .box)) (h : InStep (p .box .conversa
 
     module _ (there : p .box .conversation .kept .nt .present ≡ true)
         (hash : ntHashOf old ≡ p .box .conversation .kept .nt .octets) where
-      change-outcome : stepOn (p .box .conversation) (reaching changeWrote l)
+      change-outcome : stepOn (p .box .conversation) (reaching (p .account) changeWrote l)
           ≡ judgedAs (p .box .conversation) (changedTo (p .box .conversation) (ntHashOf new))
           (l .buffer)
       change-outcome =
-          ap (λ (x : List ℕ). step (p .box .conversation) (x ++ l .packetPadding) (l .account)
-          (l .buffer)) (change-left turn old new filler (l .out) change-is-written)
+          ap (λ (x : List ℕ). step (p .box .conversation) (x ++ l .packetPadding)
+          (passedWith (p .account) (l .account)) (l .buffer)) (change-left turn old new filler (l .out) change-is-written)
           ∙ change-taken (p .box .conversation) turn h (i .fresh) ph old new filler
           (l .packetPadding) (l .buffer) (kept .not2)
           (filler-full turn old new filler (l .out) change-is-written)
-          (new-fits turn old new filler (l .out) change-is-written) there hash (l .account)
+          (new-fits turn old new filler (l .out) change-is-written) there hash
+          (passedWith (p .account) (l .account))
 
       change-exchanged : Exchanged p changeWrote l (changedTo (p .box .conversation) (ntHashOf new))
       change-exchanged =
@@ -194,20 +227,25 @@ through p i (s ∷ ss) h =
     through (nextState stepOn p s) (faithful-next p s i) ss (h .1)
     ∙ unjudged-same p s i (h .0)
 
-pub lets-in : (a : Account) (password : List ℕ) → Rightful a → a .expired ≡ false → ntHashOf password
-    ≡ a .nt .octets → LetsIn stepOn ourWriter a password
-lets-in a password g fresh hash o behind name ss l ok eight quiet input kept =
+-- a record that counts no failures is below every limit
+pub lets-in : (a : Account) (password : List ℕ) → Rightful a → a .expired ≡ false
+    → a .failures ≡ 0 → ntHashOf password ≡ a .nt .octets → LetsIn stepOn ourWriter a password
+lets-in a password g fresh none hash o behind name ss l ok eight quiet input kept =
     let first = unanswered (opened o .conversation) in
     let faithful = opened-faithful o ok in
     let back = through first faithful ss quiet in
-    let p = later stepOn ourWriter o behind ss in
+    let p = later stepOn ourWriter o behind a ss in
     let f = end-keeps (nextState stepOn) Faithful faithful-next first faithful ss in
     let i : InStep (p .box .conversation) (p .peer .turn) = subst
-    (λ (c : Conversation). InStep c (start o behind .peer .turn)) (sym back)
-    (opened-in-step o ok eight behind) in
-    let ph : p .box .conversation .phase ≡ Response = ap (λ (c : Conversation). c .phase)
+    (λ (c : Conversation). InStep c (start o behind a .peer .turn)) (sym back)
+    (opened-in-step o ok eight behind a) in
+    let ph : p .box .conversation .phase ≡ phases.Response = ap (λ (c : Conversation). c .phase)
     (back ∙ opened-first o ok) in
-    let d = right-exchanged p f i password name l kept ph a g hash input .draws in
+    let limit = ap (λ (c : Conversation). c .terms .limit) (back ∙ opened-first o ok) in
+    let below : a .failures < p .box .conversation .terms .limit =
+    omega (arith, none, limit, opened-limited o ok) in
+    let d = right-exchanged p f i password name l kept ph a g below hash
+    (ap (passedWith a) input) .draws in
     let id : p .box .conversation .id ≡ o .id = ap (λ (c : Conversation). c .id)
     (back ∙ opened-first o ok) in
     let reply = ap (λ (x : Bool). drawnRight x (p .box .conversation) a .reply) fresh in (
@@ -218,30 +256,65 @@ lets-in a password g fresh hash o behind name ss l ok eight quiet input kept =
 
 -- ---- each step
 
-abbrev pub ReadyAt : Account → List PacketKind → Conversation → Turn → Type 0
-ReadyAt a due c t = FitIn a due c × InStep c t
+abbrev pub ReadyAt : Account → ℕ → List PacketKind → Conversation → Turn → Type 0
+ReadyAt a limit due c t = FitIn a due c × InStep c t × (c .terms .limit ≡ limit)
 
-abbrev pub Ready : Account → List PacketKind → SeriesState → Type 0
-Ready a due p = ReadyAt a due (p .box .conversation) (p .peer .turn) × Faithful (p .box)
+abbrev pub Ready : Account → ℕ → List PacketKind → SeriesState → Type 0
+Ready a limit due p = ReadyAt a limit due (p .box .conversation) (p .peer .turn)
+    × Faithful (p .box) × FitRecord a limit due (p .account)
 
 -- after an exchange
-ready-next : (a : Account) (due : List PacketKind) (p : SeriesState) (w : Wrote) (l : ExchangeInput)
-    (d : Judgement)
+ready-next : (a : Account) (limit : ℕ) (due : List PacketKind) (p : SeriesState) (w : Wrote)
+    (l : ExchangeInput) (d : Judgement)
     → Exchanged p w l d → Faithful (p .box)
-    → ReadyAt a due (d .next) (nextTurn (sentBy (p .peer .turn)) (readingFor (d .reply)))
-    → ReadyAt a due (nextAfter stepOn (p .box .conversation) (reaching w l))
+    → ReadyAt a limit due (d .next) (nextTurn (sentBy (p .peer .turn)) (readingFor (d .reply)))
+    → FitRecord a limit due (storedAfter (p .account) (l .account) (carried stepOn p w l .outcome))
+    → ReadyAt a limit due (nextAfter stepOn (p .box .conversation) (reaching (p .account) w l))
     (afterReply (carried stepOn p w l .peer) (carried stepOn p w l .reply) .turn)
-    × Faithful (nextState stepOn (p .box) (reaching w l))
-ready-next a due p w l d x i r =
-    let moved : ReadyAt a due (withLast (answerWith (p .box .conversation) (d .reply)) (d .next))
+    × Faithful (nextState stepOn (p .box) (reaching (p .account) w l))
+    × FitRecord a limit due (storedAfter (p .account) (l .account) (carried stepOn p w l .outcome))
+ready-next a limit due p w l d x i r stored =
+    let moved : ReadyAt a limit due
+    (withLast (answerWith (p .box .conversation) (d .reply)) (d .next))
     (nextTurn (sentBy (p .peer .turn)) (readingFor (d .reply))) =
-    (r .0, record { id = r .1 .id; challenge = r .1 .challenge }) in (
-      subst (λ (c : Conversation). ReadyAt a due c (afterReply (carried stepOn p w l .peer)
+    (r .0, record { id = r .1 .id; challenge = r .1 .challenge }, r .2) in (
+      subst (λ (c : Conversation). ReadyAt a limit due c (afterReply (carried stepOn p w l .peer)
           (carried stepOn p w l .reply) .turn)) (sym (x .conversation))
-          (subst (ReadyAt a due (withLast (answerWith (p .box .conversation) (d .reply)) (d .next)))
+          (subst (ReadyAt a limit due
+          (withLast (answerWith (p .box .conversation) (d .reply)) (d .next)))
           (sym (x .turn)) moved),
-      faithful-next (p .box) (reaching w l) i,
+      faithful-next (p .box) (reaching (p .account) w l) i,
+      stored,
     )
+
+-- the record after an exchange, where it was passed: the one that was handed out
+stored-handed : (b : Account) (o : Outcome) (d : Account) → o .answer .updated ≡ found d
+    → storedAfter b own o ≡ d
+stored-handed b o d e =
+    ap (λ (u : Lookup). cond (u .found) (u .account) b) e
+
+-- after an invalid try it is as it was, or counts one more
+stored-invalid : (a : Account) (limit : ℕ) (due : List PacketKind) (b : Account) (q : Passed)
+    (o : Outcome) (c : Conversation) (f : Response)
+    → Counts a limit (Invalid ∷ due) b
+    → (passedWith b q .found ≡ true → validIn c (passedWith b q .account) f ≡ false)
+    → o .answer .updated ≡ countedLookup (c .terms) (c .challenge) (passedWith b q) f
+    → FitRecord a limit due (storedAfter b q o)
+stored-invalid a limit due b own o c f h v e =
+    fit-counted a limit due b (storedAfter b own o) h
+    (stored-handed b o (counted (c .terms) (c .challenge) b f) e
+    ∙ counted-invalid (c .terms) (c .challenge) b f (v refl))
+stored-invalid a limit due b (another l) o c f h v e = fit-another a limit due b h
+
+-- what the right password hands out
+right-handed : (x : Bool) (c : Conversation) (a : Account)
+    → drawnRight x c a .updated ≡ found (withFailures 0 a)
+right-handed true c a = refl
+right-handed false c a = refl
+
+right-terms : (x : Bool) (c : Conversation) (a : Account) → drawnRight x c a .next .terms ≡ c .terms
+right-terms true c a = refl
+right-terms false c a = refl
 
 right-answered : (x : Bool) (e : Exchange) (c : Conversation) (a : Account)
     → Draws e (replyPacket (c .id) (drawnRight x c a .reply)) (readingFor (drawnRight x c a .reply))
@@ -249,92 +322,145 @@ right-answered : (x : Bool) (e : Exchange) (c : Conversation) (a : Account)
 right-answered true e c a h = h
 right-answered false e c a h = h
 
-module _ (a : Account) (g : Rightful a) where
-  pub law : (due : List PacketKind) (p : SeriesState) (m : Step) → Ready a (packetKinds m ++ due) p
+module _ (a : Account) (g : Rightful a) (limit : ℕ) where
+  -- the record last handed out is the first one but for its count
+  abbrev now : SeriesState → Account
+  now p = withFailures (p .account .failures) a
+
+  rightful-now : (p : SeriesState) → Rightful (now p)
+  rightful-now p =
+      record { nt = g .nt; enabled = g .enabled; hours = g .hours; dialin = g .dialin }
+
+  -- what was kept
+  module _ (p : SeriesState) (same : p .box .conversation .kept ≡ withFailures 0 a) where
+    kept-there : p .box .conversation .kept .nt .present ≡ true
+    kept-there = ap (λ (b : Account). b .nt .present) same ∙ g .nt
+
+    kept-hash : (old : List ℕ) → ntHashOf old ≡ a .nt .octets
+        → ntHashOf old ≡ p .box .conversation .kept .nt .octets
+    kept-hash old h = h ∙ sym (ap (λ (b : Account). b .nt .octets) same)
+
+  pub law : (due : List PacketKind) (p : SeriesState) (m : Step)
+      → Ready a limit (packetKinds m ++ due) p
       → Allowed stepOn ourWriter a p m
       → Claimed stepOn ourWriter a p m × (judgedAt stepOn ourWriter p m ≡ length (packetKinds m))
-      × Ready a due (next stepOn ourWriter p m)
-  law due p (other s) (r, t) h = (
+      × Ready a limit due (next stepOn ourWriter p m)
+  law due p (other s) (r, t, n) h = (
     tt,
     unjudged-none (p .box) s t h,
     (
-      subst (λ (c : Conversation). ReadyAt a due c (p .peer .turn))
+      subst (λ (c : Conversation). ReadyAt a limit due c (p .peer .turn))
           (sym (unjudged-same (p .box) s t h)) r,
       faithful-next (p .box) s t,
+      n,
     ),
   )
-  law due p (ours (invalid password name) l) ((f, i), t) h =
+  law due p (ours (invalid password name) l) ((f, i, lim), t, n) h =
       let x = invalid-exchanged p t i password name l (h .0) (f .0)
-      (not-valid (l .account .found) _ (h .1)) (f .1) in (
+      (not-valid (passedWith (p .account) (l .account) .found) _ (h .1)) (f .1) in (
         (
           subst (λ (n : ℕ). DrawsFailure (exchange stepOn ourWriter p (invalid password name) l) n
               authenticationFailure 1) (i .id) (x .draws),
           try-written p t i password name l (h .0) (f .0),
         ),
         x .judges,
-        ready-next a due p _ l _ x t (
+        ready-next a limit due p _ l _ x t (
           f .2,
-          retried-in-step (p .box .conversation)
-              (p .peer .turn) i,
-        ),
+          retried-in-step (p .box .conversation) (p .peer .turn) i
+              (countedIn p t i password name l (h .0) (f .0)
+              (exchange stepOn ourWriter p (invalid password name) l .input .packet)),
+          lim,
+        )
+        (stored-invalid a limit due (p .account) (l .account)
+        (exchange stepOn ourWriter p (invalid password name) l .outcome) (p .box .conversation)
+        (readResponse (exchange stepOn ourWriter p (invalid password name) l .input .packet)) n
+        (h .1) (x .handed)),
       )
-  law due p (ours (right password name) l) ((f, i), t) h =
-      let x = right-exchanged p t i password name l (h .0) (f .0) a g (h .1 .0) (h .1 .1) in
+  law due p (ours (right password name) l) ((f, i, lim), t, n) h =
+      let b = now p in
+      let below : b .failures < p .box .conversation .terms .limit =
+      omega (arith, lim, n .below) in
+      let passed : passedWith (p .account) (l .account) ≡ found b =
+      ap (passedWith (p .account)) (h .1 .1) ∙ ap found (n .same) in
+      let x = right-exchanged p t i password name l (h .0) (f .0) b (rightful-now p) below
+      (h .1 .0) passed in
       let answered = right-answered (a .expired) (exchange stepOn ourWriter p
-      (right password name) l) (p .box .conversation) a (x .draws) in (
+      (right password name) l) (p .box .conversation) b (x .draws) in
+      let o = exchange stepOn ourWriter p (right password name) l .outcome in
+      let stored = ap (λ (q : Passed). storedAfter (p .account) q o) (h .1 .1)
+      ∙ stored-handed (p .account) o (withFailures 0 a)
+      (x .handed ∙ right-handed (a .expired) (p .box .conversation) b) in (
         (
           subst (λ (n : ℕ). Answered stepOn ourWriter a n (right password name)
               (exchange stepOn ourWriter p (right password name) l)) (i .id) answered,
           try-written p t i password name l (h .0) (f .0),
         ),
         x .judges,
-        ready-next a due p _ l _ x t (
-          right-fit (a .expired) (p .box .conversation) a a due (f .1),
-          right-in-step
-              (p .box .conversation) (p .peer .turn) i (a .expired) a,
-        ),
+        ready-next a limit due p _ l _ x t (
+          right-fit (a .expired) (p .box .conversation) b a due (f .1),
+          right-in-step (p .box .conversation) (p .peer .turn) i (a .expired) b,
+          ap (λ (t : Terms). t .limit) (right-terms (a .expired) (p .box .conversation) b) ∙ lim,
+        )
+        (fit-cleared a limit due (p .account) (storedAfter (p .account) (l .account) o) n stored),
       )
-  law due p (ours (passwordChange old new filler) l) ((f, i), t) h =
-      let kept : Rightful (p .box .conversation .kept) = subst Rightful (sym (f .1)) g in
-      let hash : ntHashOf old ≡ p .box .conversation .kept .nt .octets = h .1
-      ∙ sym (ap (λ (b : Account). b .nt .octets) (f .1)) in
-      let x = change-exchanged p t i old new filler l (h .0) (f .0) (kept .nt) hash in
-      let updated = ap (λ (o : Outcome). o .answer .updated)
-      (change-outcome p t i old new filler l (h .0) (f .0) (kept .nt) hash) in
-      let n = changed-rightful (p .box .conversation .kept) (ntHashOf new) kept in (
+  law due p (ours (passwordChange old new filler) l) ((f, i, lim), t, n) h =
+      let there = kept-there p (f .1) in
+      let hash = kept-hash p (f .1) old (h .1) in
+      let x = change-exchanged p t i old new filler l (h .0) (f .0) there hash in
+      let kept : Rightful (p .box .conversation .kept) = subst Rightful (sym (f .1))
+      (record { nt = g .nt; enabled = g .enabled; hours = g .hours; dialin = g .dialin }) in
+      let changes = changed-rightful (p .box .conversation .kept) (ntHashOf new) kept in (
         (
           (
             subst (λ (n : ℕ). DrawsSuccess (exchange stepOn ourWriter p
                 (passwordChange old new filler) l) n) (i .id) (x .draws),
-            ap (λ (b : Lookup). b .found) updated,
-            subst (λ (b : Lookup). LetsIn stepOn ourWriter (b .account) new) (sym updated)
-                (lets-in (changed (p .box .conversation .kept) (ntHashOf new)) new (n .0) (n .1)
-                (sym (n .2))),
+            ap (λ (b : Lookup). b .found) (x .handed),
+            subst (λ (b : Lookup). LetsIn stepOn ourWriter (b .account) new) (sym (x .handed))
+                (lets-in (changed (p .box .conversation .kept) (ntHashOf new)) new (changes .0)
+                (changes .1) refl (sym (changes .2))),
           ),
           change-is-written p t i old new filler l (h .0) (f .0),
         ),
         x .judges,
-        ready-next a due p _ l _ x t (f .2, ended-in-step (p .box .conversation) (p .peer .turn) i),
+        ready-next a limit due p _ l _ x t (
+          f .2,
+          ended-in-step (p .box .conversation) (p .peer .turn) i,
+          lim,
+        )
+        (fit-changed a limit due (p .box .conversation .retries) blankAccount _ (f .2)),
       )
 
   -- the record that the change hands out
   pub change-updated : (due : List PacketKind) (p : SeriesState) (old new filler : List ℕ)
       (l : ExchangeInput)
-      → Ready a (PasswordChange ∷ due) p
+      → Ready a limit (PasswordChange ∷ due) p
       → Allowed stepOn ourWriter a p (ours (passwordChange old new filler) l)
       → exchange stepOn ourWriter p (passwordChange old new filler) l .outcome .answer .updated
       ≡ found (changed a (ntHashOf new))
-  change-updated due p old new filler l ((f, i), t) h =
-      let kept : Rightful (p .box .conversation .kept) = subst Rightful (sym (f .1)) g in
-      let hash : ntHashOf old ≡ p .box .conversation .kept .nt .octets = h .1
-      ∙ sym (ap (λ (b : Account). b .nt .octets) (f .1)) in
-      ap (λ (o : Outcome). o .answer .updated)
-      (change-outcome p t i old new filler l (h .0) (f .0) (kept .nt) hash)
+  change-updated due p old new filler l ((f, i, lim), t, n) h =
+      change-exchanged p t i old new filler l (h .0) (f .0) (kept-there p (f .1))
+      (kept-hash p (f .1) old (h .1)) .handed
       ∙ ap (λ (b : Account). found (changed b (ntHashOf new))) (f .1)
 
   invariant : Invariant (next stepOn ourWriter) packetKinds (judgedAt stepOn ourWriter)
       (Allowed stepOn ourWriter a) (Claimed stepOn ourWriter a)
-  invariant = record { Ready = Ready a; law = law }
+  invariant = record { Ready = Ready a limit; law = law }
+
+-- a series begins ready
+pub ready-first : (o : Opening) → opened o .refusal ≡ 0 → length (o .challenge) ≡ 8 → (k : ℕ)
+    (behind : List ℕ) (ms : List Step) (a : Account)
+    → k ≤ retriesOf (o .retries) → a .failures + k < o .limit
+    → collect packetKinds ms ≡ plan k (a .expired)
+    → Ready a (o .limit) (collect packetKinds ms) (start o behind a)
+ready-first o ok eight k behind ms a few below due =
+    let first = opened-first o ok in
+    let fit = subst (FitIn a (plan k (a .expired))) (sym first)
+    (fit-plan k a (retriesOf (o .retries)) blankAccount few) in
+    subst (λ (ks : List PacketKind). Ready a (o .limit) ks (start o behind a)) (sym due) (
+      (fit, opened-in-step o ok eight behind a, ap (λ (c : Conversation). c .terms .limit) first),
+      opened-faithful o ok,
+      fit-first a (o .limit) k below,
+    )
 
 -- ---- the whole
 
@@ -351,12 +477,9 @@ pub demand3 : Demand3 ourBox ourWriter
 unfolding invariant
 demand3 o ok eight = (
   (λ behind. challenge-read o ok eight behind),
-  (λ a k behind ms g few due h.
-      let fit = subst (FitIn a (plan k (a .expired))) (sym (opened-first o ok))
-      (fit-plan k a (retriesOf (o .retries)) blankAccount few) in
-      let ready = subst (λ (ks : List PacketKind). Ready a ks (start o behind)) (sym due)
-      ((fit, opened-in-step o ok eight behind), opened-faithful o ok) in
-      let all = whole (invariant a g) (start o behind) ms ready h in
+  (λ a k behind ms g few below due h.
+      let all = whole (invariant a g (o .limit)) (start o behind a) ms
+      (ready-first o ok eight k behind ms a few below due) h in
       (all .0, all .1 ∙ ap length due ∙ count k (a .expired), all .2 .0 .0)),
   (λ ss.
       let first = unanswered (opened o .conversation) in

@@ -12,7 +12,7 @@ use Rattle.authenticator.specs.Conversation.{answerWith, withLast}
 use Rattle.authenticator.specs.Judge.{reasonOf}
 use Rattle.authenticator.specs.Encode.{replyPacket}
 use Rattle.authenticator.specs.Step.{Outcome, isRepeated, judgedAs}
-use Rattle.authenticator.specs.Steps.{stepOn, replyOf, drewReply, isRepeatAt, nextAfter, judged}
+use Rattle.authenticator.specs.Steps.{StepInput, stepOn, replyOf, drewReply, isRepeatAt, nextAfter, judged}
 use Rattle.authenticator.specs.declared.Conversation.{Conversation}
 use Rattle.authenticator.specs.declared.Judgement.{Judgement}
 use Rattle.authenticator.proofs.Replies.{readingFor, read-reply}
@@ -34,9 +34,10 @@ pub record Exchanged (p : SeriesState) (w : Wrote) (l : ExchangeInput)
     (d : Judgement) : Type 0 where
   pub draws : Draws (carried stepOn p w l) (replyPacket (p .box .conversation .id) (d .reply))
       (readingFor (d .reply))
-  pub judges : judged stepOn (p .box) (reaching w l) ≡ 1
-  -- where box and peer stand then
-  pub conversation : nextAfter stepOn (p .box .conversation) (reaching w l)
+  pub judges : judged stepOn (p .box) (reaching (p .account) w l) ≡ 1
+  -- where box and peer stand then, and the record that is handed out
+  pub handed : carried stepOn p w l .outcome .answer .updated ≡ d .updated
+  pub conversation : nextAfter stepOn (p .box .conversation) (reaching (p .account) w l)
       ≡ withLast (answerWith (p .box .conversation) (d .reply)) (d .next)
   pub turn : afterReply (carried stepOn p w l .peer) (carried stepOn p w l .reply) .turn
       ≡ nextTurn (sentBy (p .peer .turn)) (readingFor (d .reply))
@@ -45,11 +46,14 @@ module _ (p : SeriesState) (w : Wrote) (l : ExchangeInput) (d : Judgement) (kept
     (same-id : p .box .conversation .id ≡ p .peer .turn .id)
     (zero : w .answer .refusal ≡ 0) (room : longestReply ≤ length (l .buffer))
     (small : reasonOf (d .reply) < 1000)
-    (took : stepOn (p .box .conversation) (reaching w l)
+    (took : stepOn (p .box .conversation) (reaching (p .account) w l)
     ≡ judgedAs (p .box .conversation) d (l .buffer))
   where
     abbrev c : Conversation
     c = p .box .conversation
+
+    abbrev s : StepInput
+    s = reaching (p .account) w l
 
     heard : readReply (p .peer .turn .id) (replyPacket (c .id) (d .reply) ++ l .replyPadding)
         ≡ readingFor (d .reply)
@@ -61,28 +65,29 @@ module _ (p : SeriesState) (w : Wrote) (l : ExchangeInput) (d : Judgement) (kept
     sent-same : afterWriting (p .peer) (w .answer) ≡ sentBy (p .peer .turn)
     sent-same = rw zero
 
-    reply-same : replyOf (stepOn c (reaching w l)) ≡ replyPacket (c .id) (d .reply)
+    reply-same : replyOf (stepOn c s) ≡ replyPacket (c .id) (d .reply)
     reply-same = ap replyOf took ∙ reply-of c d (l .buffer) room
 
     read-same : peerReads (afterWriting (p .peer) (w .answer))
-        (replyOf (stepOn c (reaching w l)) ++ l .replyPadding) ≡ readingFor (d .reply)
+        (replyOf (stepOn c s) ++ l .replyPadding) ≡ readingFor (d .reply)
     read-same = ap₂ (λ (q : Peer) (r : List ℕ). peerReads q (r ++ l .replyPadding)) sent-same
         reply-same ∙ heard
 
     -- a reply is drawn, and it is no repeat
-    no-repeat : isRepeatAt (p .box) (reaching w l) ≡ false
+    no-repeat : isRepeatAt (p .box) s ≡ false
     no-repeat =
-        sym (step-claim (p .box) (reaching w l) kept .saysRepeated)
+        sym (step-claim (p .box) s kept .saysRepeated)
         ∙ ap (λ (o : Outcome). isRepeated (o .answer .kind)) took
 
-    drawn : drewReply (stepOn c (reaching w l)) (l .buffer) ≡ true
-    drawn = ap (λ (o : Outcome). drewReply o (l .buffer)) took ∙ drew-judged c (reaching w l) d
+    drawn : drewReply (stepOn c s) (l .buffer) ≡ true
+    drawn = ap (λ (o : Outcome). drewReply o (l .buffer)) took ∙ drew-judged c s d
 
     pub exchanged : Exchanged p w l d
     exchanged =
         record {
           draws = (reply-same, read-same);
           judges = ap₂ (λ (t u : Bool). cond {A = ℕ} (t && not u) 1 0) drawn no-repeat;
+          handed = ap (λ (o : Outcome). o .answer .updated) took;
           conversation = ap (λ (o : Outcome). o .answer .next) took;
           turn = ap₂ (λ (q : Peer) (r : Reading). nextTurn q r) sent-same read-same;
         }

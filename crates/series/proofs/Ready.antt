@@ -1,21 +1,25 @@
 -- A place that is ready for the packets that are due: box and peer agree on identifier and
--- challenge, and the conversation's phase, retries and kept record are fit for those packets. It is
--- so after an opening, and after each packet that draws what it should.
+-- challenge, the conversation's phase, retries and kept record are fit for those packets, and so is
+-- the record last handed out. It is so after an opening, and after each packet that draws what it
+-- should.
 -- Assumes nothing.
 use mathlib.Core.Bool.{Bool, true, false, cond}
 use mathlib.Core.List.{List, [], _∷_}
-use mathlib.Core.Path.{_≡_, refl, sym, ap, _∙_}
-use Prim.Native.Nat.{ℕ, zero, suc, _-_, _≤_, _<_}
+use mathlib.Core.Path.{_≡_, refl, sym, ap, _∙_, subst}
+use Prim.Native.Nat.{ℕ, zero, suc, _+_, _-_, _≤_, _<_}
 use native.Mathlib.Omega.{arith}
 use lib.ListN.{length}
 use Rattle.message.specs.Message.{calledFor, succeeded}
 use Rattle.challenges.specs.Challenges.{nextId, incremented}
 use Rattle.packets.specs.declared.ChallengeFields.{ChallengeFields}
-use Rattle.accounts.specs.Account.{blankAccount}
+use Rattle.accounts.specs.Account.{blankAccount, withFailures}
 use Rattle.authenticator.specs.Conversation.{ended, retried, awaitingChange}
 use Rattle.authenticator.specs.Opening.{Opening, opened}
 use Rattle.authenticator.specs.declared.Judgement.{Judgement}
 use Rattle.accounts.specs.declared.Account.{Account}
+use Rattle.accounts.specs.declared.Lookup.{Lookup}
+use Rattle.verify.specs.Lockout.{oneMore}
+use Rattle.verify.proofs.Counting.{at-most-one-more}
 use Rattle.authenticator.specs.Judge.{reasonOf}
 use Rattle.authenticator.proofs.Judged.{tryAgain, expiredFor, accepted}
 use Rattle.authenticator.proofs.Replies.{readingFor}
@@ -32,16 +36,20 @@ use Rattle.series.proofs.Exchanged.{sentBy}
 
 -- ---- the conversation is fit for the packets that are due
 
+-- the record that is kept is the one that was handed out: it counts no failures
+abbrev pub keptFor : Account → Account
+keptFor a = cond (a .expired) (withFailures 0 a) blankAccount
+
 abbrev pub Fit : Account → List PacketKind → Phase → ℕ → Account → Type 0
 Fit a [] ph r kept = ph ≡ Ended
 Fit a (Invalid ∷ ks) ph r kept = (ph ≡ Response) × (0 < r) × Fit a ks ph (r - 1) kept
-Fit a (Right ∷ ks) ph r kept = (ph ≡ Response) × Fit a ks (cond (a .expired) Change Ended) r (cond (a .expired) a blankAccount)
-Fit a (PasswordChange ∷ ks) ph r kept = (ph ≡ Change) × (kept ≡ a) × Fit a ks Ended r blankAccount
+Fit a (Right ∷ ks) ph r kept = (ph ≡ Response) × Fit a ks (cond (a .expired) Change Ended) r (keptFor a)
+Fit a (PasswordChange ∷ ks) ph r kept = (ph ≡ Change) × (kept ≡ withFailures 0 a) × Fit a ks Ended r blankAccount
 
 abbrev pub FitIn : Account → List PacketKind → Conversation → Type 0
 FitIn a due c = Fit a due (c .phase) (c .retries) (c .kept)
 
-fit-last : (x : Bool) (a : Account) (r : ℕ) → Fit a (cond x (PasswordChange ∷ []) []) (cond x Change Ended) r (cond x a blankAccount)
+fit-last : (x : Bool) (a : Account) (r : ℕ) → Fit a (cond x (PasswordChange ∷ []) []) (cond x Change Ended) r (cond x (withFailures 0 a) blankAccount)
 fit-last true a r = (refl, refl, refl)
 fit-last false a r = refl
 
@@ -49,11 +57,79 @@ pub fit-plan : (k : ℕ) (a : Account) (r : ℕ) (kept : Account) → k ≤ r �
 fit-plan zero a r kept h = (refl, fit-last (a .expired) a r)
 fit-plan (suc k) a r kept h = (refl, omega arith, fit-plan k a (r - 1) kept (omega arith))
 
+-- an ended conversation is fit for no packet
+none-due : (a : Account) (ks : List PacketKind) (r : ℕ) (kept : Account) → Fit a ks Ended r kept → ks ≡ []
+none-due a [] r kept f = refl
+none-due a (Invalid ∷ ks) r kept f = absurd (let e = f .0 in let z : _≡_ {A = ℕ} 0 1 = cc in omega arith)
+none-due a (Right ∷ ks) r kept f = absurd (let e = f .0 in let z : _≡_ {A = ℕ} 0 1 = cc in omega arith)
+none-due a (PasswordChange ∷ ks) r kept f = absurd (let e = f .0 in let z : _≡_ {A = ℕ} 0 1 = cc in omega arith)
+
+-- ---- the record is fit for them: the first one but for its count, which is below the limit even
+-- after the invalid tries that are due
+
+abbrev invalids : List PacketKind → ℕ
+invalids [] = 0
+invalids (Invalid ∷ ks) = suc (invalids ks)
+invalids (Right ∷ ks) = invalids ks
+invalids (PasswordChange ∷ ks) = invalids ks
+
+pub record Counts (a : Account) (limit : ℕ) (due : List PacketKind) (b : Account) : Type 0 where
+  pub same : b ≡ withFailures (b .failures) a
+  pub below : b .failures + invalids due < limit
+
+-- where nothing is due, any record will do
+abbrev pub FitRecord : Account → ℕ → List PacketKind → Account → Type 0
+FitRecord a limit [] b = Unit {0}
+FitRecord a limit (k ∷ ks) b = Counts a limit (k ∷ ks) b
+
+fit-counts : (a : Account) (limit : ℕ) (due : List PacketKind) (b : Account) → Counts a limit due b → FitRecord a limit due b
+fit-counts a limit [] b h = tt
+fit-counts a limit (k ∷ ks) b h = h
+
+pub fit-first : (a : Account) (limit k : ℕ) → a .failures + k < limit → FitRecord a limit (plan k (a .expired)) a
+fit-first a limit k h =
+    fit-counts a limit (plan k (a .expired)) a (record { same = refl; below = omega (arith, h, many k (a .expired)) })
+  where
+    last : (x : Bool) → invalids (cond x (PasswordChange ∷ []) []) ≡ 0
+    last true = refl
+    last false = refl
+
+    many : (k : ℕ) (x : Bool) → invalids (plan k x) ≡ k
+    many zero x = last x
+    many (suc k) x = ap suc (many k x)
+
+-- after an invalid try that was passed another record or none, or this one
+pub fit-another : (a : Account) (limit : ℕ) (due : List PacketKind) (b : Account) → Counts a limit (Invalid ∷ due) b → FitRecord a limit due b
+fit-another a limit due b h = fit-counts a limit due b (record { same = h .same; below = omega (arith, h .below) })
+
+pub fit-counted : (a : Account) (limit : ℕ) (due : List PacketKind) (b d : Account) → Counts a limit (Invalid ∷ due) b
+    → d ≡ withFailures (oneMore (b .failures)) b → FitRecord a limit due d
+fit-counted a limit due b d h e =
+    let n = ap (λ (x : Account). x .failures) e in
+    fit-counts a limit due d (record {
+      same = e ∙ ap (withFailures (oneMore (b .failures))) (h .same) ∙ ap (λ (k : ℕ). withFailures k a) (sym n);
+      below = omega (arith, n, h .below, at-most-one-more (b .failures));
+    })
+
+-- after the right password
+pub fit-cleared : (a : Account) (limit : ℕ) (due : List PacketKind) (b d : Account) → Counts a limit (Right ∷ due) b
+    → d ≡ withFailures 0 a → FitRecord a limit due d
+fit-cleared a limit due b d h e =
+    let n = ap (λ (x : Account). x .failures) e in
+    fit-counts a limit due d (record {
+      same = e ∙ ap (λ (k : ℕ). withFailures k a) (sym n);
+      below = omega (arith, n, h .below);
+    })
+
+-- after the change
+pub fit-changed : (a : Account) (limit : ℕ) (due : List PacketKind) (r : ℕ) (kept d : Account) → Fit a due Ended r kept → FitRecord a limit due d
+fit-changed a limit due r kept d f = subst (λ (ks : List PacketKind). FitRecord a limit ks d) (sym (none-due a due r kept f)) tt
+
 -- ---- box and peer are in step
 
 module _ (o : Opening) (ok : opened o .refusal ≡ 0) (eight : length (o .challenge) ≡ 8) (behind : List ℕ) where
-  pub opened-in-step : InStep (opened o .conversation) (start o behind .peer .turn)
-  opened-in-step =
+  pub opened-in-step : (a : Account) → InStep (opened o .conversation) (start o behind a .peer .turn)
+  opened-in-step a =
       let c = opened-first o ok in
       let q = challenge-read o ok eight behind in
       record {
@@ -63,7 +139,7 @@ module _ (o : Opening) (ok : opened o .refusal ≡ 0) (eight : length (o .challe
 
 -- the right password, by whether the record is expired: what it draws
 abbrev pub drawnRight : Bool → Conversation → Account → Judgement
-drawnRight x c a = cond x (expiredFor c a) (accepted c)
+drawnRight x c a = cond x (expiredFor c (withFailures 0 a)) (accepted c (withFailures 0 a))
 
 pub right-small : (x : Bool) (c : Conversation) (a : Account)
     → reasonOf (drawnRight x c a .reply) < 1000
@@ -72,9 +148,9 @@ right-small false c a = omega arith
 
 module _ (c : Conversation) (t : Turn) (h : InStep c t) where
   -- after 691, R=1
-  pub retried-in-step : InStep (retried c) (nextTurn (sentBy t) (readingFor (tryAgain c .reply)))
+  pub retried-in-step : (u : Lookup) → InStep (retried c) (nextTurn (sentBy t) (readingFor (tryAgain c u .reply)))
   unfolding nextTurn calledFor
-  retried-in-step = record { id = ap nextId (h .id); challenge = ap incremented (h .challenge) }
+  retried-in-step u = record { id = ap nextId (h .id); challenge = ap incremented (h .challenge) }
 
   -- after 648
   kept-in-step : (a : Account) → InStep (awaitingChange c a) (nextTurn (sentBy t) (readingFor (expiredFor c a .reply)))
@@ -86,10 +162,10 @@ module _ (c : Conversation) (t : Turn) (h : InStep c t) where
   ended-in-step = record { id = h .id; challenge = h .challenge }
 
   pub right-in-step : (x : Bool) (a : Account) → InStep (drawnRight x c a .next) (nextTurn (sentBy t) (readingFor (drawnRight x c a .reply)))
-  right-in-step true a = kept-in-step a
+  right-in-step true a = kept-in-step (withFailures 0 a)
   right-in-step false a = ended-in-step
 
-pub right-fit : (x : Bool) (c : Conversation) (a b : Account) (due : List PacketKind) → Fit b due (cond x Change Ended) (c .retries) (cond x a blankAccount)
+pub right-fit : (x : Bool) (c : Conversation) (a b : Account) (due : List PacketKind) → Fit b due (cond x Change Ended) (c .retries) (cond x (withFailures 0 a) blankAccount)
     → FitIn b due (drawnRight x c a .next)
 right-fit true c a b due f = f
 right-fit false c a b due f = f

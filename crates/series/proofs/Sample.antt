@@ -26,7 +26,6 @@ use Rattle.authenticator.specs.Judge.{validIn}
 use Rattle.authenticator.specs.Opening.{Opening, opened}
 use Rattle.authenticator.specs.Steps.{Box}
 use Rattle.accounts.specs.declared.Account.{Account}
-use Rattle.accounts.specs.declared.Lookup.{Lookup}
 use Rattle.authenticator.specs.declared.Conversation.{Conversation}
 use Rattle.authenticator.specs.declared.Retries.{Retries}
 use Rattle.authenticator.specs.declared.Retries.the-variants.{Default, Count}
@@ -37,6 +36,9 @@ use Rattle.series.specs.Series.{
   invalid,
   right,
   passwordChange,
+  Passed,
+  own,
+  another,
   ExchangeInput,
   Step,
   ours,
@@ -59,6 +61,7 @@ opening r =
       challenge = 0xE9 ∷ 2 ∷ 3 ∷ 4 ∷ 5 ∷ 6 ∷ 7 ∷ 8 ∷ [];
       retries = r;
       lm = Disallowed;
+      limit = 5;
       issued = emptyList 8 3;
       buffer = replicate 17 0;
     }
@@ -69,11 +72,11 @@ unfolding badBuffer
 three-places = refl
 
 pub opens-default : opened (opening Default) .refusal ≡ 0
-opens-default = may-open-empty (opening Default) (omega arith) (omega arith) three-places refl refl
+opens-default = may-open-empty (opening Default) (omega arith) (omega arith) (omega arith) three-places refl refl
     (omega arith)
 
 pub opens-once : opened (opening (Count 1)) .refusal ≡ 0
-opens-once = may-open-empty (opening (Count 1)) (omega arith) (omega arith) three-places refl refl
+opens-once = may-open-empty (opening (Count 1)) (omega arith) (omega arith) (omega arith) three-places refl refl
     (omega arith)
 
 -- "MyPw", "bad" and "MyNewPw"
@@ -99,7 +102,7 @@ rightful expired = record { nt = refl; enabled = refl; hours = refl; dialin = re
 -- ---- our peer's packets
 
 -- an output buffer of n octets, and padding behind the packet and behind the reply
-abbrev pub line : ℕ → Lookup → ExchangeInput
+abbrev pub line : ℕ → Passed → ExchangeInput
 line n l = record {
   out = replicate n 0;
   packetPadding = 9 ∷ [];
@@ -109,16 +112,16 @@ line n l = record {
   replyPadding = 9 ∷ 9 ∷ [];
 }
 
-abbrev pub badTry : Lookup → Step
+abbrev pub badTry : Passed → Step
 badTry l = ours (invalid bad user) (line 60 l)
 
-abbrev pub rightTry : Bool → Step
-rightTry expired = ours (right old user) (line 55 (found (account expired)))
+abbrev pub rightTry : Step
+rightTry = ours (right old user) (line 55 own)
 
 abbrev pub newPassword : Packet
 newPassword = passwordChange old new (replicate 512 7)
 
-abbrev pub change : Lookup → Step
+abbrev pub change : Passed → Step
 change l = ours newPassword (line 1118 l)
 
 -- ---- the premises
@@ -151,33 +154,33 @@ change-within l out room = record {
       room;
 }
 
-pub new-within : (l : Lookup) → TryWithin new user (line 55 l)
+pub new-within : (l : Passed) → TryWithin new user (line 55 l)
 new-within l = try-within new (line 55 l) refl (omega arith) (omega arith)
 
 -- at any place, with any box and writer
 module _ (box : Box) (writer : Writer) (p : SeriesState) where
   -- passed no record, or one with no hash
-  pub bad-allowed : (a : Account) → Allowed box writer a p (badTry notFound)
+  pub bad-allowed : (a : Account) → Allowed box writer a p (badTry (another notFound))
   bad-allowed a = (
-    try-within bad (line 60 notFound) refl (omega arith) (omega arith),
+    try-within bad (line 60 (another notFound)) refl (omega arith) (omega arith),
     λ e. absurd
         (false≢true e),
   )
 
-  pub blank-allowed : (a : Account) → Allowed box writer a p (badTry (found blankAccount))
+  pub blank-allowed : (a : Account) → Allowed box writer a p (badTry (another (found blankAccount)))
   blank-allowed a = (
-    try-within bad (line 60 (found blankAccount)) refl (omega arith) (omega arith),
+    try-within bad (line 60 (another (found blankAccount))) refl (omega arith) (omega arith),
     λ e. no-hash (p .box .conversation) (readResponse
-        (exchange box writer p (invalid bad user) (line 60 (found blankAccount)) .input .packet)),
+        (exchange box writer p (invalid bad user) (line 60 (another (found blankAccount)))
+        .input .packet)),
   )
 
-  pub right-allowed : (expired : Bool) → Allowed box writer (account expired) p (rightTry expired)
+  pub right-allowed : (expired : Bool) → Allowed box writer (account expired) p rightTry
   right-allowed expired = (
-    try-within old (line 55 (found (account expired))) refl (omega arith)
-        (omega arith),
+    try-within old (line 55 own) refl (omega arith) (omega arith),
     (refl, refl),
   )
 
-  pub change-allowed : (expired : Bool) (l : Lookup)
+  pub change-allowed : (expired : Bool) (l : Passed)
       → Allowed box writer (account expired) p (change l)
   change-allowed expired l = (change-within (line 1118 l) (omega arith) (omega arith), refl)

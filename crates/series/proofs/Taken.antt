@@ -1,6 +1,6 @@
 -- The steps that take our peer's packets, each as the outcome that it is equal to.
 -- Assumes nothing.
-use mathlib.Core.Bool.{Bool, true, false, cond, _&&_}
+use mathlib.Core.Bool.{Bool, true, false, cond, not, _&&_}
 use mathlib.Core.List.{List, _++_}
 use mathlib.Core.Option.{some}
 use mathlib.Core.Path.{_≡_, refl, sym, ap, ap₂, _∙_}
@@ -12,8 +12,9 @@ use lib.ListN.{length}
 use Rattle.credentials.specs.Credentials.{ntHashOf, responseOf, oldUnderNew}
 use Rattle.packets.specs.Response.{readResponse}
 use Rattle.packets.specs.Change.{readChange}
-use Rattle.accounts.specs.Account.{found, Rightful}
-use Rattle.verify.specs.Response.{answers, valid}
+use Rattle.accounts.specs.Account.{found, withFailures, Rightful}
+use Rattle.verify.specs.Lockout.{isLocked}
+use Rattle.verify.specs.Response.{answers, valid, countedLookup}
 use Rattle.authenticator.specs.Judge.{validIn, newHashIn}
 use Rattle.authenticator.specs.Conversation.{awaitedCode, isEnded}
 use Rattle.authenticator.specs.Admit.{bodyRefusal}
@@ -35,6 +36,7 @@ use Rattle.authenticator.proofs.Judged.{
   change-law,
 }
 use Rattle.verify.proofs.Accepted.{length-inside, hash-inside, accepted-if}
+use Rattle.verify.proofs.Counting.{judged-below}
 use Rattle.verify.proofs.Reasons.{answers-right}
 use Rattle.authenticator.specs.declared.Conversation.{Conversation}
 use Rattle.authenticator.specs.declared.Phase.{Phase}
@@ -48,6 +50,12 @@ use Rattle.peer.proofs.Found.{response-flag, change-flags, response-found, chan
 pub record InStep (c : Conversation) (t : Turn) : Type 0 where
   pub id : c .id ≡ t .id
   pub challenge : c .challenge ≡ t .challenge
+
+-- what is invalid is judged invalid, locked or not
+not-judged-valid : (f l v : Bool) → (f && v) ≡ false → (f && (not l && v)) ≡ false
+not-judged-valid true true v e = refl
+not-judged-valid true false v e = e
+not-judged-valid false l v e = refl
 
 valid-nt : (s t u v : Bool) → s ≡ true → t ≡ true → u ≡ true → cond (s && t) u v ≡ true
 valid-nt s t u v p q r = rw (p, q, r)
@@ -97,18 +105,25 @@ module _ (c : Conversation) (t : Turn) (h : InStep c t) (fresh : Fresh c) (ph : 
   try-passes : Passes c try b
   try-passes = response-passes c fresh ph room try-found (h .id) (omega arith)
 
+  -- the record is handed out as it is counted
   pub invalid-taken : (l : Lookup) → (l .found && validIn c (l .account) (readResponse try)) ≡ false
       → 0 < c .retries
-      → step c try l b ≡ judgedAs c (tryAgain c) b
-  invalid-taken l v pos = invalid-law c try b try-passes l ph v pos
+      → step c try l b
+      ≡ judgedAs c (tryAgain c (countedLookup (c .terms) (c .challenge) l (readResponse try))) b
+  invalid-taken l v pos =
+      invalid-law c try b try-passes l ph
+      (not-judged-valid (l .found) (isLocked (c .terms) (l .account)) _ v) pos
 
-  module _ (a : Account) (g : Rightful a) (right : ntHashOf password ≡ a .nt .octets) where
+  -- below the limit
+  module _ (a : Account) (g : Rightful a) (below : a .failures < c .terms .limit)
+      (right : ntHashOf password ≡ a .nt .octets) where
     pub right-taken : step c try (found a) b ≡ judgedAs c
-        (cond (a .expired) (expiredFor c a) (accepted c)) b
+        (cond (a .expired) (expiredFor c (withFailures 0 a)) (accepted c (withFailures 0 a))) b
     right-taken =
         valid-law c try b try-passes a ph
         (record { enabled = g .enabled; hours = g .hours; dialin = g .dialin })
-        (right-valid c t (h .challenge) password name after named a (g .nt) right)
+        (judged-below (c .terms) (c .challenge) a (readResponse try) below
+        ∙ right-valid c t (h .challenge) password name after named a (g .nt) right)
 
 -- ---- the change
 

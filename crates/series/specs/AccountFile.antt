@@ -6,7 +6,7 @@
 use mathlib.Core.Bool.{Bool, false}
 use mathlib.Core.List.{List, _∷_, _++_}
 use mathlib.Core.Path.{_≡_}
-use Prim.Native.Nat.{ℕ, _≤_, _<_, _^_}
+use Prim.Native.Nat.{ℕ, _+_, _≤_, _<_, _^_}
 use lib.ListN.{length}
 use Rattle.octets.specs.Parts.{agrees}
 use Rattle.accounts.specs.Account.{accountWith, lookupOf, found, Rightful}
@@ -121,6 +121,7 @@ KeptInFile box writer write =
     → findIn now maxAge name file .lookup ≡ found a
     → (o : Opening) → opened o .refusal ≡ 0 → length (o .challenge) ≡ 8
     → (k : ℕ) (behind : List ℕ) (ms : List Step)
-    → Rightful a → k ≤ retriesOf (o .retries) → collect packetKinds ms ≡ plan k (a .expired)
-    → Along (next box writer) (Allowed box writer a) (start o behind) ms
-    → Along (next box writer) (KeptAt box writer write name file) (start o behind) ms
+    → Rightful a → k ≤ retriesOf (o .retries) → a .failures + k < o .limit
+    → collect packetKinds ms ≡ plan k (a .expired)
+    → Along (next box writer) (Allowed box writer a) (start o behind a) ms
+    → Along (next box writer) (KeptAt box writer write name file) (start o behind a) ms

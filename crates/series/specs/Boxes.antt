@@ -1,24 +1,25 @@
 -- Our box, and wrong ones: one that refuses everything, and boxes that are ours but for one slip
 -- each. Demand 3 holds of ours (proofs/Demand3) and of none of the others (proofs/Wrong,
--- WrongRefusals, WrongRepeats).
+-- WrongRefusals, WrongRepeats, WrongCounts).
 -- Assumes nothing: these are definitions.
 use mathlib.Core.Bool.{Bool, true, cond, not, _&&_}
 use mathlib.Core.List.{List}
-use Prim.Native.Nat.{ℕ}
+use Prim.Native.Nat.{ℕ, suc, _%_}
 use lib.Dec.{eqb, ltb}
 use Rattle.message.specs.Reasons.{noReason}
-use Rattle.packets.specs.Codes.{changeCode}
+use Rattle.packets.specs.Codes.{responseCode, changeCode}
 use Rattle.packets.specs.Frame.{octet, writtenOver}
 use Rattle.packets.specs.Response.{readResponse}
 use Rattle.authenticator.specs.Admit.{refusalFor}
 use Rattle.authenticator.specs.Encode.{replyPacket}
-use Rattle.accounts.specs.Account.{notFound, found}
+use Rattle.accounts.specs.Account.{notFound, found, lookupOf, withFailures}
 use Rattle.accounts.specs.declared.Lookup.{Lookup}
+use Rattle.verify.specs.Lockout.{isLocked, oneMore}
 use Rattle.verify.specs.Response.{foundValid}
 use Rattle.verify.specs.declared.ChangeFault.the-variants.{NoFault}
 use Rattle.authenticator.specs.Conversation.{isEnded, ended}
 use Rattle.authenticator.specs.declared.Judgement.{Judgement}
-use Rattle.authenticator.specs.Judge.{judgementFor, judge}
+use Rattle.authenticator.specs.Judge.{validIn, judgementFor, judge}
 use Rattle.authenticator.specs.Step.{Outcome, isRepeated, judgedAs, repeatedAs, refusedAs}
 use Rattle.authenticator.specs.Steps.{StepInput, Box, stepOn, refusalAt}
 use Rattle.authenticator.specs.declared.Conversation.{Conversation}
@@ -50,7 +51,7 @@ findsNone c s = judge c (s .packet) notFound
 
 -- accepts always
 abbrev pub accepts : Judge
-accepts c s = judgementFor c (s .account .account) noReason
+accepts c s = judgementFor c (s .account) noReason
 
 -- the change does nothing to the record: the kept one is handed out
 abbrev pub leavesRecord : Judge
@@ -103,6 +104,46 @@ neverCounts c s =
       updated = d .updated;
     }
 
+-- ---- boxes that judge as ours does, and count otherwise
+
+-- the count after a judged Response, by whether the account was locked and the Response valid; ours
+-- is `failuresAfter`
+abbrev pub CountRule : Type 0
+CountRule = Bool → Bool → ℕ → ℕ
+
+abbrev pub countedBy : CountRule → Conversation → StepInput → Lookup
+countedBy rule c s =
+    let a = s .account .account in
+    lookupOf (s .account .found)
+    (withFailures
+    (rule (isLocked (c .terms) a) (validIn c a (readResponse (s .packet))) (a .failures)) a)
+
+abbrev pub countsBy : CountRule → Judge
+countsBy rule c s =
+    let d = judge c (s .packet) (s .account) in
+    record {
+      reply = d .reply;
+      fault = d .fault;
+      next = d .next;
+      updated = cond (eqb (octet 0 (s .packet)) responseCode) (countedBy rule c s) (d .updated);
+    }
+
+-- from the first record every time, whose count is given, whatever record was handed out since
+abbrev pub fromFirst : ℕ → CountRule
+fromFirst first locked v n = cond v (cond locked n 0) (suc first)
+
+-- wraps: 255 and one more is 0
+abbrev pub wrapping : CountRule
+wrapping locked v n = cond v (cond locked n 0) (suc n % 256)
+
+-- the right password clears the count at the limit too, so that the next guess shows that it was
+abbrev pub clearing : CountRule
+clearing locked v n = cond v 0 (oneMore n)
+
+-- never: the record is handed out as it was passed
+abbrev pub never : CountRule
+never locked v n = n
+
 -- ---- boxes that judge as ours does, and answer otherwise what ours refuses
 
 abbrev pub answeringRefused : Box → Box
@@ -136,7 +177,7 @@ handsOutRecord c s =
 abbrev pub withLm : Bool → Conversation → Conversation
 withLm allowed c =
     record {
-      terms = record { lm = allowed };
+      terms = record { lm = allowed; limit = c .terms .limit };
       id = c .id;
       challenge = c .challenge;
       retries = c .retries;
@@ -222,7 +263,7 @@ guessesRight past c s =
 
 abbrev pub acceptsGuess : Kind → Box
 acceptsGuess k c s = withKind k
-    (judgedAs (withId (octet 1 (s .packet)) c) (judgementFor c (s .account .account) noReason)
+    (judgedAs (withId (octet 1 (s .packet)) c) (judgementFor c (s .account) noReason)
     (s .buffer))
 
 abbrev pub judgesRepeats : (List ℕ → List ℕ) → Kind → Box

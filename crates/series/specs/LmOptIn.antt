@@ -6,7 +6,7 @@ use mathlib.Core.Bool.{Bool, true, false, cond, not, _&&_}
 use mathlib.Core.List.{List}
 use mathlib.Core.Logic.{_≢_, _⊎_}
 use mathlib.Core.Path.{_≡_}
-use Prim.Native.Nat.{ℕ}
+use Prim.Native.Nat.{ℕ, _<_}
 use lib.Dec.{eqb}
 use Rattle.credentials.specs.Credentials.{responseOf}
 use Rattle.message.specs.Reasons.{authenticationFailure, passwordExpired}
@@ -20,6 +20,7 @@ use Rattle.accounts.specs.declared.Account.{Account}
 use Rattle.authenticator.specs.Admit.{refusalFor}
 use Rattle.authenticator.specs.Encode.{version}
 use Rattle.authenticator.specs.Opening.{Opening, firstConversation}
+use Rattle.authenticator.specs.Step.{withoutRecord}
 use Rattle.authenticator.specs.Steps.{StepInput, replyOf, BoxState, unanswered}
 use Rattle.authenticator.specs.Steps.{isJudged, nextState}
 use Rattle.authenticator.specs.declared.LmChoice.the-variants.{Allowed}
@@ -44,12 +45,13 @@ IsAuthenticationFailure id reply =
     ⊎ (reply ≡ failurePacket id (textOf authenticationFailure 0 version))
 
 -- The first Response of a peer that knows its LM hash alone (an "old phone"): it is by LM, the
--- record has that hash and is permitted to log on, and the LM response is the hash's to the
--- challenge of the opening. What is passed meets none of 2 to 7.
+-- record has that hash, is permitted to log on and is not locked, and the LM response is the hash's
+-- to the challenge of the opening. What is passed meets none of 2 to 7.
 pub record LmPeer (o : Opening) (a : Account) (s : StepInput) : Type 0 where
   pub account : s .account ≡ found a
   pub hash : a .lm .present ≡ true
   pub permitted : LogonPermitted a
+  pub unlocked : a .failures < o .limit
   pub byLm : isByLm s ≡ true
   pub response : readResponse (s .packet) .lm ≡ responseOf (a .lm .octets) (o .challenge)
   pub admitted : refusalFor false (firstConversation o) (s .packet) (s .buffer) ≡ 0
@@ -61,7 +63,8 @@ module _ (opener : Opener) where
 
   -- Where the opening did not ask for LM, silent or not: at any place, a Response by LM that is
   -- judged, by what is seen, draws 691. Nor does it find out a flag of the record: all is as if
-  -- there were no record of the account, octet for octet, the next conversation too.
+  -- there were no record of the account, octet for octet, the next conversation too, but for the
+  -- record that is handed out with its count.
   abbrev pub OffByDefault : Type 0
   OffByDefault =
       (o : Opening) → o .lm ≢ Allowed → (ss : List StepInput) (s : StepInput)
@@ -69,8 +72,8 @@ module _ (opener : Opener) where
       → isJudged ourBox (placeAfter o ss) s ≡ true
       → IsAuthenticationFailure (octet 1 (s .packet))
       (replyOf (ourBox (placeAfter o ss .conversation) s))
-      × (ourBox (placeAfter o ss .conversation) s
-      ≡ ourBox (placeAfter o ss .conversation) (withNoRecord s))
+      × (withoutRecord (ourBox (placeAfter o ss .conversation) s)
+      ≡ withoutRecord (ourBox (placeAfter o ss .conversation) (withNoRecord s)))
 
   -- Where it did, such a peer gets in, or is asked for a new password. Without this an opener that
   -- never allows LM would meet the rest.

@@ -33,9 +33,10 @@ pub record PassedOn (i : Issued) (o : Opening) : Type 0 where
   pub eight : length (o .challenge) ≡ 8
   pub octets : (k : ℕ) → getD (o .challenge) k 0 < 256
 
--- what is passed to an opening meets none of 13, 2, 24, 16 and 17
+-- what is passed to an opening meets none of 18, 13, 2, 24, 16 and 17
 pub record Openable (o : Opening) : Type 0 where
   pub eight : length (o .challenge) ≡ 8
+  pub not18 : 0 < o .limit
   pub not13 : retriesOf (o .retries) ≤ 7
   pub not2 : longestReply ≤ length (o .buffer)
   pub buffer24 : badBuffer 8 (o .issued .buffer) (o .issued .used) ≡ false

@@ -1,10 +1,10 @@
--- Demand 3. Words in quotes are document 01's, "The series in demand 3", and document 02's, request
--- 2026-01.
+-- Demand 3. Words in quotes are document 01's, "The series in demand 3", and document 02's, requests
+-- 2026-01 and 2026-09.
 -- Assumes nothing: these are definitions.
 use mathlib.Core.Bool.{Bool, true, false, cond}
 use mathlib.Core.List.{List, [], _∷_, _++_}
 use mathlib.Core.Path.{_≡_}
-use Prim.Native.Nat.{ℕ, _+_, _≤_}
+use Prim.Native.Nat.{ℕ, _+_, _≤_, _<_}
 use lib.ListN.{length, take, replicate}
 use Rattle.credentials.specs.Credentials.{ntHashOf, badNtPassword, badFiller}
 use Rattle.message.specs.Reasons.{authenticationFailure, passwordExpired}
@@ -40,12 +40,18 @@ pub data Packet : Type 0 where
   right : (password name : List ℕ) → Packet
   passwordChange : (old new filler : List ℕ) → Packet
 
+-- The record that is passed with a packet: the rightful account's, which is "the record last handed
+-- out" for it, or another account's or none.
+pub data Passed : Type 0 where
+  own : Passed
+  another : Lookup → Passed
+
 -- What is passed with it: our peer's output buffer and padding behind the packet; the step's record
--- or none and its reply buffer; padding behind the reply.
+-- and its reply buffer; padding behind the reply.
 pub record ExchangeInput : Type 0 where
   pub out : List ℕ
   pub packetPadding : List ℕ
-  pub account : Lookup
+  pub account : Passed
   pub buffer : List ℕ
   pub replyPadding : List ℕ
 
@@ -73,19 +79,31 @@ plan k expired = replicate k Invalid ++ (Right ∷ cond expired (PasswordChange 
 
 -- ---- a packet on its way
 
--- the box, as it is seen from outside, and our peer
+-- the box, as it is seen from outside, our peer, and the rightful account's record: "the record last
+-- handed out", by a step that was passed it, and before that the first one
 pub record SeriesState : Type 0 where
   pub box : BoxState
   pub peer : Peer
+  pub account : Account
+
+abbrev pub passedWith : Account → Passed → Lookup
+passedWith a own = found a
+passedWith a (another l) = l
+
+-- the account's record afterwards, by what the box handed out
+abbrev pub storedAfter : Account → Passed → Outcome → Account
+storedAfter a own o = cond (o .answer .updated .found) (o .answer .updated .account) a
+storedAfter a (another l) o = a
 
 -- "Our peer reads the Challenge .. as the box wrote" it, with padding behind it
 abbrev pub challengeRead : Opening → List ℕ → ChallengeFields
 challengeRead o behind = readChallenge (take (opened o .written) (openedBuffer o) ++ behind)
 
-abbrev pub start : Opening → List ℕ → SeriesState
-start o behind = record {
+abbrev pub start : Opening → List ℕ → Account → SeriesState
+start o behind a = record {
   box = unanswered (opened o .conversation);
   peer = afterChallenge (challengeRead o behind);
+  account = a;
 }
 
 -- our peer "writes its next packet from" its turn
@@ -96,10 +114,10 @@ writes w t (passwordChange o n f) out = w .change t o n f out
 
 -- "it reaches the box as written": what the writer left in its output buffer, with padding behind
 -- it
-abbrev pub reaching : Wrote → ExchangeInput → StepInput
-reaching w l = record {
+abbrev pub reaching : Account → Wrote → ExchangeInput → StepInput
+reaching a w l = record {
   packet = take (w .answer .length) (w .out) ++ l .packetPadding;
-  account = l .account;
+  account = passedWith a (l .account);
   buffer = l .buffer;
 }
 
@@ -153,12 +171,13 @@ DrawsSuccess x id = Draws x (successPacket id) succeeded
 
 abbrev pub carried : Box → SeriesState → Wrote → ExchangeInput → Exchange
 carried box p w l =
+    let s = reaching (p .account) w l in
     record {
       wrote = w;
-      input = reaching w l;
-      outcome = box (p .box .conversation) (reaching w l);
+      input = s;
+      outcome = box (p .box .conversation) s;
       peer = afterWriting (p .peer) (w .answer);
-      reply = replyOf (box (p .box .conversation) (reaching w l)) ++ l .replyPadding;
+      reply = replyOf (box (p .box .conversation) s) ++ l .replyPadding;
     }
 
 module _ (box : Box) (writer : Writer) where
@@ -171,8 +190,10 @@ module _ (box : Box) (writer : Writer) where
       record {
         box = nextState box (p .box) (exchange p t l .input);
         peer = afterReply (exchange p t l .peer) (exchange p t l .reply);
+        account = storedAfter (p .account) (l .account) (exchange p t l .outcome);
       }
-  next p (other s) = record { box = nextState box (p .box) s; peer = p .peer }
+  next p (other s) =
+      record { box = nextState box (p .box) s; peer = p .peer; account = p .account }
 
   -- a step's input, and whether its packet is judged
   abbrev pub inputAt : SeriesState → Step → StepInput
@@ -182,14 +203,17 @@ module _ (box : Box) (writer : Writer) where
   abbrev pub judgedAt : SeriesState → Step → ℕ
   judgedAt p m = judged box (p .box) (inputAt p m)
 
-  -- An invalid try comes with a record for which it is invalid, or none. "The right password is one
-  -- whose NT hash is the record's", and that record is passed. The change is "written with the
-  -- right password as the old one", and passed with any record or none.
+  -- An invalid try comes with a record for which it is invalid, the rightful account's or another's,
+  -- or none. "The right password is one whose NT hash is the record's", that of the first record (a),
+  -- and the record last handed out is passed: so a box that hands out another one is held to the
+  -- claim too. The change is "written with the right password as the old one", and passed with any
+  -- record or none.
   abbrev pub Meant : Account → SeriesState → Packet → ExchangeInput → Type 0
   Meant a p (invalid w n) l =
-      l .account .found ≡ true → validIn (p .box .conversation) (l .account .account)
+      passedWith (p .account) (l .account) .found ≡ true
+      → validIn (p .box .conversation) (passedWith (p .account) (l .account) .account)
       (readResponse (exchange p (invalid w n) l .input .packet)) ≡ false
-  Meant a p (right w n) l = (ntHashOf w ≡ a .nt .octets) × (l .account ≡ found a)
+  Meant a p (right w n) l = (ntHashOf w ≡ a .nt .octets) × (l .account ≡ own)
   Meant a p (passwordChange o n f) l = ntHashOf o ≡ a .nt .octets
 
   -- "Any other step may have any packet, record and buffer with which the box refuses it"; "its
@@ -199,10 +223,11 @@ module _ (box : Box) (writer : Writer) where
   Allowed a p (other s) = NotJudged box (p .box) s
 
   -- "after any opening not refused and any refused steps"
-  abbrev pub later : Opening → List ℕ → List StepInput → SeriesState
-  later o behind ss = record {
+  abbrev pub later : Opening → List ℕ → Account → List StepInput → SeriesState
+  later o behind a ss = record {
     box = end (nextState box) (unanswered (opened o .conversation)) ss;
-    peer = start o behind .peer;
+    peer = start o behind a .peer;
+    account = a;
   }
 
   -- A record "lets a password in at the first Response of a later conversation", "under the same
@@ -212,9 +237,9 @@ module _ (box : Box) (writer : Writer) where
       (o : Opening) (behind name : List ℕ) (ss : List StepInput) (l : ExchangeInput)
       → opened o .refusal ≡ 0 → length (o .challenge) ≡ 8
       → Along (nextState box) (NotJudged box) (unanswered (opened o .conversation)) ss
-      → l .account ≡ found a
+      → l .account ≡ own
       → TryWithin password name l
-      → DrawsSuccess (exchange (later o behind ss) (right password name) l) (o .id)
+      → DrawsSuccess (exchange (later o behind a ss) (right password name) l) (o .id)
 
   -- An invalid try draws 691 with R=1; the right password Success or, expired, 648; the change
   -- Success, and a record is handed out that lets the new password in. (What a reading calls for is
@@ -233,24 +258,27 @@ module _ (box : Box) (writer : Writer) where
       × (exchange p t l .wrote .answer .refusal ≡ 0)
   Claimed a p (other s) = Unit {0}
 
-  -- "A single claim about the series from opening to end": the Challenge is read; each packet of
-  -- our peer is written and draws what it should; "with k invalid tries the box judges exactly k +
-  -- 1 packets, or k + 2 with the record expired", whatever refused packets and repeats come between
-  -- them, and the conversation has ended; of any steps at all it judges at most r + 2, and each
-  -- does what StepClaim says: a repeat draws the same reply, and what is not judged leaves all as
-  -- it was. It holds of our box and writer (proofs/Demand3), and of none of the wrong ones in
-  -- specs/Boxes and specs/Writers (proofs/Wrong, WrongRefusals, WrongRepeats, WrongWriters).
+  -- "A single claim about the series from opening to end": the Challenge is read; where "the count
+  -- before plus the invalid tries is below the limit", each packet of our peer is written and draws
+  -- what it should; "with k invalid tries the box judges exactly k + 1 packets, or k + 2 with the
+  -- record expired", whatever refused packets and repeats come between them, and the conversation
+  -- has ended; of any steps at all it judges at most r + 2, and each does what StepClaim says: a
+  -- repeat draws the same reply, what is not judged leaves all as it was, and a judged Response
+  -- hands its record out, counted. It holds of our box and writer (proofs/Demand3), and of none of
+  -- the wrong ones in specs/Boxes and specs/Writers (proofs/Wrong, WrongRefusals, WrongRepeats,
+  -- WrongCounts, WrongWriters).
   abbrev pub Demand3 : Type 0
   Demand3 =
       (o : Opening) → opened o .refusal ≡ 0 → length (o .challenge) ≡ 8
       → ((behind : List ℕ) → challengeRead o behind
       ≡ record { refusal = 0; id = o .id; challenge = o .challenge })
       × ((a : Account) (k : ℕ) (behind : List ℕ) (ms : List Step)
-      → Rightful a → k ≤ retriesOf (o .retries) → collect packetKinds ms ≡ plan k (a .expired)
-      → Along next (Allowed a) (start o behind) ms
-      → Along next (Claimed a) (start o behind) ms
-      × (total next judgedAt (start o behind) ms ≡ k + cond (a .expired) 2 1)
-      × (end next (start o behind) ms .box .conversation .phase ≡ Ended))
+      → Rightful a → k ≤ retriesOf (o .retries) → a .failures + k < o .limit
+      → collect packetKinds ms ≡ plan k (a .expired)
+      → Along next (Allowed a) (start o behind a) ms
+      → Along next (Claimed a) (start o behind a) ms
+      × (total next judgedAt (start o behind a) ms ≡ k + cond (a .expired) 2 1)
+      × (end next (start o behind a) ms .box .conversation .phase ≡ Ended))
       × ((ss : List StepInput)
       → (total (nextState box) (judged box) (unanswered (opened o .conversation)) ss
       ≤ retriesOf (o .retries) + 2)

@@ -53,6 +53,7 @@ openingOf id c =
       challenge = c;
       retries = Default;
       lm = Silent;
+      limit = 255;
       issued = emptyList 8 3;
       buffer = replicate 17 0;
     }

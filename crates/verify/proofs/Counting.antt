@@ -39,6 +39,13 @@ never-falls n = which (ltb n mostFailures)
     which true = omega arith
     which false = omega arith
 
+pub at-most-one-more : (n : ℕ) → oneMore n ≤ suc n
+at-most-one-more n = which (ltb n mostFailures)
+  where
+    which : (t : Bool) → cond t (suc n) n ≤ suc n
+    which true = omega arith
+    which false = omega arith
+
 pub at-most : (n : ℕ) → n ≤ mostFailures → oneMore n ≤ mostFailures
 at-most n h = which (ltb n mostFailures) refl
   where
