@@ -69,6 +69,12 @@ same-repeat last p = which (last .present) refl
     which true e = rw e
     which false e = rw e
 
+-- a packet with a Response's code is awaited by that phase alone
+pub response-phase : (ph : Phase) → awaitedCode ph ≡ responseCode → ph ≡ Response
+response-phase Response e = refl
+response-phase Change e = absurd (omega (arith, e))
+response-phase Ended e = absurd (omega (arith, e))
+
 -- ---- a step of our box
 
 -- it is judged, or it leaves all that is seen as it was
@@ -212,18 +218,13 @@ module _ (p : BoxState) (s : StepInput) (kept : Tracks p) where
   unfolding judge judgeResponse
   hands-out y code = which seen
     where
-      judged-so : (ph : Phase) → responseCode ≡ awaitedCode ph
-          → judgeIn ph c (s .packet) (s .account) .updated
-          ≡ countedLookup (c .terms) (c .challenge) (s .account) (readResponse (s .packet))
-      judged-so Response e = refl
-      judged-so Change e = absurd (omega (arith, e))
-      judged-so Ended e = absurd (omega (arith, e))
-
       which : Seen p s → stepOn c s .answer .updated
           ≡ countedLookup (c .terms) (c .challenge) (s .account) (readResponse (s .packet))
       which (unjudged z e u) = absurd (false≢true (sym z ∙ y))
-      which (judgedNow _ h e) = ap (λ (o : Outcome). o .answer .updated) e
-          ∙ judged-so (c .phase) (sym code ∙ h .code)
+      which (judgedNow _ h e) =
+          ap (λ (o : Outcome). o .answer .updated) e
+          ∙ ap (λ (ph : Phase). judgeIn ph c (s .packet) (s .account) .updated)
+          (response-phase (c .phase) (sym (h .code) ∙ code))
 
   pub step-claim : StepClaim stepOn p s
   step-claim =

@@ -34,7 +34,7 @@ use Rattle.series.specs.AccountFile.{ourFileWriter, aged, again, KeptAt,
 use Rattle.series.proofs.Invariant.{Invariant, whole}
 use Rattle.series.proofs.Faithful.{opened-faithful}
 use Rattle.series.proofs.Ready.{FitIn, fit-plan, opened-in-step}
-use Rattle.series.proofs.Demand3.{Ready, law, change-updated, lets-in}
+use Rattle.series.proofs.Demand3.{Ready, law, change-updated, lets-in, ready-first}
 
 -- ---- the record that is found again
 
@@ -88,14 +88,14 @@ module _ (name file : List ℕ) (a : Account) (new : List ℕ) (at changedAt lat
 
 -- ---- along a series
 
-module _ (name file : List ℕ) (now maxAge : ℕ) (a : Account) (e : findIn now maxAge name file .lookup ≡ found a) (g : Rightful a) where
-  kept-at : (due : List PacketKind) (p : SeriesState) (m : Step) → Ready a (packetKinds m ++ due) p → Allowed stepOn ourWriter a p m
+module _ (name file : List ℕ) (now maxAge : ℕ) (a : Account) (e : findIn now maxAge name file .lookup ≡ found a) (g : Rightful a) (limit : ℕ) where
+  kept-at : (due : List PacketKind) (p : SeriesState) (m : Step) → Ready a limit (packetKinds m ++ due) p → Allowed stepOn ourWriter a p m
       → KeptAt stepOn ourWriter ourFileWriter name file p m
   kept-at due p (other s) r h = tt
   kept-at due p (ours (invalid w n) l) r h = tt
   kept-at due p (ours (right w n) l) r h = tt
   kept-at due p (ours (passwordChange old new filler) l) r h = λ at changedAt later maxAge′ there small.
-      let updated = change-updated a g due p old new filler l r h in
+      let updated = change-updated a g limit due p old new filler l r h in
       let n = changed-rightful a (ntHashOf new) g in
       let line = from-line now maxAge name file a at e there in
       let x = exchange stepOn ourWriter p (passwordChange old new filler) l .outcome .answer .updated in
@@ -104,7 +104,7 @@ module _ (name file : List ℕ) (now maxAge : ℕ) (a : Account) (e : findIn now
         moved ∙ found-again name file a new at changedAt later maxAge′ line there small ∙ ap (aged t) (sym updated),
         (λ z. subst (λ (u : Lookup). LetsIn stepOn ourWriter (u .account) new)
             (sym (moved ∙ in-force name file a new at changedAt later maxAge′ line there small z))
-            (lets-in (changed a (ntHashOf new)) new (n .0) (n .1) (sym (n .2)))),
+            (lets-in (changed a (ntHashOf new)) new (n .0) (n .1) refl (sym (n .2)))),
         (λ another m.
             ap (λ (u : Lookup). findIn later maxAge′ another (writtenIn name (u .account) changedAt file)) updated
             ∙ others-same name (changed a (ntHashOf new)) changedAt file no-is-hash (nt-is-hash new) another m later maxAge′),
@@ -112,16 +112,9 @@ module _ (name file : List ℕ) (now maxAge : ℕ) (a : Account) (e : findIn now
 
   invariant : Invariant (next stepOn ourWriter) packetKinds (judgedAt stepOn ourWriter) (Allowed stepOn ourWriter a)
       (KeptAt stepOn ourWriter ourFileWriter name file)
-  invariant = record { Ready = Ready a; law = λ due p m r h. (kept-at due p m r h, law a g due p m r h .1, law a g due p m r h .2) }
-
--- a series begins ready
-pub ready-first : (o : Opening) → opened o .refusal ≡ 0 → length (o .challenge) ≡ 8 → (k : ℕ) (behind : List ℕ) (ms : List Step) (a : Account)
-    → k ≤ retriesOf (o .retries) → collect packetKinds ms ≡ plan k (a .expired) → Ready a (collect packetKinds ms) (start o behind)
-ready-first o ok eight k behind ms a few due =
-    let fit = subst (FitIn a (plan k (a .expired))) (sym (opened-first o ok)) (fit-plan k a (retriesOf (o .retries)) blankAccount few) in
-    subst (λ (ks : List PacketKind). Ready a ks (start o behind)) (sym due) ((fit, opened-in-step o ok eight behind), opened-faithful o ok)
+  invariant = record { Ready = Ready a limit; law = λ due p m r h. (kept-at due p m r h, law a g limit due p m r h .1, law a g limit due p m r h .2) }
 
 pub kept-in-file : KeptInFile ourBox ourWriter ourFileWriter
 unfolding invariant
-kept-in-file name file now maxAge a e o ok eight k behind ms g few due h =
-    whole (invariant name file now maxAge a e g) (start o behind) ms (ready-first o ok eight k behind ms a few due) h .0
+kept-in-file name file now maxAge a e o ok eight k behind ms g few below due h =
+    whole (invariant name file now maxAge a e g (o .limit)) (start o behind a) ms (ready-first o ok eight k behind ms a few below due) h .0

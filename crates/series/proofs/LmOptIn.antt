@@ -1,12 +1,11 @@
 -- LM is off unless the opening asked for it, from the opening to the end; and where it did, a peer
 -- that knows its LM hash alone gets in.
 -- Assumes nothing.
-use mathlib.Core.Bool.{Bool, true, false, cond, _&&_, and-false, true≢false}
+use mathlib.Core.Bool.{Bool, true, false, cond, not, _&&_, and-false, true≢false}
 use mathlib.Core.List.{List}
 use mathlib.Core.Logic.{_≢_, inl, inr}
 use mathlib.Core.Path.{_≡_, refl, sym, ap, ap₂, _∙_, subst}
 use Prim.Native.Nat.{ℕ}
-use native.Mathlib.Omega.{arith}
 use borrow.Author.Tests.{not-true}
 use lib.Dec.{eqb}
 use Rattle.message.specs.Reasons.{authenticationFailure, passwordExpired}
@@ -15,29 +14,32 @@ use Rattle.packets.specs.Codes.{responseCode}
 use Rattle.packets.specs.Frame.{octet}
 use Rattle.packets.specs.Response.{readResponse}
 use Rattle.packets.specs.Reply.{successPacket, failurePacket}
-use Rattle.accounts.specs.Account.{notFound}
+use Rattle.accounts.specs.Account.{notFound, withFailures}
 use Rattle.accounts.specs.declared.Account.{Account}
 use Rattle.accounts.specs.declared.Lookup.{Lookup}
+use Rattle.verify.specs.Lockout.{isLocked}
 use Rattle.verify.specs.Response.{answers, valid, foundValid, firstReason, responseReason}
 use Rattle.verify.specs.declared.Terms.{Terms}
+use Rattle.verify.proofs.Counting.{judged-below}
 use Rattle.verify.proofs.Reasons.{answers-right}
 use Rattle.authenticator.specs.Admit.{refusalFor}
-use Rattle.authenticator.specs.Conversation.{awaitedCode, isEnded, noAnswer}
+use Rattle.authenticator.specs.Conversation.{isEnded, noAnswer}
 use Rattle.authenticator.specs.Encode.{version, replyPacket}
 use Rattle.authenticator.specs.Judge.{mayRetry, validIn, judgeResponse, judgeIn, judge}
 use Rattle.authenticator.specs.Opening.{Opening, lmAllowed, firstConversation, opened}
+use Rattle.authenticator.specs.Step.{withoutRecord}
 use Rattle.authenticator.specs.Steps.{StepInput, stepOn, replyOf, BoxState, unanswered}
 use Rattle.authenticator.specs.Steps.{isJudged, nextState}
 use Rattle.authenticator.specs.declared.Conversation.{Conversation}
 use Rattle.authenticator.specs.declared.LmChoice.the-variants.{Allowed}
 use Rattle.authenticator.specs.declared.Phase.{Phase}
-use Rattle.authenticator.specs.declared.Phase.the-variants.{Response, Change, Ended}
+use Rattle.authenticator.specs.declared.Phase.the-variants.{Response}
 use Rattle.authenticator.specs.declared.Reply.the-variants.{Failure}
 use Rattle.authenticator.proofs.Admitted.{Passes, passed}
 use Rattle.authenticator.proofs.Judged.{expiredFor, accepted, valid-law, same-invalid}
 use Rattle.authenticator.proofs.Openings.{opened-either}
 use Rattle.authenticator.proofs.Seen.{Seen, unjudged, judgedNow, seen, Tracks, tracks-next}
-use Rattle.authenticator.proofs.Seen.{unanswered-tracks}
+use Rattle.authenticator.proofs.Seen.{unanswered-tracks, response-phase}
 use Rattle.authenticator.proofs.Steps.{judged-step, reply-of}
 use Rattle.authenticator.proofs.Terms.{opened-off, step-keeps-terms}
 use Rattle.series.specs.Boxes.{withLm}
@@ -63,14 +65,15 @@ not-by-lm c s off by =
     let a = s .account .account in
     let f = readResponse (s .packet) in
     let no = not-true (eqb (f .flag) 1 && a .nt .present) by in
-    ap (λ (t : Bool). s .account .found && t)
+    ap (λ (t : Bool). s .account .found && (not (isLocked (c .terms) a) && t))
     (ap₂ (λ (t u : Bool). cond t (answers (a .nt) (c .challenge) (f .nt))
     (u && answers (a .lm) (c .challenge) (f .lm))) no off)
+    ∙ ap (λ (t : Bool). s .account .found && t) (and-false (not (isLocked (c .terms) a)))
     ∙ and-false (s .account .found)
 
--- so it is answered as if there were no record
+-- so it is answered as if there were no record, but that its record is handed out
 as-unknown : (c : Conversation) (s : StepInput) → c .terms .lm ≡ false → isByLm s ≡ true
-    → stepOn c s ≡ stepOn c (withNoRecord s)
+    → withoutRecord (stepOn c s) ≡ withoutRecord (stepOn c (withNoRecord s))
 as-unknown c s off by = same-invalid c (s .packet) (s .buffer) (s .account) notFound
     (not-by-lm c s off by) refl
 
@@ -91,8 +94,8 @@ pub turned-away : (c : Conversation) (s : StepInput) → c .terms .lm ≡ false 
     → IsAuthenticationFailure (c .id) (replyOf (stepOn c s))
 unfolding judge
 turned-away c s off by ph ok =
-    let reply = ap replyOf (as-unknown c s off by
-    ∙ judged-step c (s .packet) notFound (s .buffer) ok)
+    let reply = ap replyOf (as-unknown c s off by)
+    ∙ ap replyOf (judged-step c (s .packet) notFound (s .buffer) ok)
     ∙ reply-of c (judge c (s .packet) notFound) (s .buffer) (ok .readable .room)
     ∙ ap (λ (x : Phase). replyPacket (c .id) (judgeIn x c (s .packet) notFound .reply)) ph
     ∙ ap (replyPacket (c .id)) (unknown-reply c (s .packet)) in
@@ -123,21 +126,17 @@ off-after o h ss =
     })
     ss
 
--- a packet with a Response's code is awaited by that phase alone
-response-phase : (ph : Phase) → awaitedCode ph ≡ responseCode → ph ≡ Response
-response-phase Response e = refl
-response-phase Change e = absurd (omega (arith, e))
-response-phase Ended e = absurd (omega (arith, e))
-
 off-here : (p : BoxState) (s : StepInput) → OffAt p → octet 0 (s .packet) ≡ responseCode
     → isByLm s ≡ true → isJudged stepOn p s ≡ true
     → IsAuthenticationFailure (octet 1 (s .packet)) (replyOf (stepOn (p .conversation) s))
-    × (stepOn (p .conversation) s ≡ stepOn (p .conversation) (withNoRecord s))
+    × (withoutRecord (stepOn (p .conversation) s)
+    ≡ withoutRecord (stepOn (p .conversation) (withNoRecord s)))
 off-here p s i code by now = which (seen p s (i .tracks))
   where
     which : Seen p s
         → IsAuthenticationFailure (octet 1 (s .packet)) (replyOf (stepOn (p .conversation) s))
-        × (stepOn (p .conversation) s ≡ stepOn (p .conversation) (withNoRecord s))
+        × (withoutRecord (stepOn (p .conversation) s)
+        ≡ withoutRecord (stepOn (p .conversation) (withNoRecord s)))
     which (unjudged z e u) = absurd (true≢false (sym now ∙ z))
     which (judgedNow y ok e) = (
       subst (λ (id : ℕ). IsAuthenticationFailure id (replyOf (stepOn (p .conversation) s)))
@@ -169,7 +168,8 @@ module _ (o : Opening) (a : Account) (s : StepInput) (peer : LmPeer o a s) where
       rw (by, answers-right (a .lm) (o .challenge) (f .lm) (peer .hash) (peer .response))
 
   answered : (expired : Bool)
-      → replyPacket (o .id) (cond expired (expiredFor (first true) a) (accepted (first true))
+      → replyPacket (o .id) (cond expired (expiredFor (first true) (withFailures 0 a))
+      (accepted (first true) (withFailures 0 a))
       .reply)
       ≡ cond expired (failurePacket (o .id) (textOf passwordExpired 0 version))
       (successPacket (o .id))
@@ -184,8 +184,11 @@ module _ (o : Opening) (a : Account) (s : StepInput) (peer : LmPeer o a s) where
       let c = first true in
       ap (λ (l : Lookup). replyOf (stepOn c
       (record { packet = s .packet; account = l; buffer = s .buffer }))) (peer .account)
-      ∙ ap replyOf (valid-law c (s .packet) (s .buffer) ok a refl (peer .permitted) lm-valid)
-      ∙ reply-of c (cond (a .expired) (expiredFor c a) (accepted c)) (s .buffer)
+      ∙ ap replyOf (valid-law c (s .packet) (s .buffer) ok a refl (peer .permitted)
+      (judged-below (c .terms) (c .challenge) a (readResponse (s .packet)) (peer .unlocked)
+      ∙ lm-valid))
+      ∙ reply-of c (cond (a .expired) (expiredFor c (withFailures 0 a))
+      (accepted c (withFailures 0 a))) (s .buffer)
       (ok .readable .room)
       ∙ answered (a .expired)
 

@@ -170,7 +170,7 @@ none-changed-twice i first second two ss ts f h p = (changed-both i first second
 
 pub opens-where-it-may : MayOpen ourOpener
 opens-where-it-may o h =
-    let ok = may-open o (h .not13) (h .not2) (h .buffer24) (h .counts24) (h .not16) (h .not17) in
+    let ok = may-open o (h .not18) (h .not13) (h .not2) (h .buffer24) (h .counts24) (h .not16) (h .not17) in
     (ok, opened-first o ok, opened-written o ok (h .eight))
 
 pub one-list : OneList ourOpener

@@ -30,6 +30,7 @@ use Rattle.peer.specs.Write.{writeResponse}
 use Rattle.peer.proofs.Left.{left}
 use Rattle.peer.specs.Turn.{sentFor, nextTurn}
 use Rattle.series.specs.Boxes.{repeatsHere}
+use Rattle.accounts.specs.declared.Account.{Account}
 use Rattle.series.specs.Series.{
   Packet,
   invalid,
@@ -46,8 +47,8 @@ use Rattle.series.specs.Writers.{ourWriter}
 use Rattle.series.proofs.RoundTrips.{challenge-read, response-round-trip, change-round-trip}
 
 pub first-id : (o : Opening) → opened o .refusal ≡ 0 → length (o .challenge) ≡ 8 → (behind : List ℕ)
-    → start o behind .peer .turn .id ≡ o .id
-first-id o ok eight behind = ap (λ (a : ChallengeFields). a .id) (challenge-read o ok eight behind)
+    (a : Account) → start o behind a .peer .turn .id ≡ o .id
+first-id o ok eight behind a = ap (λ (f : ChallengeFields). f .id) (challenge-read o ok eight behind)
 
 module _ (box : Box) (p : SeriesState) (l : ExchangeInput) where
   abbrev Written : Packet → Type 0

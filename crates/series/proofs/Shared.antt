@@ -28,7 +28,7 @@ use Rattle.series.specs.OneList.{PassedOn, Openable, Two}
 
 abbrev pub openingWith : LmChoice → Issued → Retries → List ℕ → Opening
 openingWith lm list r challenge =
-    record { id = 7; challenge = challenge; retries = r; lm = lm; issued = list; buffer = replicate 17 0 }
+    record { id = 7; challenge = challenge; retries = r; lm = lm; limit = 5; issued = list; buffer = replicate 17 0 }
 
 abbrev pub openingOn : Issued → Retries → List ℕ → Opening
 openingOn = openingWith Silent
@@ -52,6 +52,7 @@ unfolding endings ending containsAny challengesFrom contains
 openable lm =
     record {
       eight = refl;
+      not18 = omega arith;
       not13 = omega arith;
       not2 = omega arith;
       buffer24 = six-places;
@@ -61,7 +62,7 @@ openable lm =
     }
 
 pub first-opens : opened first .refusal ≡ 0
-first-opens = may-open-empty first (omega arith) (omega arith) six-places refl refl (omega arith)
+first-opens = may-open-empty first (omega arith) (omega arith) (omega arith) six-places refl refl (omega arith)
 
 second-opens : opened second .refusal ≡ 0
 unfolding opened openedIssued openRefusal spendRefusal badBuffer flatten over agrees ending endings contains containsAny challengesFrom

@@ -27,7 +27,7 @@ use Rattle.authenticator.specs.declared.LmChoice.the-variants.{Silent}
 use Rattle.authenticator.proofs.Openings.{may-open-empty}
 use Rattle.authenticator.proofs.Steps.{drew-answered}
 use Rattle.series.specs.Course.{end, Along, total}
-use Rattle.series.specs.Series.{right, Step, other, SeriesState, start, exchange, next}
+use Rattle.series.specs.Series.{own, another, right, Step, other, SeriesState, start, exchange, next}
 use Rattle.series.specs.Series.{
   inputAt,
   judgedAt,
@@ -81,37 +81,37 @@ after = next ourBox ourWriter
 
 -- the places of our peer's three packets, and what the box gets of each
 abbrev first : SeriesState
-first = after (start (opening (Count 1)) []) (other short)
+first = after (start (opening (Count 1)) [] (account true)) (other short)
 
 abbrev tried : StepInput
-tried = inputAt ourBox ourWriter first (badTry (found blankAccount))
+tried = inputAt ourBox ourWriter first (badTry (another (found blankAccount)))
 
 abbrev triedTwice : SeriesState
-triedTwice = after (after first (badTry (found blankAccount))) (other (again tried))
+triedTwice = after (after first (badTry (another (found blankAccount)))) (other (again tried))
 
 abbrev second : SeriesState
 second = after triedTwice (other narrow)
 
 abbrev proved : StepInput
-proved = inputAt ourBox ourWriter second (rightTry true)
+proved = inputAt ourBox ourWriter second rightTry
 
 abbrev provedTwice : SeriesState
-provedTwice = after (after second (rightTry true)) (other (again proved))
+provedTwice = after (after second rightTry) (other (again proved))
 
 abbrev third : SeriesState
 third = after provedTwice (other short)
 
 abbrev changed : StepInput
-changed = inputAt ourBox ourWriter third (change notFound)
+changed = inputAt ourBox ourWriter third (change (another notFound))
 
 abbrev changedTwice : SeriesState
-changedTwice = after (after third (change notFound)) (other (again changed))
+changedTwice = after (after third (change (another notFound))) (other (again changed))
 
 abbrev pub steps : List Step
 steps =
-    other short ∷ badTry (found blankAccount) ∷ other (again tried)
-    ∷ other narrow ∷ rightTry true ∷ other (again proved)
-    ∷ other short ∷ change notFound ∷ other (again changed) ∷ other narrow ∷ []
+    other short ∷ badTry (another (found blankAccount)) ∷ other (again tried)
+    ∷ other narrow ∷ rightTry ∷ other (again proved)
+    ∷ other short ∷ change (another notFound) ∷ other (again changed) ∷ other narrow ∷ []
 
 -- ---- the premises
 
@@ -141,9 +141,9 @@ again-allowed : (p : BoxState) (s : StepInput) → Faithful p
 again-allowed p s i = inl (twice-none p s (again s) i refl refl)
 
 pub met : Along (next ourBox ourWriter) (Allowed ourBox ourWriter (account true))
-    (start (opening (Count 1)) []) steps
+    (start (opening (Count 1)) [] (account true)) steps
 met = (
-  short-refused (start (opening (Count 1)) [] .box),
+  short-refused (start (opening (Count 1)) [] (account true) .box),
   (
     blank-allowed ourBox ourWriter first (account true),
     (
@@ -157,7 +157,7 @@ met = (
             (
               short-refused (provedTwice .box),
               (
-                change-allowed ourBox ourWriter third true notFound,
+                change-allowed ourBox ourWriter third true (another notFound),
                 (
                   again-allowed (third .box) changed faithful-third,
                   (narrow-refused (changedTwice .box), tt),
@@ -175,13 +175,13 @@ met = (
 
 -- each packet draws what it should, three are judged, and the conversation has ended
 pub claimed : Along (next ourBox ourWriter) (Claimed ourBox ourWriter (account true))
-    (start (opening (Count 1)) []) steps
+    (start (opening (Count 1)) [] (account true)) steps
     × (total (next ourBox ourWriter) (judgedAt ourBox ourWriter)
-    (start (opening (Count 1)) []) steps ≡ 3)
-    × (end (next ourBox ourWriter) (start (opening (Count 1)) []) steps .box .conversation .phase
+    (start (opening (Count 1)) [] (account true)) steps ≡ 3)
+    × (end (next ourBox ourWriter) (start (opening (Count 1)) [] (account true)) steps .box .conversation .phase
     ≡ Ended)
 claimed = demand3 (opening (Count 1)) opens-once refl .1 (account true) 1 [] steps (rightful true)
-    (omega arith) refl met
+    (omega arith) (omega arith) refl met
 
 -- ---- the repeats of this series
 
@@ -217,7 +217,7 @@ change-again = drawn-again (third .box) changed (ap (octet 0)
 
 abbrev handed : Account
 handed = exchange ourBox ourWriter third newPassword
-    (line 1118 notFound) .outcome .answer .updated .account
+    (line 1118 (another notFound)) .outcome .answer .updated .account
 
 lets-in : LetsIn ourBox ourWriter handed new
 lets-in = claimed .0 .1 .1 .1 .1 .1 .1 .1 .0 .0 .2
@@ -229,19 +229,19 @@ laterOpening =
       challenge = replicate 8 1;
       retries = Default;
       lm = Silent;
+      limit = 1;
       issued = emptyList 8
           3;
       buffer = replicate 17 0;
     }
 
 later-opens : opened laterOpening .refusal ≡ 0
-later-opens = may-open-empty laterOpening (omega arith) (omega arith) three-places refl refl
+later-opens = may-open-empty laterOpening (omega arith) (omega arith) (omega arith) three-places refl refl
     (omega arith)
 
 pub later-success : DrawsSuccess (exchange ourBox ourWriter
-    (later ourBox ourWriter laterOpening [] (short ∷ [])) (right new user) (line 55 (found handed)))
-    0
+    (later ourBox ourWriter laterOpening [] handed (short ∷ [])) (right new user) (line 55 own)) 0
 later-success =
-    lets-in laterOpening [] user (short ∷ []) (line 55 (found handed)) later-opens refl
+    lets-in laterOpening [] user (short ∷ []) (line 55 own) later-opens refl
     (short-refused (unanswered (opened laterOpening .conversation)), tt) refl
-    (new-within (found handed))
+    (new-within own)

@@ -15,7 +15,7 @@ use Rattle.message.specs.Message.{textOf}
 use Rattle.packets.specs.Frame.{octet}
 use Rattle.packets.specs.Response.{readResponse, responseRefusal}
 use Rattle.packets.specs.Reply.{successPacket, failurePacket}
-use Rattle.accounts.specs.Account.{notFound, found}
+use Rattle.accounts.specs.Account.{notFound, found, withFailures}
 use Rattle.authenticator.specs.Encode.{replyPacket}
 use Rattle.authenticator.specs.declared.Reply.{Reply}
 use Rattle.authenticator.specs.declared.Reply.the-variants.{Failure}
@@ -25,6 +25,7 @@ use Rattle.authenticator.specs.Admit.{refusalFor}
 use Rattle.authenticator.specs.Conversation.{awaitedCode}
 use Rattle.challenges.specs.Challenges.{nextId}
 use Rattle.authenticator.specs.Encode.{version}
+use Rattle.verify.specs.Lockout.{failuresAfter}
 use Rattle.verify.specs.Response.{firstReason, responseReason}
 use Rattle.authenticator.specs.Judge.{afterReason, replyFor, judgeResponse, judge, validIn}
 use Rattle.authenticator.specs.Step.{Outcome, judgedAs, step}
@@ -44,7 +45,7 @@ use Rattle.authenticator.specs.declared.Conversation.{Conversation}
 use Rattle.authenticator.specs.declared.Retries.the-variants.{Default, Count}
 use Rattle.authenticator.proofs.Openings.{opened-first}
 use Rattle.series.specs.Course.{total}
-use Rattle.series.specs.Series.{invalid, right, start, exchange, next, later, LetsIn, Demand3}
+use Rattle.series.specs.Series.{own, another, invalid, right, start, exchange, next, later, LetsIn, Demand3}
 use Rattle.series.specs.Boxes.{
   refusing,
   repeatsHere,
@@ -99,9 +100,9 @@ failure-code id message = refl
 -- the right password draws nothing
 pub not-refusing : (n : ℕ) → Demand3 (refusing n) ourWriter → ⊥
 not-refusing n h =
-    let all = h (opening Default) opens-default refl .1 (account false) 0 [] (rightTry false ∷ [])
-    (rightful false) (omega arith) refl
-    (right-allowed (refusing n) ourWriter (start (opening Default) []) false, tt) in
+    let all = h (opening Default) opens-default refl .1 (account false) 0 [] (rightTry ∷ [])
+    (rightful false) (omega arith) (omega arith) refl
+    (right-allowed (refusing n) ourWriter (start (opening Default) [] (account false)) false, tt) in
     let code = ap (octet 0) (all .0 .0 .0 .0) ∙ success-code _ in
     omega arith
 
@@ -151,12 +152,12 @@ none-drawn p = ap (λ (c : Conversation). judge c p notFound .reply) first-defau
 
 pub not-finding : Demand3 (judging findsNone) ourWriter → ⊥
 not-finding h =
-    let p = start (opening Default) [] in
-    let all = h (opening Default) opens-default refl .1 (account false) 0 [] (rightTry false ∷ [])
-    (rightful false) (omega arith) refl
+    let p = start (opening Default) [] (account false) in
+    let all = h (opening Default) opens-default refl .1 (account false) 0 [] (rightTry ∷ [])
+    (rightful false) (omega arith) (omega arith) refl
     (right-allowed (judging findsNone) ourWriter p false, tt) in
     let s = exchange (judging findsNone) ourWriter p (right old user)
-    (line 55 (found (account false))) .input in
+    (line 55 own) .input in
     let reply = none-drawn (s .packet) in
     let code = code-drawn findsNone (p .box .conversation) s (first-new s) (omega arith)
     (ap (octet 0) (all .0 .0 .0 .0) ∙ success-code _) (omega arith) in
@@ -172,17 +173,17 @@ not-finding h =
 pub not-accepting : Demand3 (judging accepts) ourWriter → ⊥
 not-accepting h =
     let box = judging accepts in
-    let p = start (opening Default) [] in
+    let p = start (opening Default) [] (account false) in
     let all = h (opening Default) opens-default refl .1 (account false) 1 []
-    (badTry notFound ∷ rightTry false ∷ []) (rightful false) (omega arith) refl (
+    (badTry (another notFound) ∷ rightTry ∷ []) (rightful false) (omega arith) (omega arith) refl (
       bad-allowed box ourWriter p (account false),
       (
         right-allowed box ourWriter
-            (next box ourWriter p (badTry notFound)) false,
+            (next box ourWriter p (badTry (another notFound))) false,
         tt,
       ),
     ) in
-    let s = exchange box ourWriter p (invalid bad user) (line 60 notFound) .input in
+    let s = exchange box ourWriter p (invalid bad user) (line 60 (another notFound)) .input in
     let code = code-drawn accepts (p .box .conversation) s (first-new s) (omega arith)
     (ap (octet 0) (all .0 .0 .0 .0) ∙ failure-code _ (textOf 691 1 version)) (omega arith) in
     omega (arith, code, success-code (p .box .conversation .id))
@@ -204,26 +205,26 @@ one-left s e = ap (λ (c : Conversation). pretends 2 c s .next .retries) first-d
 pub not-pretending : Demand3 (judging (pretends 2)) ourWriter → ⊥
 not-pretending h =
     let box = judging (pretends 2) in
-    let p = start (opening Default) [] in
-    let q = next box ourWriter p (badTry notFound) in
+    let p = start (opening Default) [] (account false) in
+    let q = next box ourWriter p (badTry (another notFound)) in
     let all = h (opening Default) opens-default refl .1 (account false) 2 []
-    (badTry notFound ∷ badTry notFound ∷ rightTry false ∷ []) (rightful false) (omega arith) refl (
+    (badTry (another notFound) ∷ badTry (another notFound) ∷ rightTry ∷ []) (rightful false) (omega arith) (omega arith) refl (
       bad-allowed box ourWriter p (account false),
       (
         bad-allowed box ourWriter q (account false),
-        (right-allowed box ourWriter (next box ourWriter q (badTry notFound)) false, tt),
+        (right-allowed box ourWriter (next box ourWriter q (badTry (another notFound))) false, tt),
       ),
     ) in
-    let s = exchange box ourWriter p (invalid bad user) (line 60 notFound) .input in
-    let t = exchange box ourWriter q (invalid bad user) (line 60 notFound) .input in
+    let s = exchange box ourWriter p (invalid bad user) (line 60 (another notFound)) .input in
+    let t = exchange box ourWriter q (invalid bad user) (line 60 (another notFound)) .input in
     let first = drew (pretends 2) (p .box .conversation) s (first-new s)
     (ap (octet 0) (all .0 .0 .0 .0) ∙ failure-code _ (textOf 691 1 version)) (omega arith) in
     let left = ap (λ (o : Outcome). o .answer .next .retries) first ∙ one-left s refl in
-    let turn = retry-id box p (line 60 notFound) (invalid bad user) (all .0 .0 .1) (all .0 .0 .0 .1)
-    ∙ ap nextId (first-id (opening Default) opens-default refl []) in
+    let turn = retry-id box p (line 60 (another notFound)) (invalid bad user) (all .0 .0 .1) (all .0 .0 .0 .1)
+    ∙ ap nextId (first-id (opening Default) opens-default refl [] (account false)) in
     let last = ap (λ (o : Outcome). o .answer .next .last .id) first
     ∙ ap (λ (c : Conversation). c .id) first-default in
-    let id = sent-carries box q (line 60 notFound) (invalid bad user) (all .0 .1 .0 .1) .1 ∙ turn in
+    let id = sent-carries box q (line 60 (another notFound)) (invalid bad user) (all .0 .1 .0 .1) .1 ∙ turn in
     let new = other-id (q .box .conversation) t (λ e. omega (arith, sym id ∙ e ∙ last)) in
     let pretended = ap (λ (n : ℕ). cond (ltb n 2) (accepts (q .box .conversation) t)
     (judge (q .box .conversation) (t .packet) notFound) .reply) left in
@@ -247,7 +248,7 @@ Expired c p =
     (octet 0 reply ≡ 4) × (octet 7 reply ≡ 52 → d .next .kept ≡ account true)
 
 expired-first : (p : List ℕ) → Expired (firstConversation (opening Default)) p
-unfolding judge judgeResponse responseReason firstReason failurePacket textOf hexOf
+unfolding judge judgeResponse responseReason firstReason failuresAfter failurePacket textOf hexOf
 expired-first p = which (validIn (firstConversation (opening Default)) (account true)
     (readResponse p))
   where
@@ -256,7 +257,8 @@ expired-first p = which (validIn (firstConversation (opening Default)) (account 
 
     which : (v : Bool) → let e = firstReason v (account true) in
         let reply = replyPacket 255 (replyFor c e) in
-        (octet 0 reply ≡ 4) × (octet 7 reply ≡ 52 → afterReason c (account true) e .kept
+        (octet 0 reply ≡ 4) × (octet 7 reply ≡ 52
+        → afterReason c (withFailures (failuresAfter false v 0) (account true)) e .kept
         ≡ account true)
     which true = (refl, λ h. refl)
     which false = (refl, λ h. absurd (omega arith))
@@ -279,13 +281,12 @@ kept-handed false a h = absurd (false≢true h)
 pub not-leaving-record : Demand3 (judging leavesRecord) ourWriter → ⊥
 not-leaving-record h =
     let box = judging leavesRecord in
-    let l = found (account true) in
-    let p = start (opening Default) [] in
-    let q = next box ourWriter p (rightTry true) in
+    let p = start (opening Default) [] (account true) in
+    let q = next box ourWriter p rightTry in
     let all = h (opening Default) opens-default refl .1 (account true) 0 []
-    (rightTry true ∷ change l ∷ []) (rightful true) (omega arith) refl
-    (right-allowed box ourWriter p true, (change-allowed box ourWriter q true l, tt)) in
-    let s = exchange box ourWriter p (right old user) (line 55 l) .input in
+    (rightTry ∷ change own ∷ []) (rightful true) (omega arith) (omega arith) refl
+    (right-allowed box ourWriter p true, (change-allowed box ourWriter q true own, tt)) in
+    let s = exchange box ourWriter p (right old user) (line 55 own) .input in
     let first = drew leavesRecord (p .box .conversation) s (first-new s)
     (ap (octet 0) (all .0 .0 .0 .0) ∙ failure-code _ (textOf 648 0 version)) (omega arith) in
     let expired = expired-drawn (s .packet) in
@@ -294,10 +295,10 @@ not-leaving-record h =
     ∙ ap replyOf (sym first) ∙ all .0 .0 .0 .0) ∙ four-of _ in
     let kept = ap (λ (o : Outcome). o .answer .next .kept) first ∙ expired .1 four in
     let answered = all .0 .1 .0 .0 in
-    let t = exchange box ourWriter q newPassword (line 1118 l) .input in
+    let t = exchange box ourWriter q newPassword (line 1118 own) .input in
     let last = ap (λ (o : Outcome). o .answer .next .last .code) first
     ∙ ap (λ (c : Conversation). awaitedCode (c .phase)) first-default in
-    let sent = sent-carries box q (line 1118 l) newPassword (all .0 .1 .0 .1) .0 in
+    let sent = sent-carries box q (line 1118 own) newPassword (all .0 .1 .0 .1) .0 in
     let fresh = other-code (q .box .conversation) t (λ e. omega (arith, sym sent ∙ e ∙ last)) in
     let changed = ap (λ (o : Outcome). o .answer .updated)
     (drew leavesRecord (q .box .conversation) t fresh
@@ -308,10 +309,10 @@ not-leaving-record h =
     (q .box .conversation .kept)
     (sym (ap (λ (b : Lookup). b .found) changed) ∙ answered .1) ∙ kept in
     let lets = subst (λ (b : Account). LetsIn box ourWriter b new) updated (answered .2) in
-    let r = later box ourWriter (opening Default) [] [] in
-    let u = exchange box ourWriter r (right new user) (line 55 l) .input in
-    let draws = lets (opening Default) [] user [] (line 55 l) opens-default refl tt refl
-    (new-within l) in
+    let r = later box ourWriter (opening Default) [] (account true) [] in
+    let u = exchange box ourWriter r (right new user) (line 55 own) .input in
+    let draws = lets (opening Default) [] user [] (line 55 own) opens-default refl tt refl
+    (new-within own) in
     let again = expired-drawn (u .packet) in
     let code = code-drawn leavesRecord (r .box .conversation) u (first-new u) (omega arith)
     (ap (octet 0) (draws .0) ∙ success-code 255) (omega arith) in

@@ -25,13 +25,13 @@ use Rattle.smbpasswd.specs.Write.{hashText, timeText, changedLine, writtenIn}
 use Rattle.smbpasswd.specs.declared.Found.{Found}
 use Rattle.smbpasswd.specs.declared.Place.the-variants.{Line}
 use Rattle.series.specs.Course.{Along}
-use Rattle.series.specs.Series.{right, Step, ours, PasswordChange, SeriesState, start, exchange, next, Allowed}
+use Rattle.series.specs.Series.{own, another, right, Step, ours, PasswordChange, SeriesState, start, exchange, next, Allowed}
 use Rattle.series.specs.Boxes.{ourBox}
 use Rattle.series.specs.Writers.{ourWriter}
 use Rattle.series.specs.AccountFile.{FileWriter, keepingTime, writingZero, keepingLm, losingOthers, notWriting, aged, again, KeptAt, KeptInFile}
 use Rattle.series.proofs.Sample.{opening, opens-default, old, new, user, line, newPassword, change, try-within, change-allowed}
-use Rattle.series.proofs.Demand3.{law, change-updated}
-use Rattle.series.proofs.AccountFile.{ready-first, kept-in-file}
+use Rattle.series.proofs.Demand3.{law, change-updated, ready-first}
+use Rattle.series.proofs.AccountFile.{kept-in-file}
 
 -- ---- a file with one account
 
@@ -50,13 +50,13 @@ account = accountWith (hashOf oldHash) (hashOf (replicate 16 1)) false false fal
 abbrev flagsAndTime : List ℕ
 flagsAndTime = 91 ∷ 85 ∷ (replicate 10 32 ++ 93 ∷ colon ∷ (timeText 1 ++ colon ∷ 10 ∷ []))
 
-abbrev another : List ℕ
-another = 118 ∷ []
+abbrev neighbour : List ℕ
+neighbour = 118 ∷ []
 
 abbrev pub file : List ℕ
 file =
     user ++ colon ∷ (49 ∷ colon ∷ (hashText (hashOf (replicate 16 1)) ++ colon ∷ (hashText (hashOf oldHash) ++ colon ∷ flagsAndTime)))
-    ++ another ++ colon ∷ (50 ∷ colon ∷ (hashText noHash ++ colon ∷ (hashText noHash ++ colon ∷ flagsAndTime)))
+    ++ neighbour ++ colon ∷ (50 ∷ colon ∷ (hashText noHash ++ colon ∷ (hashText noHash ++ colon ∷ flagsAndTime)))
 
 pub in-file : findIn 1000 0 user file .lookup ≡ found account
 unfolding findIn placeOf lines isAccount accountIn agrees digitOf hexOf
@@ -80,46 +80,46 @@ rightful : Rightful account
 rightful = record { nt = refl; enabled = refl; hours = refl; dialin = refl }
 
 abbrev first : Step
-first = ours (right old user) (line 55 (found account))
+first = ours (right old user) (line 55 own)
 
 abbrev begun : SeriesState
-begun = start (opening Default) []
+begun = start (opening Default) [] account
 
 abbrev second : SeriesState
 second = next ourBox ourWriter begun first
 
 first-allowed : Allowed ourBox ourWriter account begun first
-first-allowed = (try-within old (line 55 (found account)) refl (omega arith) (omega arith), (hash-old, refl))
+first-allowed = (try-within old (line 55 own) refl (omega arith) (omega arith), (hash-old, refl))
 
-change-is-allowed : Allowed ourBox ourWriter account second (change notFound)
-change-is-allowed = (change-allowed ourBox ourWriter second true notFound .0, hash-old)
+change-is-allowed : Allowed ourBox ourWriter account second (change (another notFound))
+change-is-allowed = (change-allowed ourBox ourWriter second true (another notFound) .0, hash-old)
 
 -- the record that the change hands out
 abbrev handedOut : Lookup
 handedOut = found (changed account newHash)
 
-handed-out : exchange ourBox ourWriter second newPassword (line 1118 notFound) .outcome .answer .updated ≡ handedOut
+handed-out : exchange ourBox ourWriter second newPassword (line 1118 (another notFound)) .outcome .answer .updated ≡ handedOut
 handed-out =
-    let ready = ready-first (opening Default) opens-default refl 0 [] (first ∷ change notFound ∷ []) account (omega arith) refl in
-    change-updated account rightful [] second old new (replicate 512 7) (line 1118 notFound)
-    (law account rightful (PasswordChange ∷ []) begun first ready first-allowed .2) change-is-allowed
+    let ready = ready-first (opening Default) opens-default refl 0 [] (first ∷ change (another notFound) ∷ []) account (omega arith) (omega arith) refl in
+    change-updated account rightful 5 [] second old new (replicate 512 7) (line 1118 (another notFound))
+    (law account rightful 5 (PasswordChange ∷ []) begun first ready first-allowed .2) change-is-allowed
     ∙ ap (λ (h : List ℕ). found (changed account h)) hash-new
 
 -- the claim, at this series
 series : (write : FileWriter) → KeptInFile ourBox ourWriter write
-    → Along (next ourBox ourWriter) (KeptAt ourBox ourWriter write user file) begun (first ∷ change notFound ∷ [])
+    → Along (next ourBox ourWriter) (KeptAt ourBox ourWriter write user file) begun (first ∷ change (another notFound) ∷ [])
 series write claim =
-    claim user file 1000 0 account in-file (opening Default) opens-default refl 0 [] (first ∷ change notFound ∷ []) rightful (omega arith) refl
+    claim user file 1000 0 account in-file (opening Default) opens-default refl 0 [] (first ∷ change (another notFound) ∷ []) rightful (omega arith) (omega arith) refl
     (first-allowed, (change-is-allowed, tt))
 
 -- its premises can be met: ours keeps the change of this series
-pub kept : KeptAt ourBox ourWriter writtenIn user file second (change notFound)
+pub kept : KeptAt ourBox ourWriter writtenIn user file second (change (another notFound))
 kept = series writtenIn kept-in-file .1 .0
 
 -- ---- wrong ways
 
 module _ (write : FileWriter) (claim : KeptInFile ourBox ourWriter write) where
-  -- changed at one time and looked up at another, what is found is what was handed out, expired or
+  -- changed at one time and looked up at neighbour, what is found is what was handed out, expired or
   -- not
   must-keep : (changedAt later : ℕ) → changedAt < 2 ^ 32
       → again write user file handedOut changedAt later 0 ≡ aged (isExpired later 0 false changedAt) handedOut
@@ -129,11 +129,11 @@ module _ (write : FileWriter) (claim : KeptInFile ourBox ourWriter write) where
       ap (λ (u : Lookup). again write user file u t later 0) (sym handed-out) ∙ back ∙ ap (aged (isExpired later 0 false t)) handed-out
 
   -- and the other account is still found
-  must-keep-others : findIn 1000 0 another (write user (handedOut .account) 1000 file) ≡ findIn 1000 0 another file
+  must-keep-others : findIn 1000 0 neighbour (write user (handedOut .account) 1000 file) ≡ findIn 1000 0 neighbour file
   unfolding agrees
   must-keep-others =
-      ap (λ (u : Lookup). findIn 1000 0 another (write user (u .account) 1000 file)) (sym handed-out)
-      ∙ series write claim .1 .0 0 1000 1000 0 on-line (omega arith) .2 another refl
+      ap (λ (u : Lookup). findIn 1000 0 neighbour (write user (u .account) 1000 file)) (sym handed-out)
+      ∙ series write claim .1 .0 0 1000 1000 0 on-line (omega arith) .2 neighbour refl
 
 abbrev isOld : Lookup → Bool
 isOld l = l .account .expired
@@ -168,8 +168,8 @@ not-keeping-lm claim =
     true≢false (sym still-lm ∙ ap (λ (l : Lookup). l .account .lm .present) (must-keep keepingLm claim 1000 1000 (omega arith)))
 
 -- loses the others: v is not found any more
-lost : (findIn 1000 0 another (losingOthers user (handedOut .account) 1000 file) .lookup .found ≡ false)
-    × (findIn 1000 0 another file .lookup .found ≡ true)
+lost : (findIn 1000 0 neighbour (losingOthers user (handedOut .account) 1000 file) .lookup .found ≡ false)
+    × (findIn 1000 0 neighbour file .lookup .found ≡ true)
 unfolding changedLine findIn placeOf lines isAccount accountIn agrees digitOf hexOf
 lost = (refl, refl)
 

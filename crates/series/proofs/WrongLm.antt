@@ -85,6 +85,7 @@ lm-peer l =
       account = refl;
       hash = refl;
       permitted = record { enabled = refl; hours = refl; dialin = refl };
+      unlocked = omega arith;
       byLm = by-lm;
       response = ap (λ (f : fields.Response). f .lm) (there .fields);
       admitted = let c = firstConversation (sample l) in

@@ -112,7 +112,7 @@ abbrev following : Opening
 following = openingOn (openedIssued (noRetries retrying)) (Count 0) (incremented challenge)
 
 retrying-opens : opened (noRetries retrying) .refusal ≡ 0
-retrying-opens = may-open-empty (noRetries retrying) (omega arith) (omega arith) six-places refl refl (omega arith)
+retrying-opens = may-open-empty (noRetries retrying) (omega arith) (omega arith) (omega arith) six-places refl refl (omega arith)
 
 following-opens : opened (noRetries following) .refusal ≡ 0
 unfolding opened openedIssued openRefusal spendRefusal badBuffer flatten over agrees ending endings contains containsAny challengesFrom

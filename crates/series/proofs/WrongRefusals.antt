@@ -45,7 +45,7 @@ use Rattle.authenticator.specs.declared.Conversation.{Conversation}
 use Rattle.authenticator.specs.declared.Retries.the-variants.{Count}
 use Rattle.authenticator.proofs.Openings.{opened-first}
 use Rattle.series.specs.Course.{total}
-use Rattle.series.specs.Series.{right, other, start, exchange, next, Demand3}
+use Rattle.series.specs.Series.{own, right, other, start, exchange, next, Demand3}
 use Rattle.series.specs.Boxes.{
   answeringRefused,
   laysReply,
@@ -175,17 +175,17 @@ stray-seen c e =
 -- so with the right password behind it two packets are judged, where it should be one
 pub not-judging-strays : Demand3 box ourWriter → ⊥
 not-judging-strays h =
-    let p = start (opening (Count 1)) [] in
+    let p = start (opening (Count 1)) [] (account false) in
     let q = next box ourWriter p (other stray) in
     let five = ap (λ (c : Conversation). ruledRefusal (unanswered c) stray) first-once
     ∙ stray-refused in
     let all = h (opening (Count 1)) opens-once refl .1 (account false) 0 []
-    (other stray ∷ rightTry false ∷ []) (rightful false) (omega arith) refl
+    (other stray ∷ rightTry ∷ []) (rightful false) (omega arith) (omega arith) refl
     (inr (λ z. omega (arith, five, z)), (right-allowed box ourWriter q false, tt)) in
-    let l = line 55 (found (account false)) in
+    let l = line 55 own in
     let x = exchange box ourWriter q (right old user) l in
     let id = sent-carries box q l (right old user) (all .0 .1 .0 .1) .1
-    ∙ first-id (opening (Count 1)) opens-once refl [] in
+    ∙ first-id (opening (Count 1)) opens-once refl [] (account false) in
     let new = seen-new (q .box) (x .input)
     (ap (λ (a : Option AnsweredPacket). repeatsAnswered a (x .input .packet))
     (stray-seen (p .box .conversation) first-once)

@@ -55,7 +55,7 @@ use Rattle.peer.specs.Write.{responseFields, responseFor}
 use Rattle.peer.specs.declared.Turn.{Turn}
 use Rattle.peer.proofs.Found.{response-found}
 use Rattle.series.specs.Course.{Along, total}
-use Rattle.series.specs.Series.{right, SeriesState, start, exchange, next, Claimed, Demand3}
+use Rattle.series.specs.Series.{own, another, right, SeriesState, start, exchange, next, Claimed, Demand3}
 use Rattle.series.specs.Boxes.{
   repeatsHere,
   judging,
@@ -193,7 +193,7 @@ only = firstConversation (opening (Count 0))
 
 opens-only : opened (opening (Count 0)) .refusal ≡ 0
 opens-only =
-    may-open-empty (opening (Count 0)) (omega arith) (omega arith) three-places refl refl
+    may-open-empty (opening (Count 0)) (omega arith) (omega arith) (omega arith) three-places refl refl
     (omega arith)
 
 abbrev final : AnsweredPacket
@@ -298,33 +298,33 @@ module _ (k : Kind) (h : Demand3 (handsOutAgain k) ourWriter) where
 
   -- the places of the right password and of the change, and behind it
   abbrev p : SeriesState
-  p = start (opening (Count 1)) []
+  p = start (opening (Count 1)) [] (account true)
 
   abbrev q : SeriesState
-  q = next box ourWriter p (rightTry true)
+  q = next box ourWriter p rightTry
 
   abbrev r : SeriesState
-  r = next box ourWriter q (change notFound)
+  r = next box ourWriter q (change (another notFound))
 
   abbrev s : StepInput
-  s = exchange box ourWriter p (right old user) (line 55 (found (account true))) .input
+  s = exchange box ourWriter p (right old user) (line 55 own) .input
 
   abbrev t : StepInput
-  t = exchange box ourWriter q newPassword (line 1118 notFound) .input
+  t = exchange box ourWriter q newPassword (line 1118 (another notFound)) .input
 
   claimed : Along (next box ourWriter) (Claimed box ourWriter (account true)) p
-      (rightTry true ∷ change notFound ∷ [])
+      (rightTry ∷ change (another notFound) ∷ [])
   claimed =
       h (opening (Count 1)) opens-once refl .1 (account true) 0 []
-      (rightTry true ∷ change notFound ∷ []) (rightful true) (omega arith) refl
-      (right-allowed box ourWriter p true, (change-allowed box ourWriter q true notFound, tt)) .0
+      (rightTry ∷ change (another notFound) ∷ []) (rightful true) (omega arith) (omega arith) refl
+      (right-allowed box ourWriter p true, (change-allowed box ourWriter q true (another notFound), tt)) .0
 
   response-sent : octet 0 (s .packet) ≡ responseCode
   response-sent =
-      sent-carries box p (line 55 (found (account true))) (right old user) (claimed .0 .1) .0
+      sent-carries box p (line 55 own) (right old user) (claimed .0 .1) .0
 
   change-sent : octet 0 (t .packet) ≡ changeCode
-  change-sent = sent-carries box q (line 1118 notFound) newPassword (claimed .1 .0 .1) .0
+  change-sent = sent-carries box q (line 1118 (another notFound)) newPassword (claimed .1 .0 .1) .0
 
   -- the first packet is no repeat: our box answered it, and keeps its code
   ours : box (p .box .conversation) s ≡ stepOn (p .box .conversation) s

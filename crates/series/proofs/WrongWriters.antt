@@ -1,7 +1,7 @@
 -- Demand 3 holds of no writer that refuses everything, and of none that asks for the LM response to
 -- be judged.
 -- Assumes nothing.
-use mathlib.Core.Bool.{Bool, true, false, _&&_, true≢false}
+use mathlib.Core.Bool.{Bool, true, false, not, _&&_, true≢false}
 use mathlib.Core.List.{List, [], _∷_, _++_}
 use mathlib.Core.Path.{_≡_, refl, sym, ap, _∙_}
 use Prim.Native.Nat.{ℕ, _≤_}
@@ -20,6 +20,7 @@ use Rattle.message.specs.Reasons.{authenticationFailure}
 use Rattle.authenticator.specs.Opening.{firstConversation}
 use Rattle.authenticator.specs.Admit.{carries, refusalFor}
 use Rattle.authenticator.specs.Encode.{replyPacket}
+use Rattle.verify.specs.Lockout.{isLocked}
 use Rattle.verify.specs.Response.{valid, firstReason, responseReason}
 use Rattle.authenticator.specs.Judge.{mayRetry, replyFor, judgeResponse, judgeIn, judge, validIn}
 use Rattle.authenticator.specs.Step.{Outcome, step}
@@ -31,7 +32,7 @@ use Rattle.authenticator.specs.declared.Phase.the-variants.{Response}
 use Rattle.authenticator.specs.declared.Retries.the-variants.{Default}
 use Rattle.peer.specs.Write.{responseFields, writeResponseRefusal}
 use Rattle.peer.proofs.Left.{left-good}
-use Rattle.series.specs.Series.{right, start, exchange, Demand3}
+use Rattle.series.specs.Series.{own, right, start, exchange, Demand3}
 use Rattle.series.specs.Boxes.{ourBox}
 use Rattle.series.specs.Writers.{refusingToWrite, lmFields, asksForLm}
 use Rattle.series.proofs.Sample.{
@@ -66,9 +67,9 @@ padding-draws-nothing = refl
 pub not-refusing-to-write : (n : ℕ) → Demand3 ourBox (refusingToWrite n) → ⊥
 not-refusing-to-write n h =
     let writer = refusingToWrite n in
-    let p = start (opening Default) [] in
-    let all = h (opening Default) opens-default refl .1 (account false) 0 [] (rightTry false ∷ [])
-    (rightful false) (omega arith) refl
+    let p = start (opening Default) [] (account false) in
+    let all = h (opening Default) opens-default refl .1 (account false) 0 [] (rightTry ∷ [])
+    (rightful false) (omega arith) (omega arith) refl
     (right-allowed ourBox writer p false, tt) in
     let code = ap (octet 0) (all .0 .0 .0 .0) ∙ success-code _ in
     omega (arith, code, ap codeFor first-default ∙ padding-draws-nothing)
@@ -85,9 +86,11 @@ module _ (c : Conversation) (lm : c .terms .lm ≡ false) (ph : c .phase ≡ Res
   unfolding valid
   not-valid = simp (flag, lm)
 
-  found-not : (f : Bool) → (f && validIn c (s .account .account) (readResponse (s .packet))) ≡ false
-  found-not true = not-valid
-  found-not false = refl
+  found-not : (f l : Bool)
+      → (f && (not l && validIn c (s .account .account) (readResponse (s .packet)))) ≡ false
+  found-not true true = refl
+  found-not true false = not-valid
+  found-not false l = refl
 
   fails : judge c (s .packet) (s .account) .reply
       ≡ Failure authenticationFailure (mayRetry c authenticationFailure)
@@ -95,7 +98,7 @@ module _ (c : Conversation) (lm : c .terms .lm ≡ false) (ph : c .phase ≡ Res
   fails =
       ap (λ (x : Phase). judgeIn x c (s .packet) (s .account) .reply) ph
       ∙ ap (λ (v : Bool). replyFor c (firstReason v (s .account .account)))
-      (found-not (s .account .found))
+      (found-not (s .account .found) (isLocked (c .terms) (s .account .account)))
 
   no-success : octet 0 (replyOf (stepOn c s)) ≡ 3 → ⊥
   no-success e = which (case-of c (s .packet) (s .account) (s .buffer))
@@ -117,13 +120,13 @@ module _ (c : Conversation) (lm : c .terms .lm ≡ false) (ph : c .phase ≡ Res
 pub not-asking-for-lm : Demand3 ourBox asksForLm → ⊥
 unfolding writeResponseRefusal responseWriteRefusal
 not-asking-for-lm h =
-    let p = start (opening Default) [] in
-    let all = h (opening Default) opens-default refl .1 (account false) 0 [] (rightTry false ∷ [])
-    (rightful false) (omega arith) refl
+    let p = start (opening Default) [] (account false) in
+    let all = h (opening Default) opens-default refl .1 (account false) 0 [] (rightTry ∷ [])
+    (rightful false) (omega arith) (omega arith) refl
     (right-allowed ourBox asksForLm p false, tt) in
     let f = lmFields (responseFields (p .peer .turn .challenge) old) in
     let packet = responsePacket (p .peer .turn .id) f user in
-    let s = exchange ourBox asksForLm p (right old user) (line 55 (found (account false))) .input in
+    let s = exchange ourBox asksForLm p (right old user) (line 55 own) .input in
     let nt = length-response (ntHashOf old) (p .peer .turn .challenge) in
     let long = writing.length-response (p .peer .turn .id) f user refl nt in
     let same = ap (λ (x : List ℕ). x ++ 9 ∷ []) (left-good 0 packet (replicate 55 0) refl
