@@ -2,7 +2,7 @@
 -- reader finds in it, whatever padding follows.
 -- Assumes nothing.
 use mathlib.Core.Bool.{Bool, true, false, cond}
-use mathlib.Core.List.{List, _++_}
+use mathlib.Core.List.{List, [], _++_}
 use mathlib.Core.Path.{_≡_, refl, sym, ap, _∙_, subst}
 use Prim.Native.Nat.{ℕ, _<_}
 use native.Mathlib.Omega.{arith}
@@ -12,6 +12,8 @@ use Rattle.accounts.specs.declared.Lookup.{Lookup}
 use Rattle.message.specs.Message.{failedWith, noChallenge, succeeded}
 use Rattle.message.specs.Reasons.{changingPassword, noReason}
 use Rattle.message.specs.declared.Reading.{Reading}
+use Rattle.message.specs.declared.Verdict.{Verdict}
+use Rattle.message.specs.declared.Verdict.the-variants as verdicts
 use Rattle.packets.specs.Response.{readResponse}
 use Rattle.packets.specs.Change.{readChange}
 use Rattle.packets.specs.Reply.{readReply}
@@ -100,6 +102,25 @@ read-reply id (Failure e true) behind small =
     failure-read id e 1 version behind small (omega arith) (omega arith)
 read-reply id (Failure e false) behind small =
     failure-read id e 0 version behind small (omega arith) (omega arith)
+
+-- so the octets of a reply tell its reason
+abbrev reasonRead : Verdict → ℕ
+reasonRead verdicts.Success = noReason
+reasonRead (verdicts.Failure f) = f .e
+reasonRead (verdicts.Refused n) = noReason
+
+reason-read : (reply : Reply) → reasonRead (readingFor reply .verdict) ≡ reasonOf reply
+reason-read Success = refl
+reason-read (Failure e retry) = refl
+
+pub reply-tells : (id : ℕ) (r s : Reply) → reasonOf r < 1000 → reasonOf s < 1000
+    → replyPacket id r ≡ replyPacket id s → reasonOf r ≡ reasonOf s
+reply-tells id r s few less e =
+    sym (reason-read r)
+    ∙ ap (λ (x : Reading). reasonRead (x .verdict))
+    (sym (read-reply id r [] few) ∙ ap (λ (x : List ℕ). readReply id (x ++ [])) e
+    ∙ read-reply id s [] less)
+    ∙ reason-read s
 
 module _ (c : Conversation) (s : StepInput) (ok : Passes c (s .packet) (s .buffer)) where
   abbrev reason : ℕ

@@ -21,3 +21,4 @@ pub mod LmOptIn
 pub mod WrongLm
 pub mod AccountFile
 pub mod WrongFiles
+pub mod Guesses

@@ -84,7 +84,7 @@ unknown-reply : (c : Conversation) (p : List ℕ)
 unfolding judgeResponse responseReason firstReason
 unknown-reply c p = refl
 
-failure-either : (id : ℕ) (retry : Bool)
+pub failure-either : (id : ℕ) (retry : Bool)
     → IsAuthenticationFailure id (replyPacket id (Failure authenticationFailure retry))
 failure-either id true = inl refl
 failure-either id false = inr refl

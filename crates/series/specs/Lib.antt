@@ -8,3 +8,4 @@ pub mod Openers
 pub mod OneList
 pub mod LmOptIn
 pub mod AccountFile
+pub mod Guesses
