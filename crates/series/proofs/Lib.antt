@@ -22,3 +22,5 @@ pub mod WrongLm
 pub mod AccountFile
 pub mod WrongFiles
 pub mod Guesses
+pub mod SampleGuesses
+pub mod WrongCounts

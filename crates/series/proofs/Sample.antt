@@ -4,7 +4,7 @@
 use mathlib.Core.Bool.{Bool, true, false, cond, _&&_, false≢true}
 use mathlib.Core.List.{List, [], _∷_}
 use mathlib.Core.Path.{_≡_, refl}
-use Prim.Native.Nat.{ℕ, _≤_}
+use Prim.Native.Nat.{ℕ, _≤_, _<_}
 use native.Mathlib.Omega.{arith}
 use lib.Dec.{eqb}
 use lib.ListN.{length, replicate}
@@ -54,17 +54,23 @@ use Rattle.series.specs.Writers.{Writer}
 
 -- identifier 255 and a challenge that begins with E9, so that both next over their octet; an empty
 -- list of three places
-abbrev pub opening : Retries → Opening
-opening r =
+abbrev pub challenge : List ℕ
+challenge = 0xE9 ∷ 2 ∷ 3 ∷ 4 ∷ 5 ∷ 6 ∷ 7 ∷ 8 ∷ []
+
+abbrev pub openingOf : Retries → ℕ → Opening
+openingOf r limit =
     record {
       id = 255;
-      challenge = 0xE9 ∷ 2 ∷ 3 ∷ 4 ∷ 5 ∷ 6 ∷ 7 ∷ 8 ∷ [];
+      challenge = challenge;
       retries = r;
       lm = Disallowed;
-      limit = 5;
+      limit = limit;
       issued = emptyList 8 3;
       buffer = replicate 17 0;
     }
+
+abbrev pub opening : Retries → Opening
+opening r = openingOf r 5
 
 -- a list of whole places, of which none is used
 pub three-places : badBuffer 8 (replicate 24 0) 0 ≡ false
@@ -74,6 +80,10 @@ three-places = refl
 pub opens-default : opened (opening Default) .refusal ≡ 0
 opens-default = may-open-empty (opening Default) (omega arith) (omega arith) (omega arith) three-places refl refl
     (omega arith)
+
+pub opens-limited : (limit : ℕ) → 0 < limit → opened (openingOf (Count 0) limit) .refusal ≡ 0
+opens-limited limit pos = may-open-empty (openingOf (Count 0) limit) pos (omega arith) (omega arith)
+    three-places refl refl (omega arith)
 
 pub opens-once : opened (opening (Count 1)) .refusal ≡ 0
 opens-once = may-open-empty (opening (Count 1)) (omega arith) (omega arith) (omega arith) three-places refl refl

@@ -1,0 +1,158 @@
+-- Sample guesses: in the first conversation of an opening with no retries and any limit, a Response
+-- by the right password, or one by LM, which is off there, so that it is invalid; with the sample's
+-- record and any count; of a box that judges as ours does and counts by any rule.
+-- Assumes nothing.
+use mathlib.Core.Bool.{Bool, true, false, cond, not, _&&_}
+use mathlib.Core.List.{List, [], _++_}
+use mathlib.Core.Path.{_≡_, refl, sym, ap, ap₂, _∙_}
+use Prim.Native.Nat.{ℕ, _<_}
+use native.Mathlib.Omega.{arith}
+use borrow.Author.Tests.{eq-eqb}
+use lib.Dec.{eqb, leb}
+use lib.ListN.{replicate}
+use Rattle.credentials.specs.Credentials.{ntHashOf}
+use Rattle.credentials.proofs.Laws.{length-response}
+use Rattle.message.specs.Reasons.{authenticationFailure, noReason}
+use Rattle.packets.specs.Codes.{responseCode}
+use Rattle.packets.specs.Frame.{octet}
+use Rattle.packets.specs.Response.{responsePacket, readResponse}
+use Rattle.packets.specs.declared.Response.{Response}
+use Rattle.packets.proofs.ReadBack.{ResponseBack, response-back}
+use Rattle.accounts.specs.Account.{found, withFailures}
+use Rattle.accounts.specs.declared.Account.{Account}
+use Rattle.accounts.specs.declared.Lookup.{Lookup}
+use Rattle.verify.specs.Response.{valid, firstReason, responseReason}
+use Rattle.authenticator.specs.Judge.{validIn, replyFor, judgeResponse, judge}
+use Rattle.authenticator.specs.Encode.{replyPacket}
+use Rattle.authenticator.specs.Opening.{firstConversation}
+use Rattle.authenticator.specs.Step.{Outcome, refusalIn, isRepeated, judgedAs}
+use Rattle.authenticator.specs.Steps.{StepInput, stepOn, Box, replyOf, drewReply, unanswered, isJudged}
+use Rattle.authenticator.specs.declared.Conversation.{Conversation}
+use Rattle.authenticator.specs.declared.Retries.the-variants.{Count}
+use Rattle.authenticator.proofs.Admitted.{Passes}
+use Rattle.authenticator.proofs.Fresh.{fresh-first}
+use Rattle.authenticator.proofs.Steps.{judged-step, reply-of, drew-judged}
+use Rattle.peer.specs.Write.{responseFields, responseFor}
+use Rattle.peer.specs.declared.Turn.{Turn}
+use Rattle.peer.proofs.Found.{response-found}
+use Rattle.series.specs.Boxes.{judgesHere, judging, CountRule, countedBy, countsBy}
+use Rattle.series.specs.Writers.{lmFields}
+use Rattle.series.proofs.Sample.{challenge, openingOf, old, user, account}
+use Rattle.series.proofs.Sent.{seen-new}
+use Rattle.series.proofs.Taken.{response-passes, right-valid}
+
+-- ---- the packets
+
+abbrev turn : Turn
+turn = record { id = 255; challenge = challenge }
+
+abbrev fieldsSaying : Bool → Response
+fieldsSaying true = responseFields challenge old
+fieldsSaying false = lmFields (responseFields challenge old)
+
+-- a valid Response, or an invalid one
+abbrev pub packetSaying : Bool → List ℕ
+packetSaying true = responseFor turn old user ++ []
+packetSaying false = responsePacket 255 (lmFields (responseFields challenge old)) user ++ []
+
+back : (v : Bool) → ResponseBack 255 (fieldsSaying v) user (packetSaying v)
+back true = response-found turn old user [] (omega arith) (omega arith)
+back false = response-back 255 (fieldsSaying false) user [] refl
+    (length-response (ntHashOf old) challenge) (omega arith) (omega arith)
+
+pub said-code : (v : Bool) → octet 0 (packetSaying v) ≡ responseCode
+said-code v = back v .code
+
+pub said-id : (v : Bool) → octet 1 (packetSaying v) ≡ 255
+said-id v = back v .id
+
+flag-small : (v : Bool) → fieldsSaying v .flag < 2
+flag-small true = omega arith
+flag-small false = omega arith
+
+-- ---- one guess
+
+abbrev pub counting : ℕ → Account
+counting n = withFailures n (account false)
+
+module _ (limit n : ℕ) (v : Bool) where
+  abbrev pub first : Conversation
+  first = firstConversation (openingOf (Count 0) limit)
+
+  abbrev pub guess : StepInput
+  guess = record {
+    packet = packetSaying v;
+    account = found (counting n);
+    buffer = replicate 17 0;
+  }
+
+  passes : Passes first (packetSaying v) (replicate 17 0)
+  passes = response-passes first (fresh-first first refl) refl (omega arith) (back v) refl
+      (flag-small v)
+
+  -- the one is valid, and the other is not
+  pub said-valid : (w : Bool) → validIn first (counting n) (readResponse (packetSaying w)) ≡ w
+  unfolding valid
+  said-valid true =
+      right-valid first turn refl old user [] (omega arith, omega arith) (counting n) refl refl
+  said-valid false = simp (ap (λ (f : Response). f .flag) (back false .fields))
+
+  -- judged valid below the limit alone
+  abbrev pub counts : Bool
+  counts = not (leb limit n) && v
+
+  reason : responseReason (first .terms) (first .challenge) (found (counting n))
+      (readResponse (packetSaying v)) ≡ cond counts noReason authenticationFailure
+  unfolding responseReason firstReason
+  reason =
+      ap (λ (w : Bool). firstReason (not (leb limit n) && w) (counting n)) (said-valid v)
+      ∙ which counts
+    where
+      which : (w : Bool) → firstReason w (counting n) ≡ cond w noReason authenticationFailure
+      which true = refl
+      which false = refl
+
+  took : stepOn first guess
+      ≡ judgedAs first (judge first (packetSaying v) (found (counting n))) (replicate 17 0)
+  took = judged-step first (packetSaying v) (found (counting n)) (replicate 17 0) passes
+
+  judges : judgesHere first guess ≡ true
+  judges = ap (λ (o : Outcome). eqb (refusalIn (o .answer .kind)) 0
+      && not (isRepeated (o .answer .kind))) took
+
+  module _ (rule : CountRule) where
+    abbrev pub box : Box
+    box = judging (countsBy rule)
+
+    box-took : box first guess ≡ judgedAs first (countsBy rule first guess) (replicate 17 0)
+    box-took =
+        ap (λ (t : Bool). cond t (judgedAs first (countsBy rule first guess) (replicate 17 0))
+        (stepOn first guess)) judges
+
+    -- it is judged, by what is seen
+    pub guess-judged : isJudged box (unanswered first) guess ≡ true
+    guess-judged =
+        ap₂ (λ (t u : Bool). t && not u)
+        (ap (λ (o : Outcome). drewReply o (replicate 17 0)) box-took
+        ∙ drew-judged first guess (countsBy rule first guess))
+        (seen-new (unanswered first) guess refl)
+
+    -- it draws Success below the limit, where it is valid, and else 691
+    pub guess-reply : replyOf (box first guess)
+        ≡ replyPacket 255 (replyFor first (cond counts noReason authenticationFailure))
+    unfolding judge judgeResponse
+    guess-reply =
+        ap replyOf box-took
+        ∙ reply-of first (countsBy rule first guess) (replicate 17 0) (omega arith)
+        ∙ ap (λ (e : ℕ). replyPacket 255 (replyFor first e)) reason
+
+    -- and the record is handed out as the rule counts
+    pub guess-handed : box first guess .answer .updated
+        ≡ found (withFailures (rule (leb limit n) v n) (account false))
+    guess-handed =
+        ap (λ (o : Outcome). o .answer .updated) box-took
+        ∙ ap (λ (t : Bool). cond t (countedBy rule first guess)
+        (judge first (packetSaying v) (found (counting n)) .updated))
+        (eq-eqb (octet 0 (packetSaying v)) responseCode (said-code v))
+        ∙ ap (λ (w : Bool). found (withFailures (rule (leb limit n) w n) (account false)))
+        (said-valid v)

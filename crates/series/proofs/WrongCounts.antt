@@ -1,0 +1,75 @@
+-- Demand 3 holds of no box that judges as ours does and counts by another rule: of all rules, the
+-- request's alone hands out the record that it should. Four of them by name: from the first record
+-- every time, wrapping at 255, cleared by the right password at the limit, never.
+-- Assumes nothing.
+use mathlib.Core.Bool.{Bool, true, false, cond, false≢true}
+use mathlib.Core.List.{[], _∷_}
+use mathlib.Core.Logic.{_≢_}
+use mathlib.Core.Path.{_≡_, refl, sym, ap, ap₂, _∙_, subst}
+use Prim.Native.Nat.{ℕ, zero, suc, _<_}
+use native.Mathlib.Omega.{arith}
+use borrow.Author.Tests.{le-leb, lt-leb}
+use lib.Dec.{leb}
+use Rattle.accounts.specs.declared.Lookup.{Lookup}
+use Rattle.verify.specs.Lockout.{failuresAfter}
+use Rattle.authenticator.specs.Steps.{unanswered, StepClaim}
+use Rattle.authenticator.specs.declared.Conversation.{Conversation}
+use Rattle.authenticator.specs.declared.Retries.the-variants.{Count}
+use Rattle.authenticator.proofs.Openings.{opened-first}
+use Rattle.series.specs.Series.{Demand3}
+use Rattle.series.specs.Boxes.{judging, CountRule, countsBy, fromFirst, wrapping, clearing}
+use Rattle.series.specs.Boxes.{never}
+use Rattle.series.specs.Writers.{ourWriter}
+use Rattle.series.proofs.Sample.{openingOf, opens-limited}
+use Rattle.series.proofs.SampleGuesses.{first, guess, guess-judged, guess-handed}
+use Rattle.series.proofs.SampleGuesses.{said-code, said-valid}
+
+-- a limit at which a count is locked, or is not
+abbrev limitFor : Bool → ℕ → ℕ
+limitFor locked n = cond locked n (suc n)
+
+locked-so : (locked : Bool) (n : ℕ) → leb (limitFor locked n) n ≡ locked
+locked-so true n = le-leb n n (omega arith)
+locked-so false n = lt-leb (suc n) n (omega arith)
+
+limited : (locked : Bool) (n : ℕ) → (locked ≡ true → 0 < n) → 0 < limitFor locked n
+limited true n h = h refl
+limited false n h = omega arith
+
+-- where a rule counts otherwise than ours, locked or not and valid or not: a locked account has a
+-- count, since every limit is at least 1
+pub one-rule : (rule : CountRule) (locked v : Bool) (n : ℕ) → (locked ≡ true → 0 < n)
+    → rule locked v n ≢ failuresAfter locked v n
+    → Demand3 (judging (countsBy rule)) ourWriter → ⊥
+one-rule rule locked v n pos other h =
+    let limit = limitFor locked n in
+    let opens = opens-limited limit (limited locked n pos) in
+    let s = guess limit n v in
+    let claim = subst (λ (c : Conversation). StepClaim (judging (countsBy rule)) (unanswered c) s)
+    (opened-first (openingOf (Count 0) limit) opens)
+    (h (openingOf (Count 0) limit) opens refl .2 (s ∷ []) .1 .0) in
+    let handed = ap (λ (l : Lookup). l .account .failures)
+    (sym (guess-handed limit n v rule)
+    ∙ claim .handsOut (guess-judged limit n v rule) (said-code v)) in
+    let ours = ap₂ (λ (t w : Bool). failuresAfter t w n) (locked-so locked n)
+    (said-valid limit n v v) in
+    other (ap (λ (t : Bool). rule t v n) (sym (locked-so locked n)) ∙ handed ∙ ours)
+
+pub not-from-first : (k : ℕ) → Demand3 (judging (countsBy (fromFirst k))) ourWriter → ⊥
+unfolding failuresAfter
+not-from-first zero = one-rule (fromFirst zero) false false 1 (λ e. omega arith)
+    (λ e. omega (arith, e))
+not-from-first (suc k) = one-rule (fromFirst (suc k)) false false 0
+    (λ e. absurd (false≢true e)) (λ e. omega (arith, e))
+
+pub not-wrapping : Demand3 (judging (countsBy wrapping)) ourWriter → ⊥
+unfolding failuresAfter
+not-wrapping = one-rule wrapping true false 255 (λ e. omega arith) (λ e. omega (arith, e))
+
+pub not-clearing : Demand3 (judging (countsBy clearing)) ourWriter → ⊥
+unfolding failuresAfter
+not-clearing = one-rule clearing true true 1 (λ e. omega arith) (λ e. omega (arith, e))
+
+pub not-never : Demand3 (judging (countsBy never)) ourWriter → ⊥
+unfolding failuresAfter
+not-never = one-rule never false false 0 (λ e. absurd (false≢true e)) (λ e. omega (arith, e))
