@@ -24,3 +24,5 @@ pub mod WrongFiles
 pub mod Guesses
 pub mod SampleGuesses
 pub mod WrongCounts
+pub mod GuessRuns
+pub mod WrongGuesses

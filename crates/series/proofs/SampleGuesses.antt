@@ -1,6 +1,6 @@
 -- Sample guesses: in the first conversation of an opening with no retries and any limit, a Response
 -- by the right password, or one by LM, which is off there, so that it is invalid; with the sample's
--- record and any count; of a box that judges as ours does and counts by any rule.
+-- record and any count; with our box, and with one that judges as ours does and counts by any rule.
 -- Assumes nothing.
 use mathlib.Core.Bool.{Bool, true, false, cond, not, _&&_}
 use mathlib.Core.List.{List, [], _++_}
@@ -21,6 +21,7 @@ use Rattle.packets.proofs.ReadBack.{ResponseBack, response-back}
 use Rattle.accounts.specs.Account.{found, withFailures}
 use Rattle.accounts.specs.declared.Account.{Account}
 use Rattle.accounts.specs.declared.Lookup.{Lookup}
+use Rattle.verify.specs.Lockout.{failuresAfter}
 use Rattle.verify.specs.Response.{valid, firstReason, responseReason}
 use Rattle.authenticator.specs.Judge.{validIn, replyFor, judgeResponse, judge}
 use Rattle.authenticator.specs.Encode.{replyPacket}
@@ -28,6 +29,7 @@ use Rattle.authenticator.specs.Opening.{firstConversation}
 use Rattle.authenticator.specs.Step.{Outcome, refusalIn, isRepeated, judgedAs}
 use Rattle.authenticator.specs.Steps.{StepInput, stepOn, Box, replyOf, drewReply, unanswered, isJudged}
 use Rattle.authenticator.specs.declared.Conversation.{Conversation}
+use Rattle.authenticator.specs.declared.Judgement.{Judgement}
 use Rattle.authenticator.specs.declared.Retries.the-variants.{Count}
 use Rattle.authenticator.proofs.Admitted.{Passes}
 use Rattle.authenticator.proofs.Fresh.{fresh-first}
@@ -120,39 +122,79 @@ module _ (limit n : ℕ) (v : Bool) where
   judges = ap (λ (o : Outcome). eqb (refusalIn (o .answer .kind)) 0
       && not (isRepeated (o .answer .kind))) took
 
-  module _ (rule : CountRule) where
-    abbrev pub box : Box
-    box = judging (countsBy rule)
-
-    box-took : box first guess ≡ judgedAs first (countsBy rule first guess) (replicate 17 0)
-    box-took =
-        ap (λ (t : Bool). cond t (judgedAs first (countsBy rule first guess) (replicate 17 0))
-        (stepOn first guess)) judges
-
-    -- it is judged, by what is seen
-    pub guess-judged : isJudged box (unanswered first) guess ≡ true
-    guess-judged =
+  -- a box that judges it, by whatever judgement
+  module _ (box : Box) (d : Judgement)
+      (took-so : box first guess ≡ judgedAs first d (replicate 17 0)) where
+    judged-so : isJudged box (unanswered first) guess ≡ true
+    judged-so =
         ap₂ (λ (t u : Bool). t && not u)
-        (ap (λ (o : Outcome). drewReply o (replicate 17 0)) box-took
-        ∙ drew-judged first guess (countsBy rule first guess))
+        (ap (λ (o : Outcome). drewReply o (replicate 17 0)) took-so ∙ drew-judged first guess d)
         (seen-new (unanswered first) guess refl)
 
-    -- it draws Success below the limit, where it is valid, and else 691
-    pub guess-reply : replyOf (box first guess)
-        ≡ replyPacket 255 (replyFor first (cond counts noReason authenticationFailure))
-    unfolding judge judgeResponse
-    guess-reply =
-        ap replyOf box-took
-        ∙ reply-of first (countsBy rule first guess) (replicate 17 0) (omega arith)
-        ∙ ap (λ (e : ℕ). replyPacket 255 (replyFor first e)) reason
+    reply-so : replyOf (box first guess) ≡ replyPacket 255 (d .reply)
+    reply-so = ap replyOf took-so ∙ reply-of first d (replicate 17 0) (omega arith)
 
-    -- and the record is handed out as the rule counts
-    pub guess-handed : box first guess .answer .updated
-        ≡ found (withFailures (rule (leb limit n) v n) (account false))
-    guess-handed =
-        ap (λ (o : Outcome). o .answer .updated) box-took
-        ∙ ap (λ (t : Bool). cond t (countedBy rule first guess)
-        (judge first (packetSaying v) (found (counting n)) .updated))
-        (eq-eqb (octet 0 (packetSaying v)) responseCode (said-code v))
-        ∙ ap (λ (w : Bool). found (withFailures (rule (leb limit n) w n) (account false)))
-        (said-valid v)
+  -- our judgement of it, and the record as a rule counts it
+  reply-drawn : judge first (packetSaying v) (found (counting n)) .reply
+      ≡ replyFor first (cond counts noReason authenticationFailure)
+  unfolding judge judgeResponse
+  reply-drawn = ap (replyFor first) reason
+
+  rule-counted : (rule : CountRule) → countedBy rule first guess
+      ≡ found (withFailures (rule (leb limit n) v n) (account false))
+  rule-counted rule =
+      ap (λ (w : Bool). found (withFailures (rule (leb limit n) w n) (account false)))
+      (said-valid v)
+
+-- What comes of a guess with a box that counts by a rule: it is judged, by what is seen; it draws
+-- Success below the limit, where it is valid, and else 691; and the record is handed out as the
+-- rule counts.
+pub record Guessed (box : Box) (rule : CountRule) (limit : ℕ) : Type 0 where
+  pub judged : (n : ℕ) (v : Bool)
+      → isJudged box (unanswered (first limit n v)) (guess limit n v) ≡ true
+  pub reply : (n : ℕ) (v : Bool) → replyOf (box (first limit n v) (guess limit n v))
+      ≡ replyPacket 255
+      (replyFor (first limit n v) (cond (counts limit n v) noReason authenticationFailure))
+  pub handed : (n : ℕ) (v : Bool) → box (first limit n v) (guess limit n v) .answer .updated
+      ≡ found (withFailures (rule (leb limit n) v n) (account false))
+
+-- a box that judges as ours does and counts by any rule
+pub by-rule : (rule : CountRule) (limit : ℕ) → Guessed (judging (countsBy rule)) rule limit
+by-rule rule limit =
+    record {
+      judged = λ n v. judged-so limit n v box (d n v) (box-took n v);
+      reply = λ n v. reply-so limit n v box (d n v) (box-took n v)
+          ∙ ap (replyPacket 255) (reply-drawn limit n v);
+      handed = λ n v. ap (λ (o : Outcome). o .answer .updated) (box-took n v)
+          ∙ ap (λ (t : Bool). cond t (countedBy rule (first limit n v) (guess limit n v))
+          (judge (first limit n v) (packetSaying v) (found (counting n)) .updated))
+          (eq-eqb (octet 0 (packetSaying v)) responseCode (said-code v))
+          ∙ rule-counted limit n v rule;
+    }
+  where
+    box : Box
+    box = judging (countsBy rule)
+
+    d : ℕ → Bool → Judgement
+    d n v = countsBy rule (first limit n v) (guess limit n v)
+
+    box-took : (n : ℕ) (v : Bool) → box (first limit n v) (guess limit n v)
+        ≡ judgedAs (first limit n v) (d n v) (replicate 17 0)
+    box-took n v =
+        ap (λ (t : Bool). cond t (judgedAs (first limit n v) (d n v) (replicate 17 0))
+        (stepOn (first limit n v) (guess limit n v))) (judges limit n v)
+
+-- and ours
+pub by-ours : (limit : ℕ) → Guessed stepOn failuresAfter limit
+unfolding judge judgeResponse
+by-ours limit =
+    record {
+      judged = λ n v. judged-so limit n v stepOn (d n v) (took limit n v);
+      reply = λ n v. reply-so limit n v stepOn (d n v) (took limit n v)
+          ∙ ap (replyPacket 255) (reply-drawn limit n v);
+      handed = λ n v. ap (λ (o : Outcome). o .answer .updated) (took limit n v)
+          ∙ rule-counted limit n v failuresAfter;
+    }
+  where
+    d : ℕ → Bool → Judgement
+    d n v = judge (first limit n v) (packetSaying v) (found (counting n))

@@ -21,8 +21,7 @@ use Rattle.series.specs.Boxes.{judging, CountRule, countsBy, fromFirst, 
 use Rattle.series.specs.Boxes.{never}
 use Rattle.series.specs.Writers.{ourWriter}
 use Rattle.series.proofs.Sample.{openingOf, opens-limited}
-use Rattle.series.proofs.SampleGuesses.{first, guess, guess-judged, guess-handed}
-use Rattle.series.proofs.SampleGuesses.{said-code, said-valid}
+use Rattle.series.proofs.SampleGuesses.{guess, said-code, said-valid, by-rule}
 
 -- a limit at which a count is locked, or is not
 abbrev limitFor : Bool → ℕ → ℕ
@@ -49,8 +48,8 @@ one-rule rule locked v n pos other h =
     (opened-first (openingOf (Count 0) limit) opens)
     (h (openingOf (Count 0) limit) opens refl .2 (s ∷ []) .1 .0) in
     let handed = ap (λ (l : Lookup). l .account .failures)
-    (sym (guess-handed limit n v rule)
-    ∙ claim .handsOut (guess-judged limit n v rule) (said-code v)) in
+    (sym (by-rule rule limit .handed n v)
+    ∙ claim .handsOut (by-rule rule limit .judged n v) (said-code v)) in
     let ours = ap₂ (λ (t w : Bool). failuresAfter t w n) (locked-so locked n)
     (said-valid limit n v v) in
     other (ap (λ (t : Bool). rule t v n) (sym (locked-so locked n)) ∙ handed ∙ ours)

@@ -98,7 +98,7 @@ lm-peer l =
 abbrev code : Conversation → ℕ
 code c = octet 0 (replyOf (stepOn c sent))
 
-failed : (id : ℕ) (reply : List ℕ) → IsAuthenticationFailure id reply → octet 0 reply ≡ 4
+pub failed : (id : ℕ) (reply : List ℕ) → IsAuthenticationFailure id reply → octet 0 reply ≡ 4
 failed id reply (inl e) = ap (octet 0) e ∙ failure-code id _
 failed id reply (inr e) = ap (octet 0) e ∙ failure-code id _
 
