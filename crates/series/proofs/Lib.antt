@@ -7,6 +7,7 @@ pub mod Ready
 pub mod Demand3
 pub mod Twelve
 pub mod Sample
+pub mod WrongPassword
 pub mod Sent
 pub mod Repeats
 pub mod Witness

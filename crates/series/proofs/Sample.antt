@@ -1,32 +1,25 @@
 -- A sample of what demand 3 speaks of: openings, a record, our peer's packets and what is passed
 -- with them. They meet the premises with any box and writer.
 -- Assumes nothing.
-use mathlib.Core.Bool.{Bool, true, false, cond, _&&_, false≢true}
+use mathlib.Core.Bool.{Bool, false, false≢true}
 use mathlib.Core.List.{List, [], _∷_}
 use mathlib.Core.Path.{_≡_, refl}
 use Prim.Native.Nat.{ℕ, _≤_, _<_}
 use native.Mathlib.Omega.{arith}
-use lib.Dec.{eqb}
 use lib.ListN.{length, replicate}
 use Rattle.issued.specs.Issued.{emptyList, badBuffer}
 use Rattle.credentials.specs.Credentials.{ntHashOf, badNtPassword}
-use Rattle.packets.specs.Response.{readResponse}
-use Rattle.packets.specs.declared.Response as fields
 use Rattle.accounts.specs.Account.{
   noHash,
-  blankAccount,
   notFound,
   found,
   Rightful,
   hashOf,
   accountWith,
 }
-use Rattle.verify.specs.Response.{answers, valid}
-use Rattle.authenticator.specs.Judge.{validIn}
 use Rattle.authenticator.specs.Opening.{Opening, opened}
 use Rattle.authenticator.specs.Steps.{Box}
 use Rattle.accounts.specs.declared.Account.{Account}
-use Rattle.authenticator.specs.declared.Conversation.{Conversation}
 use Rattle.authenticator.specs.declared.Retries.{Retries}
 use Rattle.authenticator.specs.declared.Retries.the-variants.{Default, Count}
 use Rattle.authenticator.specs.declared.LmChoice.the-variants.{Disallowed}
@@ -136,17 +129,6 @@ change l = ours newPassword (line 1118 l)
 
 -- ---- the premises
 
--- no Response is valid for a record with no hash
-no-hash : (c : Conversation) (f : fields.Response) → validIn c blankAccount f ≡ false
-unfolding valid answers
-no-hash c f = which (eqb (f .flag) 1) (c .terms .lm)
-  where
-    which : (t u : Bool) → cond (t && false) false (u && false) ≡ false
-    which true true = refl
-    which true false = refl
-    which false true = refl
-    which false false = refl
-
 -- the limits of a try, with a name of one octet, and of the change
 pub try-within : (password : List ℕ) (l : ExchangeInput) → badNtPassword password ≡ false
     → 55 ≤ length (l .out) → 17 ≤ length (l .buffer)
@@ -169,20 +151,12 @@ new-within l = try-within new (line 55 l) refl (omega arith) (omega arith)
 
 -- at any place, with any box and writer
 module _ (box : Box) (writer : Writer) (p : SeriesState) where
-  -- passed no record, or one with no hash
+  -- passed no record
   pub bad-allowed : (a : Account) → Allowed box writer a p (badTry (another notFound))
   bad-allowed a = (
     try-within bad (line 60 (another notFound)) refl (omega arith) (omega arith),
     λ e. absurd
         (false≢true e),
-  )
-
-  pub blank-allowed : (a : Account) → Allowed box writer a p (badTry (another (found blankAccount)))
-  blank-allowed a = (
-    try-within bad (line 60 (another (found blankAccount))) refl (omega arith) (omega arith),
-    λ e. no-hash (p .box .conversation) (readResponse
-        (exchange box writer p (invalid bad user) (line 60 (another (found blankAccount)))
-        .input .packet)),
   )
 
   pub right-allowed : (expired : Bool) → Allowed box writer (account expired) p rightTry

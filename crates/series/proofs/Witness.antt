@@ -1,8 +1,8 @@
 -- The premises of demand 3 can be met: identifier 255, a challenge that begins with E9, r = 1, LM
--- disallowed, an expired record, one invalid try (with a record that has no hash), the right
--- password and the change, each with padding, refused steps before, between and behind them, and
--- each of the three packets once more after its answer, with another record; and a later
--- conversation.
+-- disallowed, a limit of 5, an expired record that counts three failures, one invalid try (which is
+-- the fourth), the right password and the change, each with padding, refused steps before, between
+-- and behind them, and each of the three packets once more after its answer, with another record;
+-- and a later conversation.
 -- Assumes nothing.
 use mathlib.Core.Bool.{true, false}
 use mathlib.Core.List.{List, [], _∷_}
@@ -14,7 +14,7 @@ use lib.ListN.{replicate}
 use Rattle.issued.specs.Issued.{emptyList}
 use Rattle.message.specs.Message.{textOf}
 use Rattle.packets.specs.Frame.{octet}
-use Rattle.accounts.specs.Account.{blankAccount, notFound, found}
+use Rattle.accounts.specs.Account.{notFound, found, withFailures, Rightful}
 use Rattle.authenticator.specs.Admit.{refusalFor}
 use Rattle.authenticator.specs.Encode.{version}
 use Rattle.authenticator.specs.Opening.{Opening, opened}
@@ -24,7 +24,9 @@ use Rattle.accounts.specs.declared.Account.{Account}
 use Rattle.authenticator.specs.declared.Phase.the-variants.{Ended}
 use Rattle.authenticator.specs.declared.Retries.the-variants.{Default, Count}
 use Rattle.authenticator.specs.declared.LmChoice.the-variants.{Silent}
-use Rattle.authenticator.proofs.Openings.{may-open-empty}
+use Rattle.authenticator.specs.declared.Conversation.{Conversation}
+use Rattle.authenticator.proofs.Openings.{opened-first, may-open-empty}
+use Rattle.packets.specs.declared.ChallengeFields.{ChallengeFields}
 use Rattle.authenticator.proofs.Steps.{drew-answered}
 use Rattle.series.specs.Course.{end, Along, total}
 use Rattle.series.specs.Series.{own, another, right, Step, other, SeriesState, start, exchange, next}
@@ -39,21 +41,23 @@ use Rattle.series.specs.Series.{
 }
 use Rattle.series.specs.Boxes.{ourBox}
 use Rattle.series.specs.Writers.{ourWriter}
-use Rattle.series.proofs.Faithful.{Faithful, faithful-next, opened-faithful, twice-none}
+use Rattle.series.proofs.Faithful.{Faithful, faithful-next, opened-faithful, unjudged-same}
+use Rattle.series.proofs.Faithful.{twice-none}
+use Rattle.series.proofs.RoundTrips.{challenge-read}
+use Rattle.series.proofs.WrongPassword.{own-allowed}
 use Rattle.series.proofs.Sample.{
+  challenge,
   opening,
   three-places,
   opens-once,
   new,
   user,
   account,
-  rightful,
   line,
   badTry,
   rightTry,
   newPassword,
   change,
-  blank-allowed,
   right-allowed,
   change-allowed,
   new-within,
@@ -79,15 +83,22 @@ again s = record { packet = s .packet; account = found (account false); buffer =
 abbrev after : SeriesState → Step → SeriesState
 after = next ourBox ourWriter
 
+-- the record: three failures are counted, and the limit is 5
+abbrev record3 : Account
+record3 = withFailures 3 (account true)
+
+rightful3 : Rightful record3
+rightful3 = record { nt = refl; enabled = refl; hours = refl; dialin = refl }
+
 -- the places of our peer's three packets, and what the box gets of each
 abbrev first : SeriesState
-first = after (start (opening (Count 1)) [] (account true)) (other short)
+first = after (start (opening (Count 1)) [] record3) (other short)
 
 abbrev tried : StepInput
-tried = inputAt ourBox ourWriter first (badTry (another (found blankAccount)))
+tried = inputAt ourBox ourWriter first (badTry own)
 
 abbrev triedTwice : SeriesState
-triedTwice = after (after first (badTry (another (found blankAccount)))) (other (again tried))
+triedTwice = after (after first (badTry own)) (other (again tried))
 
 abbrev second : SeriesState
 second = after triedTwice (other narrow)
@@ -109,7 +120,7 @@ changedTwice = after (after third (change (another notFound))) (other (again cha
 
 abbrev pub steps : List Step
 steps =
-    other short ∷ badTry (another (found blankAccount)) ∷ other (again tried)
+    other short ∷ badTry own ∷ other (again tried)
     ∷ other narrow ∷ rightTry ∷ other (again proved)
     ∷ other short ∷ change (another notFound) ∷ other (again changed) ∷ other narrow ∷ []
 
@@ -140,12 +151,24 @@ again-allowed : (p : BoxState) (s : StepInput) → Faithful p
     → NotJudged stepOn (nextState stepOn p s) (again s)
 again-allowed p s i = inl (twice-none p s (again s) i refl refl)
 
-pub met : Along (next ourBox ourWriter) (Allowed ourBox ourWriter (account true))
-    (start (opening (Count 1)) [] (account true)) steps
+-- the sample's challenge is in force, and our peer has read it
+first-challenge : first .box .conversation .challenge ≡ challenge
+first-challenge =
+    ap (λ (c : Conversation). c .challenge)
+    (unjudged-same _ short (opened-faithful (opening (Count 1)) opens-once)
+    (short-refused (start (opening (Count 1)) [] record3 .box))
+    ∙ opened-first (opening (Count 1)) opens-once)
+
+turn-challenge : first .peer .turn .challenge ≡ challenge
+turn-challenge = ap (λ (f : ChallengeFields). f .challenge)
+    (challenge-read (opening (Count 1)) opens-once refl [])
+
+pub met : Along (next ourBox ourWriter) (Allowed ourBox ourWriter record3)
+    (start (opening (Count 1)) [] record3) steps
 met = (
-  short-refused (start (opening (Count 1)) [] (account true) .box),
+  short-refused (start (opening (Count 1)) [] record3 .box),
   (
-    blank-allowed ourBox ourWriter first (account true),
+    own-allowed ourBox first first-challenge turn-challenge refl record3,
     (
       again-allowed (first .box) tried faithful-first,
       (
@@ -174,13 +197,13 @@ met = (
 -- ---- the claim of this series
 
 -- each packet draws what it should, three are judged, and the conversation has ended
-pub claimed : Along (next ourBox ourWriter) (Claimed ourBox ourWriter (account true))
-    (start (opening (Count 1)) [] (account true)) steps
+pub claimed : Along (next ourBox ourWriter) (Claimed ourBox ourWriter record3)
+    (start (opening (Count 1)) [] record3) steps
     × (total (next ourBox ourWriter) (judgedAt ourBox ourWriter)
-    (start (opening (Count 1)) [] (account true)) steps ≡ 3)
-    × (end (next ourBox ourWriter) (start (opening (Count 1)) [] (account true)) steps .box .conversation .phase
+    (start (opening (Count 1)) [] record3) steps ≡ 3)
+    × (end (next ourBox ourWriter) (start (opening (Count 1)) [] record3) steps .box .conversation .phase
     ≡ Ended)
-claimed = demand3 (opening (Count 1)) opens-once refl .1 (account true) 1 [] steps (rightful true)
+claimed = demand3 (opening (Count 1)) opens-once refl .1 record3 1 [] steps rightful3
     (omega arith) (omega arith) refl met
 
 -- ---- the repeats of this series
