@@ -8,9 +8,11 @@ use loopback::say;
 // What a student needs to read the rest.
 fn key() {
     say(b"A box (the authenticator) and a peer talk MS-CHAP version 1: the six exchanges of");
-    say(b"RFC 2433, B.1, a reply that is missed, a change that is not accepted, and twelve slips,");
-    say(b"each with what to look at. The account is BENCH\\user; its password is 'MyPw', a wrong");
-    say(b"one 'bad', a new one 'MyNewPw'.");
+    say(
+        b"RFC 2433, B.1, a reply that is missed, a change that is not accepted, and 13 slips, each",
+    );
+    say(b"with what to look at. The account is BENCH\\user; its password is 'MyPw', a wrong one");
+    say(b"'bad', a new one 'MyNewPw'.");
     say(b"<- is a packet of the box, -> one of the peer, with its first 64 octets in hexadecimal.");
     say(b"Octets are counted from 0. Behind code, identifier and Length (two octets) a packet has");
     say(b"   Challenge        08, and from octet 5 on the challenge: eight octets to be answered");

@@ -8,6 +8,8 @@ use authenticator::Retries;
 use peer::PacketWritten;
 use peer::Peer;
 
+const LIMIT: u8 = 10;
+
 // A list of issued challenges, of which so many places are used.
 pub struct IssuedList {
     pub octets: [u8; 64],
@@ -15,8 +17,8 @@ pub struct IssuedList {
     pub counts: [u16; 256],
 }
 
-// Both ends: the conversation, the peer, the list as the opening left it, and the record that an
-// accepted change handed out.
+// Both ends: the conversation, the peer, the list as the opening left it, and the record that the
+// last packet handed out.
 pub struct Loopback {
     pub conversation: Conversation,
     pub peer: Peer,
@@ -63,7 +65,7 @@ pub fn account(expired: bool) -> Lookup {
 
 // ---- the opening
 
-fn empty_list() -> IssuedList {
+pub fn empty_list() -> IssuedList {
     let octets = [0u8; 64];
     let counts = [0u16; 256];
     IssuedList {
@@ -93,6 +95,7 @@ fn opening_with(
     challenge: [u8; 8],
     retries: Retries,
     lm: LmChoice,
+    limit: u8,
 ) -> Loopback {
     let mut octets = list.octets;
     let mut counts = list.counts;
@@ -102,6 +105,7 @@ fn opening_with(
         challenge,
         retries,
         lm,
+        limit,
         &mut octets,
         list.used,
         &mut counts,
@@ -125,13 +129,31 @@ fn opening_with(
 }
 
 // The same of a box that was told nothing of LM, so that it does not judge it.
+pub fn opening_limited(
+    list: IssuedList,
+    id: u8,
+    challenge: [u8; 8],
+    retries: Retries,
+    limit: u8,
+) -> Loopback {
+    opening_with(list, id, challenge, retries, LmChoice::Silent, limit)
+}
+
+// The same with a limit that no scene reaches.
 pub fn opening_on(list: IssuedList, id: u8, challenge: [u8; 8], retries: Retries) -> Loopback {
-    opening_with(list, id, challenge, retries, LmChoice::Silent)
+    opening_limited(list, id, challenge, retries, LIMIT)
 }
 
 // The same of a box that was asked for LM, as on a bench with old phones, and is alone on its list.
 pub fn opening_for_lm(id: u8, challenge: [u8; 8], retries: Retries) -> Loopback {
-    opening_with(empty_list(), id, challenge, retries, LmChoice::Allowed)
+    opening_with(
+        empty_list(),
+        id,
+        challenge,
+        retries,
+        LmChoice::Allowed,
+        LIMIT,
+    )
 }
 
 // The opening of a box that is alone on its list.
@@ -183,6 +205,15 @@ pub fn answered(
     loopback.peer = peer;
     loopback.updated = updated;
     loopback
+}
+
+// Prints the count of the record that was handed out, and the box's limit.
+pub fn say_failures(loopback: Loopback) {
+    let updated = loopback.updated;
+    let account = updated.account;
+    let conversation = loopback.conversation;
+    let terms = conversation.terms;
+    lines::failures(account.failures, terms.limit)
 }
 
 // ---- the Response

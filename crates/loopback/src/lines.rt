@@ -150,6 +150,15 @@ pub(crate) fn repeated(kind: Kind) {
     }
 }
 
+// The count of a record that the box handed out.
+pub(crate) fn failures(count: u8, limit: u8) {
+    put(b"      Invalid Responses in a row, by the record that is handed out: ");
+    io::print_decimal(STDOUT_FILENO, count as u64);
+    put(b". At ");
+    io::print_decimal(STDOUT_FILENO, limit as u64);
+    say(b" the account is locked.");
+}
+
 fn desk(text: &[u8]) {
     put(b"      The support desk reads: ");
     say(text);

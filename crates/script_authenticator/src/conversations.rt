@@ -12,16 +12,17 @@ use authenticator::Retries;
 use lists::List;
 use verify::ChangeFault;
 
-// The current conversation, the list that is passed with an opening, the record that is passed with
-// a step, and the one that the last step handed out.
+// The current conversation, the limit and the list that are passed with an opening, the record that
+// is passed with a step, and the one that the last step handed out.
 pub struct ScriptState {
     conversation: Conversation,
+    limit: u8,
     list: List,
     record: Lookup,
     updated: Lookup,
 }
 
-// The conversation of a refused opening: there is no room for its Challenge, whatever the list is.
+// The conversation of a refused opening: it has no limit.
 fn refused_conversation() -> Conversation {
     let mut list = [0u8; 1];
     let mut counts = [0u16; 1];
@@ -31,6 +32,7 @@ fn refused_conversation() -> Conversation {
         [0; 8],
         Retries::Default,
         LmChoice::Silent,
+        0,
         &mut list,
         0,
         &mut counts,
@@ -39,13 +41,15 @@ fn refused_conversation() -> Conversation {
     opened.conversation
 }
 
-// At the start: the conversation of a refused opening, eight empty places, and no records.
+// At the start: the conversation of a refused opening, a limit of 255, eight empty places, and no
+// records.
 pub fn new_state() -> ScriptState {
     let conversation = refused_conversation();
     let list = lists::empty(8);
     let none = records::lookup(b"account -");
     ScriptState {
         conversation,
+        limit: 255,
         list,
         record: none,
         updated: none,
@@ -60,7 +64,7 @@ fn lend(record: Lookup, mut state: ScriptState) -> ScriptState {
     state
 }
 
-// account -, account NT LM MARKS
+// account -, account NT LM MARKS, account NT LM MARKS COUNT
 pub(crate) fn account(line: &[u8], state: ScriptState) -> ScriptState {
     lend(records::lookup(line), state)
 }
@@ -71,6 +75,14 @@ pub(crate) fn relend(state: ScriptState) -> ScriptState {
     if updated.found {
         return lend(updated, state);
     }
+    state
+}
+
+// ---- limit
+
+// limit N
+pub(crate) fn limit(line: &[u8], mut state: ScriptState) -> ScriptState {
+    state.limit = script::octet(line, 1);
     state
 }
 
@@ -130,8 +142,8 @@ struct OpeningLine {
     list: List,
 }
 
-// Opens a conversation with the list.
-fn open_with(line: &[u8], list: List, reply: &mut [u8]) -> OpeningLine {
+// Opens a conversation with the limit and the list.
+fn open_with(line: &[u8], limit: u8, list: List, reply: &mut [u8]) -> OpeningLine {
     let mut octets = list.octets;
     let mut counts = list.counts;
     let size = lists::within(list.size, 1024);
@@ -141,6 +153,7 @@ fn open_with(line: &[u8], list: List, reply: &mut [u8]) -> OpeningLine {
         script::eight(line, 2),
         retries(line),
         lm_choice(line),
+        limit,
         &mut octets[..size],
         list.used,
         &mut counts[..number],
@@ -172,7 +185,7 @@ fn after_opening(opening: OpeningLine, mut state: ScriptState) -> ScriptState {
 // Opens into the reply, and writes the result.
 fn open_into(line: &[u8], reply: &mut [u8], state: ScriptState) -> ScriptState {
     let before = state.list;
-    let opening = open_with(line, before, reply);
+    let opening = open_with(line, state.limit, before, reply);
     put_opened(opening, reply);
     after_opening(opening, state)
 }

@@ -1,5 +1,5 @@
-// The commands of the box (the authenticator): the name in a Response, the record and the list that
-// are passed, an opening and a step.
+// The commands of the box (the authenticator): the name in a Response, the record, the limit and the
+// list that are passed, an opening and a step.
 mod conversations;
 mod lists;
 mod names;
@@ -12,7 +12,7 @@ pub use lists::List;
 // Which of these commands a line has. (In `run` the literal would stand beside values of
 // ScriptState, and the check of a statement grows with what stands beside it.)
 fn command(line: &[u8]) -> usize {
-    script::command(line, b"name account relend list places open step")
+    script::command(line, b"name account relend list places open step limit")
 }
 
 // Runs a line whose command is one of these: writes its result, and answers what goes on to the
@@ -29,6 +29,7 @@ pub fn run(line: &[u8], state: ScriptState) -> ScriptState {
         4 => conversations::places(line, state),
         5 => conversations::open(line, state),
         6 => conversations::step(line, state),
+        7 => conversations::limit(line, state),
         _ => state,
     }
 }

@@ -6,6 +6,7 @@ use authenticator::Conversation;
 use authenticator::LastAnswer;
 use authenticator::Phase;
 use authenticator::Reply;
+use verify::Terms;
 
 // ---- reading
 
@@ -21,16 +22,18 @@ fn mark(line: &[u8], i: usize) -> bool {
     octets::agree(octets::part_of(script::word(line, 3), i, 1), b"1")
 }
 
-// The record that the words NT LM MARKS name, after the command.
+// The record that the words NT LM MARKS COUNT name, after the command; where there is no word
+// COUNT, it is 0.
 fn account(line: &[u8]) -> Account {
-    accounts::account_with(
+    let account = accounts::account_with(
         hash(line, 1),
         hash(line, 2),
         mark(line, 0),
         mark(line, 1),
         mark(line, 2),
         mark(line, 3),
-    )
+    );
+    accounts::with_failures(account, script::octet(line, 4))
 }
 
 // The same, or no record where there is one word only.
@@ -61,7 +64,7 @@ fn put_marks(account: Account) {
     put_mark(account.expired)
 }
 
-// NT/LM/MARKS
+// NT/LM/MARKS/COUNT
 fn put_account(account: Account) {
     let nt = account.nt;
     let lm = account.lm;
@@ -69,7 +72,9 @@ fn put_account(account: Account) {
     script::put(b"/");
     put_hash(lm);
     script::put(b"/");
-    put_marks(account)
+    put_marks(account);
+    script::put(b"/");
+    script::put_number(account.failures as u64)
 }
 
 // The same, with `-` for no record.
@@ -81,12 +86,14 @@ pub(crate) fn put_lookup(lookup: Lookup) {
     script::put_none()
 }
 
-// LM
-fn put_lm(lm: bool) {
-    if lm {
-        return script::put(b" yes ");
+// LM LIMIT
+fn put_terms(terms: Terms) {
+    if terms.lm {
+        script::put(b" yes ")
+    } else {
+        script::put(b" no ")
     }
-    script::put(b" no ")
+    script::put_field(terms.limit as u64)
 }
 
 // PHASE KEPT
@@ -126,7 +133,7 @@ fn put_last(last: LastAnswer) {
     put_reply(reply)
 }
 
-// ID CHALLENGE RETRIES LM PHASE KEPT LAST
+// ID CHALLENGE RETRIES LM LIMIT PHASE KEPT LAST
 pub(crate) fn put_conversation(conversation: Conversation) {
     let terms = conversation.terms;
     let challenge = conversation.challenge;
@@ -136,7 +143,7 @@ pub(crate) fn put_conversation(conversation: Conversation) {
     script::put_named(conversation.id, challenge);
     script::put_space();
     script::put_number(conversation.retries as u64);
-    put_lm(terms.lm);
+    put_terms(terms);
     put_phase(phase, kept);
     script::put_space();
     put_last(last)

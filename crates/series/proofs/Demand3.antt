@@ -371,10 +371,10 @@ module _ (a : Account) (g : Rightful a) (limit : ℕ) where
               (exchange stepOn ourWriter p (invalid password name) l .input .packet)),
           lim,
         )
-        (stored-invalid a limit due (p .account) (l .account)
-        (exchange stepOn ourWriter p (invalid password name) l .outcome) (p .box .conversation)
-        (readResponse (exchange stepOn ourWriter p (invalid password name) l .input .packet)) n
-        (h .1) (x .handed)),
+            (stored-invalid a limit due (p .account) (l .account)
+            (exchange stepOn ourWriter p (invalid password name) l .outcome) (p .box .conversation)
+            (readResponse (exchange stepOn ourWriter p (invalid password name) l .input .packet)) n
+            (h .1) (x .handed)),
       )
   law due p (ours (right password name) l) ((f, i, lim), t, n) h =
       let b = now p in
@@ -401,7 +401,7 @@ module _ (a : Account) (g : Rightful a) (limit : ℕ) where
           right-in-step (p .box .conversation) (p .peer .turn) i (a .expired) b,
           ap (λ (t : Terms). t .limit) (right-terms (a .expired) (p .box .conversation) b) ∙ lim,
         )
-        (fit-cleared a limit due (p .account) (storedAfter (p .account) (l .account) o) n stored),
+            (fit-cleared a limit due (p .account) (storedAfter (p .account) (l .account) o) n stored),
       )
   law due p (ours (passwordChange old new filler) l) ((f, i, lim), t, n) h =
       let there = kept-there p (f .1) in
@@ -427,7 +427,7 @@ module _ (a : Account) (g : Rightful a) (limit : ℕ) where
           ended-in-step (p .box .conversation) (p .peer .turn) i,
           lim,
         )
-        (fit-changed a limit due (p .box .conversation .retries) blankAccount _ (f .2)),
+            (fit-changed a limit due (p .box .conversation .retries) blankAccount _ (f .2)),
       )
 
   -- the record that the change hands out

@@ -238,10 +238,18 @@ module _ (limit : ℕ) (few : limit ≤ mostFailures) where
   one-counted n g a b z (inl e) (inl h) = which (ltb (a .failures) mostFailures) refl
     where
       which : (t : Bool) → ltb (a .failures) mostFailures ≡ t → Counted (n + g) b
-      which true l = inl (omega (arith, z, e,
-          one-more (a .failures) (ltb-true (a .failures) mostFailures l)))
-      which false l = inr (omega (arith, e, never-falls (a .failures),
-          ltb-false (a .failures) mostFailures l))
+      which true l = inl (omega (
+        arith,
+        z,
+        e,
+        one-more (a .failures) (ltb-true (a .failures) mostFailures l),
+      ))
+      which false l = inr (omega (
+        arith,
+        e,
+        never-falls (a .failures),
+        ltb-false (a .failures) mostFailures l,
+      ))
   one-counted n g a b z (inl e) (inr h) = inr (omega (arith, e, never-falls (a .failures)))
   one-counted n g a b z (inr (l, k)) h = inr (omega (arith, l, k))
 
