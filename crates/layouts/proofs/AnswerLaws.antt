@@ -65,12 +65,12 @@ module _ (v : StepResult) (s : SizedAccount (v .updated .account)) (fits : v .re
       let n = length-lookup (v .updated) s in
       result-same (flag-back (v .repeated)) (fromBe-toBe 2 (v .reason) ∙ omega (arith, fits))
       (fault-back (v .fault))
-      (ap decodeLookup (take-all 39 (encodeLookup (v .updated)) (omega arith))
+      (ap decodeLookup (take-all 40 (encodeLookup (v .updated)) (omega arith))
       ∙ lookup-back (v .updated) s)
 
   pub answer-back : layout.decodeAnswer (layout.encodeAnswer v) ≡ v
   answer-back =
-      tagged-back layout.encodeResult layout.decodeResult answerKind 43 v (length-result v s)
+      tagged-back layout.encodeResult layout.decodeResult answerKind 44 v (length-result v s)
       result-back
 
   -- the encoding of an answer is taken for one

@@ -28,12 +28,12 @@ use Rattle.layouts.proofs.RecordLaws.{SizedAccount, decoded-account-siz
 use Rattle.layouts.proofs.RecordLaws.{flag-back, account-back}
 use Rattle.layouts.proofs.LastAnswerLaws.{length-last, decoded-reason, last-back}
 
-pub conversation-same : {t t' : Bool} {i i' r r' : ℕ} {c c' : List ℕ} {p p' : Phase}
-    {k k' : Account} {l l' : LastAnswer} → t ≡ t' → i ≡ i' → c ≡ c' → r ≡ r' → p ≡ p' → k ≡ k'
-    → l ≡ l'
+pub conversation-same : {t t' : Bool} {m m' i i' r r' : ℕ} {c c' : List ℕ} {p p' : Phase}
+    {k k' : Account} {l l' : LastAnswer} → t ≡ t' → m ≡ m' → i ≡ i' → c ≡ c' → r ≡ r' → p ≡ p'
+    → k ≡ k' → l ≡ l'
     → _≡_ {A = Conversation}
     (record {
-      terms = record { lm = t };
+      terms = record { lm = t; limit = m };
       id = i;
       challenge = c;
       retries = r;
@@ -42,7 +42,7 @@ pub conversation-same : {t t' : Bool} {i i' r r' : ℕ} {c c' : List ℕ} {p p' 
       last = l;
     })
     (record {
-      terms = record { lm = t' };
+      terms = record { lm = t'; limit = m' };
       id = i';
       challenge = c';
       retries = r';
@@ -50,17 +50,18 @@ pub conversation-same : {t t' : Bool} {i i' r r' : ℕ} {c c' : List ℕ} {p p' 
       kept = k';
       last = l';
     })
-conversation-same e₁ e₂ e₃ e₄ e₅ e₆ e₇ = cc
+conversation-same e₁ e₂ e₃ e₄ e₅ e₆ e₇ e₈ = cc
 
 pub state-pieces : (c : Conversation) {code : ℕ} → code ≡ awaitedCode (c .phase)
-    → (code ∷ records.flag (c .terms .lm) ∷ c .id ∷ c .retries
+    → (code ∷ records.flag (c .terms .lm) ∷ c .terms .limit ∷ c .id ∷ c .retries
     ∷ (c .challenge ++ records.encodeAccount (c .kept)))
     ++ encodeLast (c .last)
     ≡ layout.encodeState c
 unfolding layout.encodeState
 state-pieces c e =
     ap₂
-    (λ (code : ℕ) (l : List ℕ). code ∷ records.flag (c .terms .lm) ∷ c .id ∷ c .retries ∷ l) e
+    (λ (code : ℕ) (l : List ℕ). code ∷ records.flag (c .terms .lm) ∷ c .terms .limit ∷ c .id
+    ∷ c .retries ∷ l) e
     (append-assoc (c .challenge) (records.encodeAccount (c .kept)) (encodeLast (c .last)))
 
 -- ---- the sizes of a value's arrays, which the code's types fix
@@ -93,7 +94,7 @@ pub length-encoded-conversation : (bytes : List ℕ) → layout.isEncodedConvers
     → length bytes ≡ layout.conversationSize
 unfolding layout.isEncodedConversation
 length-encoded-conversation =
-    encoding-length layout.encodeConversation layout.decodeConversation 58
+    encoding-length layout.encodeConversation layout.decodeConversation 60
     (λ (bytes : List ℕ). ap (λ (n : ℕ). suc (suc n))
     (length-state (layout.decodeConversation bytes) (decoded-conversation-sized bytes)))
 
@@ -110,7 +111,7 @@ module _ (c : Conversation) (s : SizedConversation c) where
       ≡ withLast (decodeLast (encodeLast (c .last))) c
   unfolding layout.encodeState layout.decodeState
   state-again =
-      conversation-same (flag-back (c .terms .lm)) refl
+      conversation-same (flag-back (c .terms .lm)) refl refl
       (ap (fixed 8) (challenge .0) ∙ fixed-same 8 (c .challenge) (s .challenge)) refl
       (phase-back (c .phase))
       (ap records.decodeAccount (account .0) ∙ account-back (c .kept) (s .kept))
@@ -125,21 +126,22 @@ module _ (c : Conversation) (s : SizedConversation c) where
 
       bytes : List ℕ
       bytes =
-          awaitedCode (c .phase) ∷ records.flag (c .terms .lm) ∷ c .id ∷ c .retries
+          awaitedCode (c .phase) ∷ records.flag (c .terms .lm) ∷ c .terms .limit ∷ c .id
+          ∷ c .retries
           ∷ (c .challenge ++ (kept ++ last))
 
-      challenge : (part 4 8 bytes ≡ c .challenge) × (drop 12 bytes ≡ kept ++ last)
-      challenge = field bytes 4 8 (c .challenge) (kept ++ last) refl (s .challenge)
+      challenge : (part 5 8 bytes ≡ c .challenge) × (drop 13 bytes ≡ kept ++ last)
+      challenge = field bytes 5 8 (c .challenge) (kept ++ last) refl (s .challenge)
 
-      account : (part 12 38 bytes ≡ kept) × (drop 50 bytes ≡ last)
+      account : (part 13 39 bytes ≡ kept) × (drop 52 bytes ≡ last)
       account =
-          field bytes 12 38 kept last (challenge .1) (length-account (c .kept) (s .kept))
+          field bytes 13 39 kept last (challenge .1) (length-account (c .kept) (s .kept))
 
   again : layout.decodeConversation (layout.encodeConversation c)
       ≡ withLast (decodeLast (encodeLast (c .last))) c
   again =
       ap layout.decodeState
-      (take-all 56 (layout.encodeState c) (omega (arith, length-state c s)))
+      (take-all 58 (layout.encodeState c) (omega (arith, length-state c s)))
       ∙ state-again
 
   pub conversation-back : reasonOf (c .last .reply) < 65536

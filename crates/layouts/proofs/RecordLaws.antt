@@ -34,20 +34,28 @@ pub hash-same : {p p' : Bool} {o o' : List ℕ} → p ≡ p' → o ≡ o'
     → _≡_ {A = Hash} (record { present = p; octets = o }) (record { present = p'; octets = o' })
 hash-same e f = cc
 
-pub account-same : {n n' l l' : Hash} {d d' h h' o o' e e' : Bool} → n ≡ n' → l ≡ l' → d ≡ d'
-    → h ≡ h' → o ≡ o' → e ≡ e'
+pub account-same : {n n' l l' : Hash} {d d' h h' o o' e e' : Bool} {k k' : ℕ} → n ≡ n' → l ≡ l'
+    → d ≡ d' → h ≡ h' → o ≡ o' → e ≡ e' → k ≡ k'
     → _≡_ {A = Account}
-    (record { nt = n; lm = l; disabled = d; «hours_denied» = h; «dialin_denied» = o; expired = e })
+    (record {
+      nt = n;
+      lm = l;
+      disabled = d;
+      «hours_denied» = h;
+      «dialin_denied» = o;
+      expired = e;
+      failures = k;
+    })
     (record {
       nt = n';
       lm = l';
       disabled = d';
       «hours_denied» = h';
       «dialin_denied» = o';
-      expired =
-          e';
+      expired = e';
+      failures = k';
     })
-account-same e₁ e₂ e₃ e₄ e₅ e₆ = cc
+account-same e₁ e₂ e₃ e₄ e₅ e₆ e₇ = cc
 
 pub lookup-same : {f f' : Bool} {a a' : Account} → f ≡ f' → a ≡ a'
     → _≡_ {A = Lookup} (record { found = f; account = a }) (record { found = f'; account = a' })
@@ -56,11 +64,12 @@ lookup-same e₁ e₂ = cc
 -- ---- an encoding is its pieces
 
 pub account-pieces : (a : Account)
-    → ((((layout.encodeHash (a .nt) ++ layout.encodeHash (a .lm))
+    → (((((layout.encodeHash (a .nt) ++ layout.encodeHash (a .lm))
     ++ (layout.flag (a .disabled) ∷ []))
     ++ (layout.flag (a .«hours_denied») ∷ []))
     ++ (layout.flag (a .«dialin_denied») ∷ []))
-    ++ (layout.flag (a .expired) ∷ [])
+    ++ (layout.flag (a .expired) ∷ []))
+    ++ (a .failures ∷ [])
     ≡ layout.encodeAccount a
 unfolding layout.encodeAccount
 account-pieces a = simp append-assoc
@@ -111,7 +120,7 @@ account-back a s =
     account-same (ap layout.decodeHash (first .0) ∙ hash-back (a .nt) (s .nt))
     (ap layout.decodeHash (second .0) ∙ hash-back (a .lm) (s .lm))
     (flagged 0 ∙ flag-back (a .disabled)) (flagged 1 ∙ flag-back (a .«hours_denied»))
-    (flagged 2 ∙ flag-back (a .«dialin_denied»)) (flagged 3 ∙ flag-back (a .expired))
+    (flagged 2 ∙ flag-back (a .«dialin_denied»)) (flagged 3 ∙ flag-back (a .expired)) (behind 4)
   where
     nt : List ℕ
     nt = layout.encodeHash (a .nt)
@@ -119,25 +128,26 @@ account-back a s =
     lm : List ℕ
     lm = layout.encodeHash (a .lm)
 
-    flags : List ℕ
-    flags =
+    rest : List ℕ
+    rest =
         layout.flag (a .disabled) ∷ layout.flag (a .«hours_denied») ∷ layout.flag
         (a .«dialin_denied»)
-        ∷ layout.flag (a .expired) ∷ []
+        ∷ layout.flag (a .expired) ∷ a .failures ∷ []
 
     bytes : List ℕ
-    bytes = nt ++ (lm ++ flags)
+    bytes = nt ++ (lm ++ rest)
 
-    first : (part 0 17 bytes ≡ nt) × (drop 17 bytes ≡ lm ++ flags)
-    first = field bytes 0 17 nt (lm ++ flags) refl (ap suc (s .nt))
+    first : (part 0 17 bytes ≡ nt) × (drop 17 bytes ≡ lm ++ rest)
+    first = field bytes 0 17 nt (lm ++ rest) refl (ap suc (s .nt))
 
-    second : (part 17 17 bytes ≡ lm) × (drop 34 bytes ≡ flags)
-    second = field bytes 17 17 lm flags (first .1) (ap suc (s .lm))
+    second : (part 17 17 bytes ≡ lm) × (drop 34 bytes ≡ rest)
+    second = field bytes 17 17 lm rest (first .1) (ap suc (s .lm))
 
-    flagged : (i : ℕ) → layout.isFlag (octet (34 + i) bytes) ≡ layout.isFlag (octet i flags)
-    flagged i =
-        ap layout.isFlag
-        (sym (getD-drop 34 bytes i 0) ∙ ap (λ (l : List ℕ). getD l i 0) (second .1))
+    behind : (i : ℕ) → octet (34 + i) bytes ≡ octet i rest
+    behind i = sym (getD-drop 34 bytes i 0) ∙ ap (λ (l : List ℕ). getD l i 0) (second .1)
+
+    flagged : (i : ℕ) → layout.isFlag (octet (34 + i) bytes) ≡ layout.isFlag (octet i rest)
+    flagged i = ap layout.isFlag (behind i)
 
 pub lookup-back : (l : Lookup) → SizedAccount (l .account)
     → layout.decodeLookup (layout.encodeLookup l) ≡ l
@@ -145,14 +155,14 @@ unfolding layout.encodeLookup layout.decodeLookup
 lookup-back l s =
     let n = length-account (l .account) s in
     lookup-same (flag-back (l .found))
-    (ap layout.decodeAccount (take-all 38 (layout.encodeAccount (l .account)) (omega arith))
+    (ap layout.decodeAccount (take-all 39 (layout.encodeAccount (l .account)) (omega arith))
     ∙ account-back (l .account) s)
 
 -- what is decoded from a record is what was encoded
 pub record-back : (l : Lookup) → SizedAccount (l .account)
     → layout.decodeRecord (layout.encodeRecord l) ≡ l
 record-back l s =
-    tagged-back layout.encodeLookup layout.decodeLookup recordKind 39 l (length-lookup l s)
+    tagged-back layout.encodeLookup layout.decodeLookup recordKind 40 l (length-lookup l s)
     (lookup-back l s)
 
 -- the encoding of a record is taken for one

@@ -1,6 +1,7 @@
 -- The layout of what C keeps of a step's answer: whether the reply is the last one again, its
 -- reason (0 is Success), what is wrong with a change that was judged (document 02, request
--- 2026-04), and the record that an accepted change updates, or none.
+-- 2026-04), and the record that is handed out, or none: that of a judged Response with its count
+-- (request 2026-09), or the one that an accepted change updates.
 -- Assumes nothing: these are definitions.
 use mathlib.Core.Bool.{Bool}
 use mathlib.Core.List.{List, [], _∷_, _++_}
@@ -15,10 +16,10 @@ use Rattle.layouts.specs.declared.StepResult.{StepResult}
 
 -- the sizes, in bytes
 abbrev pub resultSize : ℕ
-resultSize = 43
+resultSize = 44
 
 abbrev pub answerSize : ℕ
-answerSize = 45
+answerSize = 46
 
 abbrev pub repeatedAt : ℕ
 repeatedAt = 0

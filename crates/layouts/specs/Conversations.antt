@@ -18,10 +18,10 @@ use Rattle.layouts.specs.LastAnswers.{lastSize, encodeLast, decodeLast}
 
 -- the sizes, in bytes
 abbrev pub stateSize : ℕ
-stateSize = 56
+stateSize = 58
 
 abbrev pub conversationSize : ℕ
-conversationSize = 58
+conversationSize = 60
 
 -- the phase that awaits a code: 2 is a Response, 6 a change; else the conversation has ended
 abbrev pub phaseOf : ℕ → Phase
@@ -33,30 +33,33 @@ awaitedAt = 0
 abbrev pub lmAllowedAt : ℕ
 lmAllowedAt = 1
 
+abbrev pub limitAt : ℕ
+limitAt = 2
+
 abbrev pub identifierAt : ℕ
-identifierAt = 2
+identifierAt = 3
 
 abbrev pub retriesAt : ℕ
-retriesAt = 3
+retriesAt = 4
 
 abbrev pub challengeAt : ℕ
-challengeAt = 4
+challengeAt = 5
 
 abbrev pub keptAt : ℕ
-keptAt = 12
+keptAt = 13
 
 abbrev pub lastAt : ℕ
-lastAt = 50
+lastAt = 52
 
 unfoldable pub encodeState : Conversation → List ℕ
 encodeState c =
-    awaitedCode (c .phase) ∷ flag (c .terms .lm) ∷ c .id ∷ c .retries
+    awaitedCode (c .phase) ∷ flag (c .terms .lm) ∷ c .terms .limit ∷ c .id ∷ c .retries
     ∷ (c .challenge ++ (encodeAccount (c .kept) ++ encodeLast (c .last)))
 
 unfoldable pub decodeState : List ℕ → Conversation
 decodeState bytes =
     record {
-      terms = record { lm = isFlag (octet lmAllowedAt bytes) };
+      terms = record { lm = isFlag (octet lmAllowedAt bytes); limit = octet limitAt bytes };
       id = octet identifierAt bytes;
       challenge = fixed challengeSize (part challengeAt challengeSize bytes);
       retries = octet retriesAt bytes;

@@ -20,13 +20,13 @@ abbrev pub optionalHashSize : ℕ
 optionalHashSize = 17
 
 abbrev pub accountSize : ℕ
-accountSize = 38
+accountSize = 39
 
 abbrev pub lookupSize : ℕ
-lookupSize = 39
+lookupSize = 40
 
 abbrev pub recordSize : ℕ
-recordSize = 41
+recordSize = 42
 
 -- ---- flags and hashes
 
@@ -65,12 +65,15 @@ dialinDeniedAt = 36
 abbrev pub expiredAt : ℕ
 expiredAt = 37
 
+abbrev pub failuresAt : ℕ
+failuresAt = 38
+
 unfoldable pub encodeAccount : Account → List ℕ
 encodeAccount a =
     encodeHash (a .nt)
     ++ (encodeHash (a .lm)
     ++ (flag (a .disabled) ∷ flag (a .«hours_denied») ∷ flag (a .«dialin_denied») ∷ flag
-    (a .expired) ∷ []))
+    (a .expired) ∷ a .failures ∷ []))
 
 unfoldable pub decodeAccount : List ℕ → Account
 decodeAccount bytes =
@@ -81,6 +84,7 @@ decodeAccount bytes =
       «hours_denied» = isFlag (octet hoursDeniedAt bytes);
       «dialin_denied» = isFlag (octet dialinDeniedAt bytes);
       expired = isFlag (octet expiredAt bytes);
+      failures = octet failuresAt bytes;
     }
 
 -- ---- what a lookup found: whether there is an account, and the account

@@ -21,9 +21,9 @@ ghost use Rattle.layouts.specs.Answers.{encodeAnswer, decodeAnswer};
 ghost use Rattle.layouts.specs.Answers.{isEncodedAnswer, answerSize};
 ghost use Rattle.layouts.specs.Inner.{inRoom};
 
-const RESULT_SIZE: usize = 43;
+const RESULT_SIZE: usize = 44;
 
-pub const ANSWER_SIZE: usize = 45;
+pub const ANSWER_SIZE: usize = 46;
 
 // A
 pub(crate) const ANSWER_KIND: u8 = 65;

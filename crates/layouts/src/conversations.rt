@@ -24,9 +24,9 @@ ghost use Rattle.layouts.specs.Conversations.{encodeConversation, decode
 ghost use Rattle.layouts.specs.Conversations.{isEncodedConversation, conversationSize};
 ghost use Rattle.layouts.specs.Inner.{inRoom};
 
-const STATE_SIZE: usize = 56;
+const STATE_SIZE: usize = 58;
 
-pub const CONVERSATION_SIZE: usize = 58;
+pub const CONVERSATION_SIZE: usize = 60;
 
 // C
 pub(crate) const CONVERSATION_KIND: u8 = 67;
@@ -35,15 +35,17 @@ const AWAITED_AT: usize = 0;
 
 const LM_ALLOWED_AT: usize = 1;
 
-const IDENTIFIER_AT: usize = 2;
+const LIMIT_AT: usize = 2;
 
-const RETRIES_AT: usize = 3;
+const IDENTIFIER_AT: usize = 3;
 
-const CHALLENGE_AT: usize = 4;
+const RETRIES_AT: usize = 4;
 
-const KEPT_AT: usize = 12;
+const CHALLENGE_AT: usize = 5;
 
-const LAST_AT: usize = 50;
+const KEPT_AT: usize = 13;
+
+const LAST_AT: usize = 52;
 
 fn phase_of(code: u8) -> Phase
     ensures { λ r. ⌜ r ≡ phaseOf code ⌝ }
@@ -67,6 +69,7 @@ fn encode_state(conversation: Conversation) -> Room
     let last = conversation.last;
     let mut room = put_byte(empty_room(), AWAITED_AT, authenticator::awaited_code(phase));
     room = put_flag(room, LM_ALLOWED_AT, terms.lm);
+    room = put_byte(room, LIMIT_AT, terms.limit);
     room = put_byte(room, IDENTIFIER_AT, conversation.id);
     room = put_byte(room, RETRIES_AT, conversation.retries);
     room = put_eight(room, CHALLENGE_AT, challenge);
@@ -79,13 +82,14 @@ fn decode_state(bytes: &[u8]) -> Conversation
 {
     let phase = phase_of(packets::octet(bytes, AWAITED_AT));
     let lm = is_flag(packets::octet(bytes, LM_ALLOWED_AT));
+    let limit = packets::octet(bytes, LIMIT_AT);
     let id = packets::octet(bytes, IDENTIFIER_AT);
     let retries = packets::octet(bytes, RETRIES_AT);
     let challenge = octets::eight_at(bytes, CHALLENGE_AT);
     let kept = decode_account(octets::part_of(bytes, KEPT_AT, ACCOUNT_SIZE));
     let last = decode_last(octets::part_of(bytes, LAST_AT, LAST_SIZE));
     Conversation {
-        terms: Terms { lm },
+        terms: Terms { lm, limit },
         id,
         challenge,
         retries,

@@ -43,8 +43,8 @@ pub use records::put_record;
 use verify::ChangeFault;
 
 // What C keeps of a step's answer: whether the reply is the last one again, its reason (0 is
-// Success), what is wrong with a change that was judged, and the record that an accepted change
-// updates, or none.
+// Success), what is wrong with a change that was judged, and the record that is handed out, or
+// none: that of a judged Response with its count, or the one that an accepted change updates.
 pub struct StepResult {
     pub repeated: bool,
     pub reason: u16,

@@ -3,6 +3,7 @@ use crate::room::Room;
 use crate::room::TAG_SIZE;
 use crate::room::empty_room;
 use crate::room::is_value;
+use crate::room::put_byte;
 use crate::room::put_flag;
 use crate::room::put_sixteen;
 use crate::room::put_value;
@@ -24,14 +25,14 @@ ghost use Rattle.layouts.specs.Inner.{roomSize};
 
 pub(crate) const OPTIONAL_HASH_SIZE: usize = 17;
 
-pub(crate) const ACCOUNT_SIZE: usize = 38;
+pub(crate) const ACCOUNT_SIZE: usize = 39;
 
-pub(crate) const LOOKUP_SIZE: usize = 39;
+pub(crate) const LOOKUP_SIZE: usize = 40;
 
-pub const RECORD_SIZE: usize = 41;
+pub const RECORD_SIZE: usize = 42;
 
 // R
-const RECORD_KIND: u8 = 82;
+pub(crate) const RECORD_KIND: u8 = 82;
 
 // Places in an account.
 const NT_AT: usize = 0;
@@ -45,6 +46,8 @@ const HOURS_DENIED_AT: usize = 35;
 const DIALIN_DENIED_AT: usize = 36;
 
 const EXPIRED_AT: usize = 37;
+
+const FAILURES_AT: usize = 38;
 
 // Places in what a lookup found.
 const FOUND_AT: usize = 0;
@@ -92,7 +95,8 @@ pub(crate) fn encode_account(mut room: Room, at: usize, account: Account) -> Roo
     room = put_flag(room, at + DISABLED_AT, account.disabled);
     room = put_flag(room, at + HOURS_DENIED_AT, account.hours_denied);
     room = put_flag(room, at + DIALIN_DENIED_AT, account.dialin_denied);
-    put_flag(room, at + EXPIRED_AT, account.expired)
+    room = put_flag(room, at + EXPIRED_AT, account.expired);
+    put_byte(room, at + FAILURES_AT, account.failures)
 }
 
 pub(crate) fn decode_account(bytes: &[u8]) -> Account
@@ -104,7 +108,9 @@ pub(crate) fn decode_account(bytes: &[u8]) -> Account
     let hours = is_flag(packets::octet(bytes, HOURS_DENIED_AT));
     let dialin = is_flag(packets::octet(bytes, DIALIN_DENIED_AT));
     let expired = is_flag(packets::octet(bytes, EXPIRED_AT));
-    accounts::account_with(nt, lm, disabled, hours, dialin, expired)
+    let failures = packets::octet(bytes, FAILURES_AT);
+    let account = accounts::account_with(nt, lm, disabled, hours, dialin, expired);
+    accounts::with_failures(account, failures)
 }
 
 pub(crate) fn encode_lookup(mut room: Room, at: usize, lookup: Lookup) -> Room

@@ -3,6 +3,7 @@
 use crate::answers::ANSWER_KIND;
 use crate::buffers::fill;
 use crate::conversations::CONVERSATION_KIND;
+use crate::records::RECORD_KIND;
 use crate::records::flag;
 ghost use mathlib.Core.Path.{_≡_};
 ghost use mathlib.Core.List.{[], _∷_};
@@ -13,11 +14,11 @@ ghost use Rattle.layouts.specs.Values.{layoutVersion, tagged};
 ghost use Rattle.layouts.specs.Records.{flag};
 ghost use Rattle.layouts.specs.Inner.{roomSize};
 
-const ROOM_SIZE: usize = 56;
+const ROOM_SIZE: usize = 58;
 
 pub(crate) const TAG_SIZE: usize = 2;
 
-const VALUE_SIZE: usize = 58;
+const VALUE_SIZE: usize = 60;
 
 pub(crate) struct Room {
     pub bytes: [u8; ROOM_SIZE],
@@ -79,11 +80,14 @@ pub(crate) fn put_two(room: Room, at: usize, octets: [u8; 2]) -> Room
 pub(crate) fn layout_version(kind: u8) -> u8
     ensures { λ r. ⌜ r ≡ layoutVersion kind ⌝ }
 {
-    if kind == CONVERSATION_KIND {
+    if kind == RECORD_KIND {
         return 2;
     }
-    if kind == ANSWER_KIND {
+    if kind == CONVERSATION_KIND {
         return 3;
+    }
+    if kind == ANSWER_KIND {
+        return 4;
     }
     1
 }

@@ -19,7 +19,7 @@ returns c =
     let decoded = encoded .before in
     let bytes = decoded .before .before .args .bytes .now in
     let v = decodeAnswer bytes in
-    compared answerKind 43 (omega arith) (encodeResult v)
+    compared answerKind 44 (omega arith) (encodeResult v)
     (length-result v (decoded-answer-sized bytes))
     (encoded .encode-result .ensures ∙ ap (λ (u : StepResult). inRoom (encodeResult u))
     (decoded .decode-answer .ensures)) bytes

@@ -19,7 +19,7 @@ returns c =
     let encoded = put .before .before in
     let start = encoded .before .before in
     let v = start .args .result in
-    filled answerKind 43 (omega arith) (encodeResult v) (length-result v (sized start))
+    filled answerKind 44 (omega arith) (encodeResult v) (length-result v (sized start))
     (encoded .encode-result .ensures)
     (put .put-value .ensures)
 

@@ -17,10 +17,12 @@ returns c =
     let challenge = kept .before .before in
     let retries = challenge .before in
     let id = retries .before in
-    let lm = id .before in
+    let limit = id .before in
+    let lm = limit .before in
     let phase = lm .before .before in
     conversation-same (lm .is-flag .ensures ∙ ap isFlag (lm .before .octet2 .ensures))
-    (id .octet3 .ensures) (challenge .eight-at .ensures) (retries .octet4 .ensures)
+    (limit .octet3 .ensures) (id .octet4 .ensures) (challenge .eight-at .ensures)
+    (retries .octet5 .ensures)
     (phase .phase-of .ensures ∙ ap phaseOf (phase .before .octet .ensures))
     (kept .decode-account .ensures ∙ ap decodeAccount (kept .before .part-of .ensures))
     (c .decode-last .ensures ∙ ap decodeLast (c .before .part-of2 .ensures))
@@ -31,4 +33,5 @@ decode-state-spec =
     (tie.spec
     (λ c κs. search needs) (λ c κs. search needs) (λ c κs. search needs) (λ c κs. search needs)
     (λ c κs. search needs) (λ c κs. search needs) (λ c κs. search needs) (λ c κs. search needs)
-    (λ c κs. search needs) (λ c κs. search needs) (λ c κs. search needs) returns)
+    (λ c κs. search needs) (λ c κs. search needs) (λ c κs. search needs) (λ c κs. search needs)
+    returns)

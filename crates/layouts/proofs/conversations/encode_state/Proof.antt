@@ -26,7 +26,8 @@ returns c =
     let challenge = kept .before in
     let retries = challenge .before in
     let id = retries .before in
-    let lm = id .before in
+    let limit = id .before in
+    let lm = limit .before in
     let phase = lm .before in
     let code = phase .before in
     let empty = code .before in
@@ -35,13 +36,14 @@ returns c =
     let room = empty .empty-room .result .bytes in
     let s₁ = first 0 room (code .awaited-code .result ∷ []) 1 refl (phase .put-byte .ensures) in
     let s₂ = next s₁ (flag (v .terms .lm) ∷ []) 1 refl (lm .put-flag .ensures) in
-    let s₃ = next s₂ (v .id ∷ []) 1 refl (id .put-byte2 .ensures) in
-    let s₄ = next s₃ (v .retries ∷ []) 1 refl (retries .put-byte3 .ensures) in
-    let s₅ = next s₄ (v .challenge) 8 (long start) (challenge .put-eight .ensures) in
-    let s₆ =
-    next s₅ (encodeAccount (v .kept)) 38 (length-account (v .kept) (kept-sized start))
+    let s₃ = next s₂ (v .terms .limit ∷ []) 1 refl (limit .put-byte2 .ensures) in
+    let s₄ = next s₃ (v .id ∷ []) 1 refl (id .put-byte3 .ensures) in
+    let s₅ = next s₄ (v .retries ∷ []) 1 refl (retries .put-byte4 .ensures) in
+    let s₆ = next s₅ (v .challenge) 8 (long start) (challenge .put-eight .ensures) in
+    let s₇ =
+    next s₆ (encodeAccount (v .kept)) 39 (length-account (v .kept) (kept-sized start))
     (kept .encode-account .ensures) in
-    last s₆ (encodeLast (v .last)) (c .encode-last .ensures)
+    last s₇ (encodeLast (v .last)) (c .encode-last .ensures)
     ∙ ap₂ over (state-pieces v (code .awaited-code .ensures)) (empty .empty-room .ensures)
 
 pub encode-state-spec : {M : Type 1} → statement M
@@ -50,4 +52,4 @@ encode-state-spec =
     (tie.spec
     (λ c κs. search needs) (λ c κs. search needs) (λ c κs. search needs) (λ c κs. search needs)
     (λ c κs. search needs) (λ c κs. search needs) (λ c κs. search needs) (λ c κs. search needs)
-    (λ c κs. search needs) returns)
+    (λ c κs. search needs) (λ c κs. search needs) returns)

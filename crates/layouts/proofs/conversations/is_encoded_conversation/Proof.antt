@@ -20,7 +20,7 @@ returns c =
     let decoded = encoded .before in
     let bytes = decoded .before .before .args .bytes .now in
     let v = decodeConversation bytes in
-    compared conversationKind 56 (omega arith) (encodeState v)
+    compared conversationKind 58 (omega arith) (encodeState v)
     (length-state v (decoded-conversation-sized bytes))
     (encoded .encode-state .ensures ∙ ap (λ (u : Conversation). inRoom (encodeState u))
     (decoded .decode-conversation .ensures)) bytes

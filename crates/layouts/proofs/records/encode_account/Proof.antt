@@ -17,7 +17,8 @@ sized c = record { nt = search needs; lm = search needs }
 -- each field in turn, the last first
 returns : tie.Need-returns
 returns c =
-    let dialin = c .before in
+    let expired = c .before in
+    let dialin = expired .before in
     let hours = dialin .before in
     let disabled = hours .before in
     let lm = disabled .before in
@@ -34,7 +35,8 @@ returns c =
     let s₃ = next s₂ (flag (account .disabled) ∷ []) 1 refl (disabled .put-flag .ensures) in
     let s₄ = next s₃ (flag (account .«hours_denied») ∷ []) 1 refl (hours .put-flag2 .ensures) in
     let s₅ = next s₄ (flag (account .«dialin_denied») ∷ []) 1 refl (dialin .put-flag3 .ensures) in
-    last s₅ (flag (account .expired) ∷ []) (c .put-flag4 .ensures)
+    let s₆ = next s₅ (flag (account .expired) ∷ []) 1 refl (expired .put-flag4 .ensures) in
+    last s₆ (account .failures ∷ []) (c .put-byte .ensures)
     ∙ ap (λ (l : List ℕ). overAt (a .at) l room) (account-pieces account)
 
 pub encode-account-spec : {M : Type 1} → statement M
@@ -43,4 +45,5 @@ encode-account-spec =
     (tie.spec
     (λ c κs. search needs) (λ c. search needs) (λ c κs. search needs) (λ c. search needs)
     (λ c κs. search needs) (λ c. search needs) (λ c κs. search needs) (λ c. search needs)
-    (λ c κs. search needs) (λ c. search needs) (λ c κs. search needs) returns)
+    (λ c κs. search needs) (λ c. search needs) (λ c κs. search needs) (λ c. search needs)
+    (λ c κs. search needs) returns)

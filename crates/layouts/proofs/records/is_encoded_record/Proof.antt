@@ -19,8 +19,8 @@ returns c =
     let empty = decoded .before in
     let bytes = empty .before .before .args .bytes .now in
     let v = decodeRecord bytes in
-    compared recordKind 39 (omega arith) (encodeLookup v)
-    (length-lookup v (decoded-lookup-sized (bodyIn 39 bytes)))
+    compared recordKind 40 (omega arith) (encodeLookup v)
+    (length-lookup v (decoded-lookup-sized (bodyIn 40 bytes)))
     (encoded .encode-lookup .ensures
     ∙ ap₂ over (ap encodeLookup (decoded .decode-record .ensures)) (empty .empty-room .ensures))
     bytes (c .is-value .ensures)

@@ -21,7 +21,7 @@ returns c =
     let empty = encoded .before in
     let start = empty .before .before in
     let v = start .args .lookup in
-    filled recordKind 39 (omega arith) (encodeLookup v) (length-lookup v (sized start))
+    filled recordKind 40 (omega arith) (encodeLookup v) (length-lookup v (sized start))
     (encoded .encode-lookup .ensures ∙ ap (over (encodeLookup v)) (empty .empty-room .ensures))
     (put .put-value .ensures)
 
