@@ -1,5 +1,5 @@
--- Flags and hashes: a record that was made of them says the same, and what is read of a record
--- makes the same record.
+-- Flags and hashes: a record that was made of them says the same, and what is read of a record,
+-- its count among it, makes the same record.
 -- Assumes nothing.
 use mathlib.Core.Path.{_≡_, refl, ap, _∙_}
 use mathlib.Core.Bool.{Bool, true, false}
@@ -8,6 +8,7 @@ use Prim.Native.Nat.{ℕ, zero, suc, _+_, _*_, _/_, _%_, _<_, _≤_}
 use native.Mathlib.Omega.{arith}
 use Rattle.octets.specs.Parts.{part}
 use Rattle.octets.proofs.Parts.{length-fixed, fixed-whole}
+use Rattle.accounts.specs.Account.{lookupOf, withFailures}
 use Rattle.accounts.specs.declared.Lookup.{Lookup}
 use Rattle.layouts.specs.Records.{flag, isFlag, encodeRecord, decodeRecord, isEncodedRecord}
 use Rattle.layouts.proofs.RecordLaws.{SizedAccount, flag-back, record-fits, record-back}
@@ -78,9 +79,10 @@ flags-back flags nt lm h =
     together _ _ _ _ _ _ _ flags h (bit (flags / 1)) (bit (flags / 2)) (bit (flags / 4))
     (bit (flags / 8)) (bit (flags / 16)) (bit (flags / 32)) (bit (flags / 64))
 
--- what is read of a record makes the same record
+-- what is read of a record makes the same record, once its count is set
 pub record-again : (l : Lookup) → SizedAccount (l .account)
-    → recordFrom (flagsOf l) (l .account .nt .octets) (l .account .lm .octets) ≡ l
+    → let made = recordFrom (flagsOf l) (l .account .nt .octets) (l .account .lm .octets) in
+    lookupOf (made .found) (withFailures (l .account .failures) (made .account)) ≡ l
 unfolding flagsOf recordFrom
 record-again l s =
     let a = l .account in
@@ -98,4 +100,4 @@ record-again l s =
     (ap isFlag (bits .3) ∙ flag-back (a .disabled))
     (ap isFlag (bits .4) ∙ flag-back (a .«hours_denied»))
     (ap isFlag (bits .5) ∙ flag-back (a .«dialin_denied»))
-    (ap isFlag (bits .6) ∙ flag-back (a .expired)))
+    (ap isFlag (bits .6) ∙ flag-back (a .expired)) refl)

@@ -1,4 +1,4 @@
--- A record as C makes and reads it: flags and hashes.
+-- A record as C makes and reads it: flags and hashes. Its count is set and read by itself.
 -- Assumes nothing: these are definitions.
 use mathlib.Core.Bool.{Bool, cond, _&&_}
 use mathlib.Core.List.{List}
@@ -57,6 +57,7 @@ flagsOf l =
 abbrev pub passedHash : List ℕ → List ℕ
 passedHash hash = fixed hashSize (part 0 hashSize hash)
 
+-- with count 0
 unfoldable pub recordFrom : ℕ → List ℕ → List ℕ → Lookup
 recordFrom flags nt lm =
     lookupOf (isSet foundFlag flags)

@@ -1,5 +1,7 @@
--- The terms of an opening as C passes them: three numbers in one, so that more can be joined to
--- them, and no identifier is taken for them. The highest says that they are terms.
+-- The terms of an opening as C passes them: four numbers in one, an octet each. The one below the
+-- highest says that they are terms, so that no identifier is taken for them. The highest is the
+-- limit (document 02, request 2026-09): terms that say nothing of one have 0, which the opening
+-- refuses.
 -- Assumes nothing: these are definitions.
 use mathlib.Core.Bool.{Bool, cond, _&&_}
 use Prim.Native.Nat.{ℕ, _-_, _/_, _%_}
@@ -9,8 +11,11 @@ use Rattle.authenticator.specs.declared.Retries.the-variants.{Default, Count}
 use Rattle.authenticator.specs.declared.LmChoice.{LmChoice}
 use Rattle.authenticator.specs.declared.LmChoice.the-variants.{Silent, Allowed, Disallowed}
 
+abbrev pub limitTerm : ℕ → ℕ
+limitTerm terms = terms / 16777216
+
 abbrev pub termsKind : ℕ → ℕ
-termsKind terms = terms / 65536
+termsKind terms = terms / 65536 % 256
 
 abbrev pub lmTerm : ℕ → ℕ
 lmTerm terms = terms / 256 % 256

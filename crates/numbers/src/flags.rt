@@ -1,4 +1,4 @@
-// A record as C makes and reads it: flags and hashes.
+// A record as C makes and reads it: flags and hashes. One that is made counts no failures.
 use accounts::Lookup;
 use packets::HASH_SIZE;
 use refusals::both;

@@ -14,5 +14,6 @@ pub use results::number_of;
 pub use results::result_of;
 pub use results::verdict_number;
 pub use terms::is_terms;
+pub use terms::limit_in;
 pub use terms::lm_in;
 pub use terms::retries_in;

@@ -3,12 +3,13 @@ use authenticator::LmChoice;
 use authenticator::Retries;
 use refusals::both;
 ghost use mathlib.Core.Path.{_≡_};
-ghost use Rattle.numbers.specs.Terms.{isTerms, retriesFor, lmFor, retriesTerm, lmTerm};
+ghost use Rattle.numbers.specs.Terms.{isTerms, retriesFor, lmFor};
+ghost use Rattle.numbers.specs.Terms.{retriesTerm, lmTerm, limitTerm};
 
 pub fn is_terms(terms: u32) -> bool
     ensures { λ r. ⌜ r ≡ isTerms terms ⌝ }
 {
-    both(terms / 65536 == 1, terms / 256 % 256 < 3)
+    both(terms / 65536 % 256 == 1, terms / 256 % 256 < 3)
 }
 
 fn retries_for(n: u8) -> Retries
@@ -42,4 +43,11 @@ pub fn lm_in(terms: u32) -> LmChoice
     ensures { λ r. ⌜ r ≡ lmFor (lmTerm terms) ⌝ }
 {
     lm_for((terms / 256 % 256) as u8)
+}
+
+// How many invalid Responses in a row lock an account; 0 where the terms say nothing of it.
+pub fn limit_in(terms: u32) -> u8
+    ensures { λ r. ⌜ r ≡ limitTerm terms ⌝ }
+{
+    (terms / 16777216) as u8
 }

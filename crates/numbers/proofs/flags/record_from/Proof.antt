@@ -1,6 +1,6 @@
 -- `numbers::flags::record_from` meets its contract.
 -- Assumes nothing.
-use mathlib.Core.Path.{_∙_}
+use mathlib.Core.Path.{refl, _∙_}
 use Rattle.layouts.proofs.RecordLaws.{hash-same, account-same, lookup-same}
 use Rattle.numbers.specs.Flags.{recordFrom}
 use Rattle.numbers.proofs.flags.record_from.Statement.{statement}
@@ -28,7 +28,7 @@ returns c =
     (lm .hash-if2 .ensures ∙ hash-same (lm .before .before .is-set2 .ensures)
     (lm .before .sixteen-at2 .ensures))
     (disabled .is-set3 .ensures) (hours .is-set4 .ensures) (dialin .is-set5 .ensures)
-    (expired .is-set6 .ensures))
+    (expired .is-set6 .ensures) refl)
 
 pub record-from-spec : {M : Type 1} → statement M
 record-from-spec =
