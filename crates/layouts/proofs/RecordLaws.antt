@@ -17,9 +17,9 @@ use Rattle.accounts.specs.declared.Hash.{Hash}
 use Rattle.accounts.specs.declared.Account.{Account}
 use Rattle.accounts.specs.declared.Lookup.{Lookup}
 use Rattle.packets.specs.Sizes.{hashSize}
-use Rattle.layouts.specs.Values.{recordKind}
+use Rattle.layouts.specs.Values.{recordKind, bodyIn}
 use Rattle.layouts.specs.Records as layout
-use Rattle.layouts.proofs.Encodings.{encoding-fits, tagged-back}
+use Rattle.layouts.proofs.Encodings.{encoding-fits, encoding-length, tagged-back}
 
 -- ---- flags
 
@@ -102,6 +102,18 @@ pub length-lookup : (l : Lookup) → SizedAccount (l .account)
     → length (layout.encodeLookup l) ≡ layout.lookupSize
 unfolding layout.encodeLookup
 length-lookup l s = ap suc (length-account (l .account) s)
+
+pub decoded-record-sized : (bytes : List ℕ) → SizedAccount (layout.decodeRecord bytes .account)
+decoded-record-sized bytes = decoded-lookup-sized (bodyIn layout.lookupSize bytes)
+
+-- what is taken for a record has the size of one
+pub length-encoded-record : (bytes : List ℕ) → layout.isEncodedRecord bytes ≡ true
+    → length bytes ≡ layout.recordSize
+unfolding layout.isEncodedRecord
+length-encoded-record =
+    encoding-length layout.encodeRecord layout.decodeRecord 42
+    (λ (bytes : List ℕ). ap (λ (n : ℕ). suc (suc n))
+    (length-lookup (layout.decodeRecord bytes) (decoded-record-sized bytes)))
 
 -- ---- round trips
 

@@ -24,7 +24,7 @@ use Rattle.authenticator.specs.declared.Judgement.{Judgement}
 use Rattle.authenticator.specs.Judge.{reasonOf, mayRetry, replyFor, afterReason}
 use Rattle.authenticator.specs.Judge.{judgeResponse, changeJudgement, judgeChange}
 use Rattle.authenticator.specs.Judge.{judgeIn, judge}
-use Rattle.verify.specs.Response.{responseReason}
+use Rattle.verify.specs.Response.{counted, responseReason}
 use Rattle.verify.specs.Accepted.{lengthFor, hashFor}
 use Rattle.verify.specs.Faults.{faultNumber, isFaultless}
 use Rattle.verify.specs.Change.{changeFault, checkedChange}
@@ -43,15 +43,14 @@ use Rattle.authenticator.specs.declared.Phase.the-variants.{Response, Change, E
 use Rattle.layouts.specs.Conversations.{encodeConversation, decodeConversation}
 use Rattle.layouts.specs.Conversations.{isEncodedConversation}
 use Rattle.layouts.specs.Answers.{encodeAnswer, decodeAnswer, isEncodedAnswer}
-use Rattle.layouts.specs.Records.{encodeRecord, decodeRecord, isEncodedRecord, lookupSize}
+use Rattle.layouts.specs.Records.{encodeRecord, decodeRecord, isEncodedRecord}
 use Rattle.layouts.specs.Call.{numbered}
-use Rattle.layouts.specs.Values.{bodyIn}
 use Rattle.layouts.proofs.Filling.{both}
 use Rattle.layouts.specs.declared.StepResult.{StepResult}
 use Rattle.numbers.specs.Results.{resultOf}
 use Rattle.mschap.specs.Sizes.{valueOr}
 use Rattle.mschap.specs.Step.{stepOf, stepArguments, StepCall, answerFault}
-use Rattle.layouts.proofs.RecordLaws.{SizedAccount, decoded-lookup-sized, record-fits}
+use Rattle.layouts.proofs.RecordLaws.{SizedAccount, decoded-record-sized, record-fits}
 use Rattle.layouts.proofs.AnswerLaws.{decoded-answer-sized, answer-fits, answer-back}
 use Rattle.layouts.proofs.ConversationLaws.{SizedConversation, conversation-fits}
 use Rattle.layouts.proofs.ConversationLaws.{decoded-conversation-sized, last-reason-small}
@@ -142,9 +141,11 @@ module _ (c : Conversation) (s : SizedConversation c) where
   judge-in-sized Response p l t =
       let f = readResponse p in
       let e = responseReason (c .terms) (c .challenge) l f in
+      let a = counted (c .terms) (c .challenge) (l .account) f in
+      let whole : SizedAccount a = record { nt = t .nt; lm = t .lm } in
       record {
-        next = after-sized (l .account) e t;
-        updated = blank-sized;
+        next = after-sized a e whole;
+        updated = whole;
         reason =
             reason-small c e (three-digits (response-reason (c .terms) (c .challenge) f l));
       }
@@ -188,7 +189,7 @@ module _ (conversation packet account buffer : List ℕ)
   sizes =
       step-sized (decodeConversation conversation) (decoded-conversation-sized conversation)
       (last-reason-small conversation valid) packet (decodeRecord account) buffer
-      (decoded-lookup-sized (bodyIn lookupSize account))
+      (decoded-record-sized account)
 
   pub step-fits : (isEncodedConversation (encodeConversation (done .answer .next)) ≡ true)
       × (isEncodedAnswer (encodeAnswer (resultOf (done .answer))) ≡ true)

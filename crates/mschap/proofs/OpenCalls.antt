@@ -50,12 +50,12 @@ passed id terms challenge list conversation e =
     let h₁ = both (ltb id 256) _ e in
     let h₂ = both (isTerms terms) _ (h₁ .1) in
     let h₃ = both (sized 8 challenge) _ (h₂ .1) in
-    let h₄ = both (isList list) (sized 58 conversation) (h₃ .1) in
+    let h₄ = both (isList list) (sized 60 conversation) (h₃ .1) in
     record {
       small = h₁ .0;
       eight = eqb-true (length challenge) 8 (h₃ .0);
       head = list-head list (h₄ .0);
-      room = eqb-true (length conversation) 58 (h₄ .1);
+      room = eqb-true (length conversation) 60 (h₄ .1);
     }
 
 -- ---- a refused opening leaves the reply buffer alone
@@ -72,12 +72,20 @@ reply-kept o = by (eqb (openRefusal o) 0) refl
 
 -- ---- the opening on a list that is encoded
 
-pub opening-same : {c c' : List ℕ} {r r' : Retries} {l l' : LmChoice} {i i' : Issued} (id : ℕ)
-    (buffer : List ℕ) → c ≡ c' → r ≡ r' → l ≡ l' → i ≡ i'
+pub opening-same : {c c' : List ℕ} {r r' : Retries} {l l' : LmChoice} {m m' : ℕ} {i i' : Issued}
+    (id : ℕ) (buffer : List ℕ) → c ≡ c' → r ≡ r' → l ≡ l' → m ≡ m' → i ≡ i'
     → _≡_ {A = Opening}
-    (record { id = id; challenge = c; retries = r; lm = l; issued = i; buffer = buffer })
-    (record { id = id; challenge = c'; retries = r'; lm = l'; issued = i'; buffer = buffer })
-opening-same id buffer e₁ e₂ e₃ e₄ = cc
+    (record { id = id; challenge = c; retries = r; lm = l; limit = m; issued = i; buffer = buffer })
+    (record {
+      id = id;
+      challenge = c';
+      retries = r';
+      lm = l';
+      limit = m';
+      issued = i';
+      buffer = buffer;
+    })
+opening-same id buffer e₁ e₂ e₃ e₄ e₅ = cc
 
 -- the places are all that follows the head
 pub places-whole : (list : List ℕ) → take (length list - 4) (drop 4 list) ≡ drop 4 list

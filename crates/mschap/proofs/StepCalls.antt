@@ -30,7 +30,7 @@ unfolding stepArguments
 step-sizes conversation account out e =
     let h = both (isEncodedConversation conversation) _ e in (
       length-encoded-conversation conversation (h .0),
-      eqb-true (length out) 45 (both (isEncodedRecord account) (sized 45 out) (h .1) .1),
+      eqb-true (length out) 46 (both (isEncodedRecord account) (sized 46 out) (h .1) .1),
     )
 
 -- a refused packet leaves the buffer alone

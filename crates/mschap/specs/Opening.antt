@@ -10,7 +10,7 @@ use Rattle.authenticator.specs.Opening.{Opening, opened, openedIssued, openedBu
 use Rattle.layouts.specs.Call.{sized, numbered, afterCall}
 use Rattle.layouts.specs.Lists.{encodeList, decodeList, isList}
 use Rattle.layouts.specs.Conversations.{conversationSize, encodeConversation}
-use Rattle.numbers.specs.Terms.{isTerms, retriesFor, retriesTerm, lmFor, lmTerm}
+use Rattle.numbers.specs.Terms.{isTerms, retriesFor, retriesTerm, lmFor, lmTerm, limitTerm}
 
 -- identifiers are below this
 abbrev pub identifiersEnd : ℕ
@@ -24,6 +24,7 @@ openingFor id terms challenge list reply =
       challenge = challenge;
       retries = retriesFor (retriesTerm terms);
       lm = lmFor (lmTerm terms);
+      limit = limitTerm terms;
       issued = decodeList list;
       buffer = reply;
     }

@@ -10,6 +10,7 @@ use layouts::put_conversation;
 use layouts::put_list_head;
 use layouts::used_in;
 use numbers::is_terms;
+use numbers::limit_in;
 use numbers::lm_in;
 use numbers::retries_in;
 use packets::CHALLENGE_SIZE;
@@ -51,6 +52,7 @@ fn open_on(id: u8, terms: u32, challenge: &[u8], list: &mut [u8], reply: &mut [u
     let sent = octets::eight_at(challenge, 0);
     let tries = retries_in(terms);
     let choice = lm_in(terms);
+    let limit = limit_in(terms);
     let used = used_in(list) as usize;
     let mut counts = issued::true_counts(places_in(list), used, CHALLENGE_SIZE).counts;
     let answer = Conversation::open(
@@ -58,6 +60,7 @@ fn open_on(id: u8, terms: u32, challenge: &[u8], list: &mut [u8], reply: &mut [u
         sent,
         tries,
         choice,
+        limit,
         &mut list[LIST_HEAD_SIZE..],
         used,
         &mut counts,
@@ -71,8 +74,8 @@ fn open_on(id: u8, terms: u32, challenge: &[u8], list: &mut [u8], reply: &mut [u
 
 // Opens a conversation with an identifier, terms and a challenge. Adds the challenge and its
 // successors to the list of issued challenges. Writes the Challenge into reply, and the
-// conversation. 13: over 7 retries. 2: reply has under 17 bytes. 24: a bad list. 16: a challenge
-// that was issued before. 17: the list is full.
+// conversation. 18: limit 0, also where the terms say nothing of one. 13: over 7 retries. 2: reply
+// has under 17 bytes. 24: a bad list. 16: a challenge that was issued before. 17: the list is full.
 #[no_mangle]
 pub extern "C" fn mschap_open(
     id: u32,

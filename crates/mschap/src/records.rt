@@ -1,4 +1,5 @@
-// A record: made of flags and hashes, and read.
+// A record: made of flags and hashes, read, and its count read and set.
+use crate::INVALID;
 use layouts::BAD_ARGUMENT;
 use layouts::decode_record;
 use layouts::is_encoded_record;
@@ -10,7 +11,10 @@ use packets::HASH_SIZE;
 use refusals::both;
 ghost use mathlib.Core.Path.{_≡_};
 ghost use Rattle.mschap.specs.Records.{MakeRecordCall, readRecordArguments};
-ghost use Rattle.mschap.specs.Records.{ReadRecordCall};
+ghost use Rattle.mschap.specs.Records.{ReadRecordCall, recordFailures};
+ghost use Rattle.mschap.specs.Records.{setFailuresArguments, SetFailuresCall};
+
+const FAILURES_END: u32 = 256;
 
 // Makes a record of flags and hashes.
 #[no_mangle]
@@ -58,4 +62,37 @@ pub extern "C" fn mschap_read_record(
     octets::copy(nt, &nt_hash);
     octets::copy(lm, &lm_hash);
     0
+}
+
+// ---- its count
+
+// How many Responses in a row were judged invalid.
+#[no_mangle]
+pub extern "C" fn mschap_record_failures(account: &[u8]) -> u32
+    ensures { λ r. ⌜ r ≡ recordFailures (now (account .entry)) ⌝ }
+{
+    if !is_encoded_record(account) {
+        return INVALID;
+    }
+    decode_record(account).account.failures as u32
+}
+
+fn are_set_failures_arguments(account: &[u8], failures: u32) -> bool
+    ensures { λ r. ⌜ r ≡ setFailuresArguments (now (account .entry)) failures ⌝ }
+{
+    both(is_encoded_record(account), failures < FAILURES_END)
+}
+
+// Sets the count of a record, at most 255. With 0 the account is unlocked.
+#[no_mangle]
+pub extern "C" fn mschap_set_failures(account: &mut [u8], failures: u32) -> u32
+    ensures { λ r. ⌜ SetFailuresCall (now (account .entry)) failures r (now (account .exit)) ⌝ }
+{
+    if !are_set_failures_arguments(account, failures) {
+        return BAD_ARGUMENT;
+    }
+    let lookup = decode_record(account);
+    let before = lookup.account;
+    let after = accounts::with_failures(before, failures as u8);
+    put_record(0, accounts::lookup_of(lookup.found, after), account)
 }

@@ -54,8 +54,9 @@ fn put_stepped(answer: Answer, conversation: &mut [u8], out: &mut [u8]) -> u32
 
 // One step of a conversation: a packet, the record of the named account or none, and a reply
 // buffer. The next conversation takes the place of this one, and answer has whether the reply is
-// the last one again, its reason, what is wrong with a change, and the record that an accepted
-// change updates, or none. 1 to 7: the packet is refused.
+// the last one again, its reason, what is wrong with a change, and a record or none: after every
+// judged Response that was passed one, that record with its count; after an accepted change, the
+// new one. 1 to 7: the packet is refused.
 #[no_mangle]
 pub extern "C" fn mschap_step(
     conversation: &mut [u8],
@@ -120,7 +121,8 @@ fn are_answer_record_arguments(answer: &[u8], out: &[u8]) -> bool
     both(is_encoded_answer(answer), out.len() == RECORD_SIZE)
 }
 
-// The record that an accepted change updates. 102: there is none.
+// The record that is to be stored: after every judged Response that was passed one, that record
+// with its count; after an accepted change, the new one. 102: there is none.
 #[no_mangle]
 pub extern "C" fn mschap_answer_record(answer: &[u8], out: &mut [u8]) -> u32
     ensures { λ r. ⌜ AnswerRecordCall (now (answer .entry)) (now (out .entry)) r

@@ -3,9 +3,9 @@
 use mathlib.Core.Path.{ap, ap₂, _∙_}
 use native.Mathlib.Omega.{arith}
 use Rattle.octets.specs.Parts.{over}
-use Rattle.layouts.specs.Values.{recordKind, bodyIn}
+use Rattle.layouts.specs.Values.{recordKind}
 use Rattle.layouts.specs.Records.{encodeLookup, decodeRecord, isEncodedRecord}
-use Rattle.layouts.proofs.RecordLaws.{length-lookup, decoded-lookup-sized}
+use Rattle.layouts.proofs.RecordLaws.{length-lookup, decoded-record-sized}
 use Rattle.layouts.proofs.Putting.{compared}
 use Rattle.layouts.proofs.records.is_encoded_record.Statement.{statement}
 use Rattle.layouts.proofs.records.is_encoded_record.Tie as tie
@@ -20,7 +20,7 @@ returns c =
     let bytes = empty .before .before .args .bytes .now in
     let v = decodeRecord bytes in
     compared recordKind 40 (omega arith) (encodeLookup v)
-    (length-lookup v (decoded-lookup-sized (bodyIn 40 bytes)))
+    (length-lookup v (decoded-record-sized bytes))
     (encoded .encode-lookup .ensures
     ∙ ap₂ over (ap encodeLookup (decoded .decode-record .ensures)) (empty .empty-room .ensures))
     bytes (c .is-value .ensures)

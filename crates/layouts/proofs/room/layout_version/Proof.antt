@@ -15,8 +15,7 @@ returns-3 c =
     simp (
       ne-eqb _ _ (c .before .before .if1 .left),
       ne-eqb _ _ (c .before .if2 .left),
-      eq-eqb _ _
-          (c .if3 .taken),
+      eq-eqb _ _ (c .if3 .taken),
     )
 
 returns-4 : tie.Need-returns-4
@@ -24,8 +23,7 @@ returns-4 c =
     simp (
       ne-eqb _ _ (c .before .before .if1 .left),
       ne-eqb _ _ (c .before .if2 .left),
-      ne-eqb _ _
-          (c .if3 .left),
+      ne-eqb _ _ (c .if3 .left),
     )
 
 pub layout-version-spec : {M : Type 1} → statement M

@@ -12,8 +12,7 @@ use Rattle.octets.specs.Parts.{over}
 use Rattle.layouts.specs.Call.{sized, numbered}
 use Rattle.layouts.specs.Records.{decodeRecord, isEncodedRecord}
 use Rattle.layouts.proofs.Filling.{both}
-use Rattle.layouts.proofs.RecordLaws.{SizedAccount, decoded-lookup-sized}
-use Rattle.layouts.specs.Values.{bodyIn}
+use Rattle.layouts.proofs.RecordLaws.{SizedAccount, decoded-record-sized}
 use Rattle.numbers.specs.Flags.{flagsOf}
 use Rattle.mschap.specs.Records.{readRecordArguments}
 use Rattle.mschap.proofs.records.mschap_read_record.Statement.{statement}
@@ -52,7 +51,7 @@ returns-2 c =
     let s = sizes bytes (a .nt .now) (a .lm .now) valid in
     let e = decoded .decode-record .ensures in
     let v = decodeRecord bytes in
-    let whole : SizedAccount (v .account) = decoded-lookup-sized (bodyIn 39 bytes) in
+    let whole : SizedAccount (v .account) = decoded-record-sized bytes in
     record {
       number = sym (ap (λ (t : Bool). numbered t 0) valid);
       says = flags .flags-of .ensures ∙ ap flagsOf e;

@@ -22,9 +22,9 @@ returns c =
     refused-argument
     (sym (c .before .are-answer-record-arguments .ensures) ∙ not-true _ (c .if1 .taken))
 
-room : (answer out : List ℕ) → answerRecordArguments answer out ≡ true → length out ≡ 41
+room : (answer out : List ℕ) → answerRecordArguments answer out ≡ true → length out ≡ 42
 unfolding answerRecordArguments
-room answer out e = eqb-true (length out) 41 (both (isEncodedAnswer answer) (sized 41 out) e .1)
+room answer out e = eqb-true (length out) 42 (both (isEncodedAnswer answer) (sized 42 out) e .1)
 
 returns-2 : tie.Need-returns-2
 returns-2 c =

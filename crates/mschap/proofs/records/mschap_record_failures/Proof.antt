@@ -1,0 +1,33 @@
+-- `mschap::records::mschap_record_failures` meets its contract.
+-- Assumes nothing.
+use mathlib.Core.Path.{sym, ap, _∙_}
+use mathlib.Core.Bool.{Bool}
+use borrow.Author.Tests.{not-true, not-false}
+use Rattle.accounts.specs.declared.Lookup.{Lookup}
+use Rattle.layouts.specs.Records.{decodeRecord}
+use Rattle.mschap.specs.Sizes.{valueOr}
+use Rattle.mschap.specs.Records.{recordFailures}
+use Rattle.mschap.proofs.records.mschap_record_failures.Statement.{statement}
+use Rattle.mschap.proofs.records.mschap_record_failures.Tie as tie
+use borrow.Author.Needs.{needs}
+
+returns : tie.Need-returns
+unfolding recordFailures
+returns c = simp (sym (c .before .is-encoded-record .ensures) ∙ not-true _ (c .if1 .taken))
+
+returns-2 : tie.Need-returns-2
+unfolding recordFailures
+returns-2 c =
+    let decoded = c .before in
+    let passed = decoded .before in
+    let bytes = passed .before .before .before .args .account .now in
+    let valid = sym (passed .before .is-encoded-record .ensures) ∙ not-false _ (passed .if1 .left)
+    in
+    ap (λ (l : Lookup). l .account .failures) (decoded .decode-record .ensures)
+    ∙ ap (λ (t : Bool). valueOr t (decodeRecord bytes .account .failures)) (sym valid)
+
+pub mschap-record-failures-spec : {M : Type 1} → statement M
+mschap-record-failures-spec =
+    tie.close
+    (tie.spec
+    (λ c κs. search needs) returns (λ c κs. search needs) (λ c. search needs) returns-2)
