@@ -13,7 +13,8 @@ ghost use Rattle.account_files.specs.Inner.{AccountCall};
 
 // ---- looked up
 
-// The record of a name, and where its line starts. 14 and 15 have an offset too.
+// The record of a name, and where its line starts. 14 and 15 have an offset too. A file has no
+// place for the count: the record that is found has 0.
 pub fn find_account(
     file: &[u8],
     name: &[u8],
@@ -67,7 +68,8 @@ fn write_back(
     smbpasswd::refusal_of(place) as u32
 }
 
-// Writes a record back into the line of its name. 102: it is the record of no account.
+// Writes a record back into the line of its name, but for its count. 102: it is the record of no
+// account.
 pub fn write_account(
     file: &mut [u8],
     name: &[u8],

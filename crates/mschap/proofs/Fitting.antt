@@ -1,5 +1,5 @@
--- What an opening and a step write is valid for the next step: the library never refuses an
--- encoding of its own as a bad argument.
+-- What an opening, a step and the setting of a count write is valid for the next step: the library
+-- never refuses an encoding of its own as a bad argument.
 -- Assumes nothing.
 use mathlib.Core.Bool.{Bool, true, false, cond}
 use mathlib.Core.List.{List}
@@ -49,8 +49,10 @@ use Rattle.layouts.proofs.Filling.{both}
 use Rattle.layouts.specs.declared.StepResult.{StepResult}
 use Rattle.numbers.specs.Results.{resultOf}
 use Rattle.mschap.specs.Sizes.{valueOr}
+use Rattle.mschap.specs.Records.{recordFailures, failuresSet, SetFailuresCall}
 use Rattle.mschap.specs.Step.{stepOf, stepArguments, StepCall, answerFault}
-use Rattle.layouts.proofs.RecordLaws.{SizedAccount, decoded-record-sized, record-fits}
+use Rattle.mschap.specs.Step.{AnswerRecordCall}
+use Rattle.layouts.proofs.RecordLaws.{SizedAccount, decoded-record-sized, record-fits, record-back}
 use Rattle.layouts.proofs.AnswerLaws.{decoded-answer-sized, answer-fits, answer-back}
 use Rattle.layouts.proofs.ConversationLaws.{SizedConversation, conversation-fits}
 use Rattle.layouts.proofs.ConversationLaws.{decoded-conversation-sized, last-reason-small}
@@ -243,6 +245,44 @@ pub answer-record-fits : (answer : List ℕ)
     → isEncodedRecord (encodeRecord (decodeAnswer answer .updated)) ≡ true
 answer-record-fits answer =
     record-fits (decodeAnswer answer .updated) (decoded-answer-sized answer)
+
+-- and what C gets by mschap_answer_record, after a call of mschap_step that returned 0, is just the
+-- record that this step handed out, its count too
+pub record-tells : (conversation packet account buffer out place : List ℕ)
+    {conversationAfter bufferAfter outAfter placeAfter : List ℕ}
+    → StepCall conversation packet account buffer out 0 conversationAfter bufferAfter outAfter
+    → AnswerRecordCall outAfter place 0 placeAfter
+    → decodeRecord placeAfter ≡ stepOf conversation packet account buffer .answer .updated
+unfolding stepArguments
+record-tells conversation packet account buffer out place call get =
+    let stepped = stepOf conversation packet account buffer .answer in
+    let arguments = valid-call (stepArguments conversation account out) (refusalIn (stepped .kind))
+    (call .number) in
+    let valid = both (isEncodedConversation conversation) _ arguments .0 in
+    ap decodeRecord
+    (get .bytes ∙ ap (λ (l : List ℕ). encodeRecord (decodeAnswer l .updated)) (call .found)
+    ∙ ap (λ (v : StepResult). encodeRecord (v .updated))
+    (answer-tells conversation packet account buffer valid))
+    ∙ record-back (stepped .updated) (sizes conversation packet account buffer valid .updated)
+
+-- ---- the count of a record
+
+module _ (bytes : List ℕ) (n : ℕ) where
+  pub set-fits : (isEncodedRecord (encodeRecord (failuresSet bytes n)) ≡ true)
+      × (decodeRecord (encodeRecord (failuresSet bytes n)) ≡ failuresSet bytes n)
+  set-fits =
+      let s = decoded-record-sized bytes in
+      let whole : SizedAccount (failuresSet bytes n .account) = record { nt = s .nt; lm = s .lm } in
+      (record-fits (failuresSet bytes n) whole, record-back (failuresSet bytes n) whole)
+
+  -- the count that was set is the one that the record tells
+  pub set-tells : {after : List ℕ} → SetFailuresCall bytes n 0 after → recordFailures after ≡ n
+  unfolding recordFailures
+  set-tells call =
+      let after = encodeRecord (failuresSet bytes n) in
+      ap recordFailures (call .bytes)
+      ∙ ap (λ (t : Bool). valueOr t (decodeRecord after .account .failures)) (set-fits .0)
+      ∙ ap (λ (l : Lookup). l .account .failures) (set-fits .1)
 
 -- ---- the opening
 

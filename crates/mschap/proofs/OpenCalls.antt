@@ -3,9 +3,9 @@
 use mathlib.Core.Path.{_≡_, refl, sym, ap, _∙_}
 use mathlib.Core.Bool.{Bool, true, false, not, false≢true}
 use mathlib.Core.List.{List, [], _++_, append-nil}
-use Prim.Native.Nat.{ℕ, _-_, _≤_}
+use Prim.Native.Nat.{ℕ, _-_, _≤_, _<_}
 use native.Mathlib.Omega.{arith}
-use borrow.Author.Tests.{eqb-true, ltb-false}
+use borrow.Author.Tests.{eqb-true, eq-eqb, ltb-false}
 use lib.Dec.{eqb, ltb}
 use lib.ListN.{length, take, drop, length-append, length-drop}
 use lib.ListN.{take-append-drop, drop-of-length-le}
@@ -18,11 +18,13 @@ use Rattle.authenticator.specs.Opening.{openRefusal}
 use Rattle.authenticator.specs.declared.Retries.{Retries}
 use Rattle.authenticator.specs.declared.LmChoice.{LmChoice}
 use Rattle.authenticator.specs.declared.Opened.{Opened}
+use Rattle.authenticator.proofs.Openings.{opened-number}
 use Rattle.layouts.specs.Call.{Fills, sized, numbered, afterCall}
 use Rattle.layouts.specs.Conversations.{conversationSize, encodeConversation}
 use Rattle.layouts.specs.Lists.{encodeList, isList, listHead}
 use Rattle.layouts.proofs.Filling.{both, fills-number}
-use Rattle.numbers.specs.Terms.{isTerms}
+use Rattle.numbers.specs.Terms.{isTerms, limitTerm}
+use Rattle.numbers.proofs.TermLaws.{no-limit}
 use Rattle.mschap.specs.Opening.{openingFor, openArguments, OpenCall}
 use Rattle.mschap.specs.Inner.{OpenedOn}
 
@@ -69,6 +71,16 @@ reply-kept o = by (eqb (openRefusal o) 0) refl
         → openedBuffer o ≡ afterCall (opened o .refusal) (openedBuffer o) (o .buffer)
     by true e = simp e
     by false e = simp e
+
+-- ---- the limit
+
+-- terms that say nothing of one, as all were before there was one, open no conversation
+pub no-limit-refused : (id terms : ℕ) (challenge list reply : List ℕ) → terms < 16777216
+    → opened (openingFor id terms challenge list reply) .refusal ≡ 18
+unfolding openRefusal
+no-limit-refused id terms challenge list reply h =
+    opened-number (openingFor id terms challenge list reply)
+    ∙ simp (eq-eqb (limitTerm terms) 0 (no-limit terms h))
 
 -- ---- the opening on a list that is encoded
 

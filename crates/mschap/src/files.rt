@@ -1,7 +1,8 @@
 // An account file in Samba's smbpasswd(5) layout, which the caller passes whole.
 ghost use Rattle.account_files.specs.Calls.{FindCall, WriteCall, CountCall};
 
-// The record of a name, and where its line starts. 14 and 15 have an offset too.
+// The record of a name, and where its line starts. 14 and 15 have an offset too. A file has no
+// place for the count: the record that is found has 0.
 #[no_mangle]
 pub extern "C" fn mschap_find_account(
     file: &[u8],
@@ -17,8 +18,8 @@ pub extern "C" fn mschap_find_account(
     account_files::find_account(file, name, present, max_age, out, offset)
 }
 
-// Writes a record back into the line of its name. 102: it is the record of no account; 103: there
-// is no such account.
+// Writes a record back into the line of its name, but for its count. 102: it is the record of no
+// account; 103: there is no such account.
 #[no_mangle]
 pub extern "C" fn mschap_write_account(
     file: &mut [u8],

@@ -19,9 +19,11 @@ use borrow.Author.Needs.{needs}
 -- The list is decoded, the opening is made on its places, and its head is written back unless the
 -- opening is refused: OpenCalls says what that leaves.
 
+abbrev limited : tie.After-open → tie.After-limit-in
+limited c = c .before .before .before .before .before .before .before .before .before .before
+
 abbrev from : tie.After-open → tie.After-eight-at
-from c =
-    c .before .before .before .before .before .before .before .before .before .before .before .before .before
+from c = limited c .before .before .before
 
 abbrev start : tie.After-open → tie.Start
 start c = from c .before .before .before .before
@@ -45,7 +47,7 @@ made c =
     let counted = c .before .before .before .before .before in
     let places = counted .before in
     let used = places .before .before in
-    let limit = used .before .before in
+    let limit = limited c in
     let lm = limit .before in
     let a = start c .args in
     let same =
@@ -85,7 +87,7 @@ open-on-spec =
     tie.close
     (tie.spec
     (λ c κs. search needs) (λ c κs. search needs) (λ c κs. search needs) (λ c κs. search needs)
-    (λ c κs. search needs) (λ c. search needs) (λ c κs. search needs) (λ c κs. search needs) (λ c. search needs)
-    (λ c. search needs) (λ c. search needs) (λ c. search needs) (λ c κs. search needs)
-    (λ c κs. search needs) (λ c. search needs) (λ c. search needs) returns (λ c. search needs)
-    (λ c. search needs) returns-2)
+    (λ c κs. search needs) (λ c. search needs) (λ c κs. search needs) (λ c κs. search needs)
+    (λ c. search needs) (λ c. search needs) (λ c. search needs) (λ c. search needs)
+    (λ c κs. search needs) (λ c κs. search needs) (λ c. search needs) (λ c. search needs) returns
+    (λ c. search needs) (λ c. search needs) returns-2)
