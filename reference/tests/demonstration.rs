@@ -124,7 +124,7 @@ fn every_response_is_from_the_password_that_is_named() {
             compared += 1;
         }
     }
-    assert_eq!(compared, 34);
+    assert_eq!(compared, 40);
 }
 
 #[test]
@@ -200,6 +200,85 @@ fn lm_is_judged_where_the_box_was_asked_for_it() {
         .filter(|line| line.contains("was asked for LM"));
     assert_eq!(asked.count(), 2);
 }
+
+/// The guesser who hangs up and calls back: each Response of that scene is judged by the independent
+/// program with the record that it handed out last, in the conversation of the Challenge above it
+/// and with the limit that is named. Reply and count are those that are shown; in place of the last
+/// one come the first record, and the last one with its count cleared.
+#[test]
+fn the_count_goes_from_call_to_call() {
+    let text = read("crates/demo/stdout");
+    let title = "Slip: wrong passwords counted in each conversation alone.\n";
+    let (_, scene) = text.split_once(title).unwrap();
+    let lines: Vec<&str> = scene.lines().take_while(|line| !line.is_empty()).collect();
+    let first = Account {
+        nt: Some(hash("MyPw")),
+        ..Account::default()
+    };
+    let mut record = first;
+    let mut conversation = None;
+    let mut opened = None;
+    let mut counts = Vec::new();
+    for (place, line) in lines.iter().enumerate() {
+        if line.starts_with("   <- Challenge ") {
+            let packet = last_octets(line);
+            let retries = u8::from(opened.is_none());
+            let mut issued = Issued {
+                list: &mut [0; 16],
+                used: 0,
+                counts: &mut [0; 256],
+            };
+            let opening = open(
+                packet[1],
+                &eight(&packet[5..13]),
+                Some(retries),
+                None,
+                3,
+                &mut issued,
+                &mut [0; 17],
+            );
+            assert_eq!(opening.refusal, 0);
+            opened = Some(opening.conversation);
+            conversation = opened;
+        } else if line.starts_with("   In place of that, ") {
+            conversation = opened;
+            record = match line.contains("the slip") {
+                true => first,
+                false => Account {
+                    failures: 0,
+                    ..record
+                },
+            };
+        } else if line.starts_with("   -> Response ") {
+            let mut reply = [0; 17];
+            let packet = last_octets(line);
+            let before = conversation.unwrap();
+            let answer = step(&before, &packet, Some(&record), &mut reply);
+            assert_eq!(last_octets(lines[place + 2]), reply[..answer.written]);
+            conversation = Some(answer.conversation);
+            record = answer.record.unwrap();
+            let told = lines[place + 3..]
+                .iter()
+                .take_while(|line| !line.starts_with("   -> "))
+                .find_map(|line| line.strip_prefix(COUNTED));
+            let limit = ". At 3 the account is locked.";
+            let count = told.map(|rest| rest.strip_suffix(limit).unwrap().parse().unwrap());
+            assert_eq!(count.unwrap_or(record.failures), record.failures, "{line}");
+            counts.push((count, answer.reason));
+        }
+    }
+    let expected = [
+        (Some(1), 691),
+        (Some(2), 691),
+        (Some(3), 691),
+        (Some(3), 691),
+        (None, 0),
+        (Some(0), 0),
+    ];
+    assert_eq!(counts, expected);
+}
+
+const COUNTED: &str = "      Invalid Responses in a row, by the record that is handed out: ";
 
 /// The change that a line shows the first octets of: the one that our peer writes, from the old
 /// password that the line behind it names, with the slip's octets where it has some.

@@ -27,4 +27,5 @@ fn main() {
     key();
     exchanges::all();
     slips::all();
+    guessing::all();
 }

@@ -1,6 +1,4 @@
 // What students get wrong, and what the box does: the slips of docs/SLIPS.md.
-mod guesses;
-
 use accounts::Lookup;
 use authenticator::Retries;
 use loopback::IssuedList;
@@ -302,7 +300,6 @@ pub fn all() {
     fallback();
     unasked();
     judged_again();
-    guesses::counted_alone();
     by_old_hash();
     second_key();
     anew();

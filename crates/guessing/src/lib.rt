@@ -1,4 +1,5 @@
-// A guesser who hangs up and calls back: the record goes from call to call, with its count.
+// A slip of docs/SLIPS.md: a guesser who hangs up and calls back. The record goes from call to call,
+// with its count. (A crate of its own, as the check of `slips` is long enough.)
 use authenticator::Retries;
 use loopback::IssuedList;
 use loopback::Loopback;
@@ -55,9 +56,9 @@ fn locked(loopback: Loopback) {
     say_failures(rightly_for(third, accounts::found(unlocked)));
 }
 
-pub fn counted_alone() {
+pub fn all() {
     title(b"Slip: wrong passwords counted in each conversation alone.");
-    say(b"   A guesser who hangs up and calls back has fresh retries, without end. Look at the count:");
-    say(b"   the box hands the record out after each Response, and the next one is passed it.");
+    say(b"   A guesser who hangs up and calls back has fresh retries, without end. Look at the");
+    say(b"   count: the box hands the record out after each Response, and the next is passed it.");
     locked(guessed())
 }
