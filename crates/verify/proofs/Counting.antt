@@ -29,7 +29,7 @@ below-limit t a h = lt-leb (t .limit) (a .failures) h
 
 -- "adds 1": there is room for one more below 255
 pub one-more : (n : ℕ) → n < mostFailures → oneMore n ≡ suc n
-one-more n h = ap (λ (t : Bool). cond t (suc n) n) (lt-ltb n mostFailures h)
+one-more n h = rw (lt-ltb n mostFailures h)
 
 -- "to at most 255": it neither wraps nor falls
 pub never-falls : (n : ℕ) → n ≤ oneMore n
