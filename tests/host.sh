@@ -30,6 +30,9 @@ size_t receive(uint8_t *into);
 void send(const uint8_t *bytes, size_t bytes_size);
 void lock_and_read(uint8_t **bytes, size_t *bytes_size);
 void store_and_unlock(const uint8_t *bytes, size_t bytes_size);
+uint32_t count_of(const uint8_t *owner, size_t owner_size);
+void keep_count(const uint8_t *owner, size_t owner_size, uint32_t count);
+void hang_up(void);
 void note(const char *words);
 void decide(int in);
 void quick_start(void);
@@ -37,7 +40,7 @@ void quick_start(void)
 {
     size_t size;
 END
-    sed -n '/^ \* QUICK START/,/^ \* Check each/s/^ \*     //p' "$header"
+    sed -n '/^ \* QUICK START/,/^ \* hang_up/s/^ \*     //p' "$header"
     echo '}'
 } > "$quick"
 [ "$(grep -c mschap_ "$quick")" -ge 15 ] || { echo 'host: no quick start in the header'; exit 1; }

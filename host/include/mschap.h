@@ -2,40 +2,48 @@
  * mschap.h: MS-CHAP version 1 (RFC 2433) for C, over a library whose every function is proved
  * against its promise.
  *
- * QUICK START: the authenticator, over the bytes of an account file (see ACCOUNT FILES)
+ * QUICK START: the authenticator, over the bytes of an account file (see ACCOUNT FILES) and counts
+ * of failures by name (see LOCKOUT)
  *
  *     static uint8_t list[MSCHAP_LIST_SIZE(300)];         // for 100 conversations, see mschap_open
  *     mschap_conversation talk;  mschap_record record, after, again;  mschap_answer answer;
  *     uint8_t reply[MSCHAP_REPLY_SIZE], challenge[MSCHAP_CHALLENGE_SIZE], name[MSCHAP_NAME_MAX];
- *     size_t name_size = 0, offset;  uint32_t fault;  int written;
+ *     size_t name_size = 0, offset;  uint32_t awaited, number, fault;
  *
  *     mschap_make_list(list, sizeof list);                // once
  *     getrandom(challenge, sizeof challenge, 0);          // unpredictable: from a CSPRNG
- *     mschap_open(1, MSCHAP_TERMS, challenge, sizeof challenge, list, sizeof list,
- *                 &talk, sizeof talk, reply, sizeof reply);   // old phones: see OLD PHONES
+ *     mschap_open(1, MSCHAP_TERMS | MSCHAP_LIMIT(10),     // for old phones see OLD PHONES
+ *                 challenge, sizeof challenge, list, sizeof list,
+ *                 &talk, sizeof talk, reply, sizeof reply);
  *     send(reply, mschap_packet_length(reply, sizeof reply));
  *     while ((size = receive(packet)) != 0) {             // each packet, while the link is up
- *         if (mschap_conversation_awaits(&talk, sizeof talk) == MSCHAP_AWAITS_RESPONSE) {
+ *         lock_and_read(&file, &file_size);               // one step at a time, and the counts too
+ *         awaited = mschap_conversation_awaits(&talk, sizeof talk);
+ *         if (awaited == MSCHAP_AWAITS_RESPONSE) {
  *             name_size = mschap_account_length(packet, size);    // a change has no name: keep it
  *             memcpy(name, packet + mschap_account_offset(packet, size), name_size);
  *             if (mschap_find_account(file, file_size, name, name_size, time(NULL), max_age,
  *                                     &record, sizeof record, &offset) != MSCHAP_OK)
- *                 return;                                 // correct the file at that offset
+ *                 hang_up();                              // correct the file at that offset
+ *             mschap_set_failures(&record, sizeof record, count_of(name, name_size));
  *         }
- *         if (mschap_step(&talk, sizeof talk, packet, size, &record, sizeof record,
- *                         reply, sizeof reply, &answer, sizeof answer) != MSCHAP_OK)
+ *         number = mschap_step(&talk, sizeof talk, packet, size, &record, sizeof record,
+ *                              reply, sizeof reply, &answer, sizeof answer);
+ *         if (number == MSCHAP_OK
+ *             && mschap_answer_record(&answer, sizeof answer, &after, sizeof after) == MSCHAP_OK) {
+ *             if (awaited == MSCHAP_AWAITS_CHANGE         // accepted: a new password is written,
+ *                 && (mschap_find_account(file, file_size, name, name_size, time(NULL), max_age,
+ *                                         &again, sizeof again, &offset) != MSCHAP_OK
+ *                     || memcmp(&again, &record, sizeof again) != 0   // if nobody wrote since
+ *                     || mschap_write_account(file, file_size, name, name_size, &after,
+ *                                             sizeof after, time(NULL), &offset) != MSCHAP_OK))
+ *                 hang_up();                              // and note why
+ *             record = after;     // where a change is awaited now, with the count 0, as again has
+ *             keep_count(name, name_size, mschap_record_failures(&after, sizeof after));
+ *         }
+ *         store_and_unlock(file, file_size);              // and the counts: before the reply
+ *         if (number != MSCHAP_OK)
  *             continue;                                   // refused: nothing has changed
- *         if (mschap_answer_record(&answer, sizeof answer, &after, sizeof after) == MSCHAP_OK) {
- *             lock_and_read(&file, &file_size);           // an accepted change of the password
- *             written = mschap_find_account(file, file_size, name, name_size, time(NULL), max_age,
- *                                           &again, sizeof again, &offset) == MSCHAP_OK
- *                       && memcmp(&again, &record, sizeof again) == 0   // nobody changed it since
- *                       && mschap_write_account(file, file_size, name, name_size, &after,
- *                                               sizeof after, time(NULL), &offset) == MSCHAP_OK;
- *             store_and_unlock(file, file_size);          // as it was, if not written
- *             if (!written)
- *                 return;                                 // hang up, and note why
- *         }
  *         send(reply, mschap_packet_length(reply, sizeof reply));
  *         if (mschap_answer_repeated(&answer, sizeof answer))
  *             continue;                                   // the peer had missed the last reply
@@ -45,19 +53,75 @@
  *             decide(mschap_answer_reason(&answer, sizeof answer) == MSCHAP_SUCCESS); // in or not
  *     }
  *
+ * hang_up() stores nothing, releases the lock, hangs up and does not return.
  * Check each return value. examples/authenticator.c and examples/peer.c are whole programs. Where
  * accounts are kept in another way, mschap_make_record makes the record that a step takes, of the
- * hash that mschap_make_password and mschap_nt_hash make of a password in UTF-8.
+ * hash that mschap_make_password and mschap_nt_hash make of a password in UTF-8; and what a step
+ * gives, count and all, is stored in its place.
  *
  * OLD PHONES
  *   A phone that answers by LM alone is let in only by a conversation that asks for LM:
- *       mschap_open(1, MSCHAP_TERMS | MSCHAP_LM_ALLOWED, challenge, sizeof challenge, ..
+ *       mschap_open(1, MSCHAP_TERMS | MSCHAP_LIMIT(10) | MSCHAP_LM_ALLOWED, challenge, ..
  *   So is any phone whose account has an LM hash and no NT hash. Either way the account needs an LM
  *   hash, which a change of the password removes. LM is off in every other conversation.
  *   Up to 0.4.0 MSCHAP_TERMS alone allowed LM: an upgrade without MSCHAP_LM_ALLOWED locks those
  *   phones out, and their right password draws MSCHAP_E_AUTHENTICATION_FAILURE, as a wrong one
  *   does. Ask for it on the benches that have such phones and nowhere else: RFC 2433 (section 6)
  *   deprecates LM, and where it is allowed an account with both hashes is as weak as its LM hash.
+ *
+ * LOCKOUT
+ *   The retries of a conversation stop no guesser: to hang up and call back gives fresh ones. So a
+ *   record counts how many Responses in a row were judged invalid, in whatever conversations, and
+ *   each opening sets a limit, MSCHAP_TERMS | MSCHAP_LIMIT(n), n from 1 to 255. There is none by
+ *   default: an opening without a limit is refused with MSCHAP_NO_LIMIT.
+ *   The count is 0 in a record that is newly made or found in an account file. Below the limit an
+ *   invalid Response adds 1, and a valid one sets the count to 0, also where the account is
+ *   disabled, barred or expired. At the limit or over it the account is locked: every Response
+ *   draws MSCHAP_E_AUTHENTICATION_FAILURE, whatever it says. There an invalid one still adds 1, to
+ *   at most 255, and a valid one leaves the count as it is. An accepted change of the password sets
+ *   it to 0. Responses by LM count as others do, also where LM is off, so that none is valid.
+ *   So there are at most n guesses at a password, on all lines together, until its owner logs on or
+ *   the account is unlocked.
+ *
+ *   The library remembers nothing: the count is worth what the caller does with it.
+ *   - After EVERY judged Response, take the record that mschap_answer_record gives, store it before
+ *     the reply is sent, and pass it with the next packet that names that account, in whatever
+ *     conversation. Else the count is lost, and nothing stops a guesser.
+ *   - Make one step at a time for one account: read its record, make the step and store the record
+ *     under one lock. Two steps that are passed the same copy count one failure, so that a guesser
+ *     on many lines at once would have many guesses for one.
+ *   - Store it also where it is as it was. A right guess at a locked account leaves the count, and
+ *     a wrong one moves it: where only what is new is stored, the right one is answered sooner, and
+ *     the guesser knows the password. Store something, for the same time, also where there was no
+ *     record: else the time tells which accounts there are.
+ *   - Counts that are in memory alone are 0 again after a restart, and each restart gives a guesser
+ *     n guesses more: store them on disk, if that matters.
+ *
+ *   An account file has no place for the count: a caller who looks the account up anew for each
+ *   Response, and does no more, has NO lockout. Keep the counts beside the file: after
+ *   mschap_find_account pass the one that was kept to mschap_set_failures, and after the step keep
+ *   what mschap_record_failures tells of the record. Keep them by the name that was looked up, and
+ *   not by the packet's, which may have any domain before its backslash. A name on no line draws no
+ *   record: so there are never more counts than accounts, whatever names are tried.
+ *
+ *   mschap_answer_record gives records of two kinds. What the conversation awaited before the step
+ *   tells which one it is:
+ *       MSCHAP_AWAITS_RESPONSE  the record that was passed, with its new count and no other change
+ *       MSCHAP_AWAITS_CHANGE    the record of an accepted change: the new hash, and the count 0
+ *   Only the second is for mschap_write_account, which sets the time of the last change too: with
+ *   the first, a password would be as new as the last Response, and never expire.
+ *
+ *   To unlock an account, its keeper sets its count to 0 (mschap_set_failures), or makes its record
+ *   anew, as for a new password. No time unlocks it: the library has no clock. A program that has
+ *   one may set counts to 0 by it, and so give a guesser n guesses a day, for instance.
+ *
+ *   A locked account is answered as an unknown one is, and the step takes the same time: nobody
+ *   learns by it that there is such an account, or that it is locked. But anybody can lock an
+ *   account by guessing, and so keep its owner out: choose a limit that is not reached by mistyping
+ *   or for fun; on a closed bench 10, for instance. Conversations may have different limits.
+ *   The count is a secret, as the hashes are: at the limit wrong guesses alone move it, so that it
+ *   tells whether a guess was right. Let nobody else read it, and log that an account is locked,
+ *   but not its count.
  *
  * ACCOUNT FILES
  *   mschap_find_account, mschap_write_account and mschap_count_accounts take a file in the layout
@@ -79,8 +143,9 @@
  *
  *   No other flag is read. With N, where Samba asks for no password, the NT hash decides as ever;
  *   and whom Samba has locked out (L), or a machine (W), is let in as any other: to keep them out,
- *   set D. Hours and dial-in are not in the file: their flags are clear in the record. Samba's
- *   `lanman auth` is not known here: LM is off unless the terms of the conversation allow it.
+ *   set D. Neither are hours, dial-in and the count of LOCKOUT in the file: in the record the flags
+ *   of the first two are clear, and the count is 0. Samba's `lanman auth` is not known here: LM is
+ *   off unless the terms of the conversation allow it.
  *
  *   One line of another form, an empty one too, refuses the whole file, whatever name is looked
  *   up: the damaged line could be the account's own. A hash of 32 *, by which Samba marks one that
@@ -94,15 +159,18 @@
  *   mschap_write_account writes into the caller's bytes and nowhere else; so do not map the file
  *   shared. To store them so that no crash loses a change, and no change undoes another that was
  *   made under the same lock: take a lock that all your programs take, read the file again, look
- *   the account up again and compare its record (memcmp) with the one that its Response was judged
- *   by, write the account, write the bytes to a new file in the same folder (with the owner and
- *   mode of the old one; if the name is a symbolic link, in the folder of its target), fsync it,
- *   rename it to the file's name, fsync the folder, release the lock, and only then send the reply.
+ *   the account up again and compare its record (memcmp) with the one that its Response gave, write
+ *   the account, write the bytes to a new file in the same folder (with the owner and mode of the
+ *   old one; if the name is a symbolic link, in the folder of its target), fsync it, rename it to
+ *   the file's name, fsync the folder, release the lock, and only then send the reply.
  *   If the two records differ, the account was changed after the Response, as by an administrator
- *   who reset the password: store nothing, send no reply and hang up. Samba's programs (smbpasswd,
- *   pdbedit, smbd) know nothing of that lock and write in place: see that none of them writes at
- *   the same time. A hash is as good as its password: let nobody but the authenticator read the
- *   file, or the new one.
+ *   who reset the password: store nothing, send no reply and hang up. Compare them with the same
+ *   count of failures: the one that was looked up has 0, and so has the one that its Response gave,
+ *   since a change follows a valid one. So set no count before: other conversations may have
+ *   counted failures meanwhile, and that is no reason to lose a change.
+ *   Samba's programs (smbpasswd, pdbedit, smbd) know nothing of that lock and write in place: see
+ *   that none of them writes at the same time. A hash is as good as its password: let nobody but
+ *   the authenticator read the file, or the new one.
  *
  * LINKING
  *   `make lib` writes libmschap.a, libmschap.so, this header and mschap.pc below target/mschap, for
@@ -124,8 +192,9 @@
  *   library makes and reads. They hold no pointer, so they may be copied, stored and read again.
  *   Each begins with its kind and the version of that kind's layout, MSCHAP_RECORD_LAYOUT and so
  *   on; one of another kind or version, of another size or with bytes that no value has is refused
- *   with MSCHAP_BAD_ARGUMENT. Answers have a new layout since 0.4.0 and conversations since 0.3.0:
- *   those that were stored before are refused. The others are as 0.2.0 stored them.
+ *   with MSCHAP_BAD_ARGUMENT. Records, conversations and answers have a new layout since 0.7.0:
+ *   those that were stored before are refused. Make such a record again of what is known of the
+ *   account, and open such a conversation again. The others are as 0.2.0 stored them.
  *   Bytes are not signed: store values where nobody else writes.
  *   Arguments that are exchanged by mistake are refused, or are no C: GCC 14 says so by default,
  *   and other compilers with -Werror=incompatible-pointer-types. Of these alone an exchange is not
@@ -140,13 +209,14 @@
  *
  * STATE
  *   Nothing is allocated and there is no state in the library: all that a conversation or a peer
- *   knows is in the value that the caller keeps, and which challenges were issued is in the list
- *   that the caller passes. So calls on different buffers may be made at the same time, and a
- *   conversation or a peer may be stored and continued later. Do not continue a conversation from
- *   two copies: each would take an answer to the same challenge. Store the conversation that a step
- *   leaves before its reply is sent: after a restart, one that was stored before the step would
- *   judge the packet again, and not repeat the reply. Secrets that pass through are left on the
- *   stack; the library does not wipe them.
+ *   knows is in the value that the caller keeps, how often an account has failed is in its record,
+ *   and which challenges were issued is in the list that the caller passes. So calls on different
+ *   buffers may be made at the same time, and a conversation or a peer may be stored and continued
+ *   later. Do not continue a conversation from two copies: each would take an answer to the same
+ *   challenge. Store the conversation that a step leaves, and the record that it gives, before its
+ *   reply is sent: after a restart, a conversation that was stored before the step would judge the
+ *   packet again, and not repeat the reply. Secrets that pass through are left on the stack; the
+ *   library does not wipe them.
  *
  * STACK
  *   Provide MSCHAP_STACK_SIZE bytes of stack for any call, whatever its input is. That is at least
@@ -167,13 +237,13 @@ extern "C" {
 
 /* ---- versions */
 
-#define MSCHAP_VERSION 0x000600      /* of this interface: major, minor, patch, a byte each */
-#define MSCHAP_VERSION_TEXT "0.6.0"
+#define MSCHAP_VERSION 0x000700      /* of this interface: major, minor, patch, a byte each */
+#define MSCHAP_VERSION_TEXT "0.7.0"
 
 /* of the layout of each kind of value */
-#define MSCHAP_RECORD_LAYOUT 1
-#define MSCHAP_CONVERSATION_LAYOUT 2 /* since 0.3.0, with the last answer */
-#define MSCHAP_ANSWER_LAYOUT 3       /* since 0.4.0, with what is wrong with a change */
+#define MSCHAP_RECORD_LAYOUT 2       /* since 0.7.0, with the count of failures */
+#define MSCHAP_CONVERSATION_LAYOUT 3 /* since 0.7.0, with the limit */
+#define MSCHAP_ANSWER_LAYOUT 4       /* since 0.7.0, with the record's count of failures */
 #define MSCHAP_PEER_LAYOUT 1
 #define MSCHAP_PASSWORD_LAYOUT 1
 #define MSCHAP_LIST_LAYOUT 1
@@ -198,6 +268,7 @@ extern "C" {
 #define MSCHAP_DOUBLED_NAME 15   /* the name is on two lines of an account file, or more */
 #define MSCHAP_SPENT 16          /* the challenge or one of its successors was issued before */
 #define MSCHAP_LIST_FULL 17      /* too few places left in the list of issued challenges */
+#define MSCHAP_NO_LIMIT 18       /* terms without MSCHAP_LIMIT(n), or with n not from 1 to 255 */
 #define MSCHAP_LIST 24           /* a bad list: its size, or more places used than it has */
 #define MSCHAP_BAD_ARGUMENT 100  /* a value or buffer of another size, kind or version than the
                                     function takes, bytes that no value has, or a number (terms,
@@ -259,10 +330,13 @@ extern "C" {
 #define MSCHAP_DIALIN_DENIED 0x20  /* there is no permission to dial in */
 #define MSCHAP_EXPIRED 0x40        /* the password has expired: it must be changed */
 
-/* ---- the terms of a conversation: MSCHAP_TERMS alone for the defaults, or joined by |
-        with MSCHAP_RETRIES(n) and one of the two choices about LM, each at most once */
+/* ---- the terms of a conversation: MSCHAP_TERMS joined by | with MSCHAP_LIMIT(n) and, where a
+        default is not what is wanted, with MSCHAP_RETRIES(n) and one of the two choices about LM;
+        each at most once */
 
 #define MSCHAP_TERMS 0x10000u
+/* how many invalid Responses in a row lock an account, 1 to 255; no default (see LOCKOUT) */
+#define MSCHAP_LIMIT(n) ((uint32_t)(n) < 256u ? (uint32_t)(n) << 24 : 0u)
 /* how often a wrong password may be tried again, 0 to 7; the default is 2 */
 #define MSCHAP_RETRIES(n) ((uint32_t)(n) < 254u ? (uint32_t)(n) + 1u : 255u)
 #define MSCHAP_LM_ALLOWED 0x100u  /* a response by LM is judged (see OLD PHONES) */
@@ -277,9 +351,9 @@ extern "C" {
 #define MSCHAP_CHALLENGE_SIZE 8
 #define MSCHAP_RESPONSE_SIZE 24
 #define MSCHAP_FILLER_SIZE 512
-#define MSCHAP_RECORD_SIZE 41
-#define MSCHAP_CONVERSATION_SIZE 58
-#define MSCHAP_ANSWER_SIZE 45
+#define MSCHAP_RECORD_SIZE 42
+#define MSCHAP_CONVERSATION_SIZE 60
+#define MSCHAP_ANSWER_SIZE 46
 #define MSCHAP_PEER_SIZE 21
 #define MSCHAP_PASSWORD_SIZE 516
 #define MSCHAP_LIST_PLACES 4096                        /* the most places of a list */
@@ -369,9 +443,10 @@ uint32_t mschap_lm_hash(const uint8_t *password, size_t password_size,
 
 /* ---- records: what the lookup of a name found */
 
-/* Makes a record of flags (MSCHAP_FOUND and so on, joined by |) and hashes. A hash is passed if
-   and only if its flag says so; else pass NULL and 0. A name that is not known has the record of
-   no flags: mschap_make_record(0, NULL, 0, NULL, 0, &record, sizeof record).
+/* Makes a record of flags (MSCHAP_FOUND and so on, joined by |) and hashes, with the count of
+   failures 0. A hash is passed if and only if its flag says so; else pass NULL and 0. A name that
+   is not known has the record of no flags:
+       mschap_make_record(0, NULL, 0, NULL, 0, &record, sizeof record)
    Returns MSCHAP_OK; MSCHAP_BAD_ARGUMENT for another bit in flags, a hash that is not
    MSCHAP_HASH_SIZE bytes, one without its flag or a flag without its hash, or unless record is
    MSCHAP_RECORD_SIZE bytes.
@@ -382,7 +457,7 @@ uint32_t mschap_make_record(uint32_t flags,
                             mschap_record *record, size_t record_size);
 
 /* Reads a record: the inverse of mschap_make_record. The bytes of a hash whose flag is not set have
-   no meaning.
+   no meaning. The count of failures is told by mschap_record_failures.
    Returns MSCHAP_OK; MSCHAP_BAD_ARGUMENT for an invalid record, or unless both hashes are
    MSCHAP_HASH_SIZE bytes.
    Stack: 368 bytes. */
@@ -391,16 +466,29 @@ uint32_t mschap_read_record(const mschap_record *record, size_t record_size,
                             mschap_nthash *nt_hash, size_t nt_hash_size,
                             mschap_lmhash *lm_hash, size_t lm_hash_size);
 
+/* Returns a record's count of failures, 0 to 255: how many Responses in a row were judged invalid
+   (see LOCKOUT; in the record of no account it has no effect); MSCHAP_INVALID for an invalid
+   record.
+   Stack: 368 bytes. */
+uint32_t mschap_record_failures(const mschap_record *record, size_t record_size);
+
+/* Sets a record's count of failures, 0 to 255, in place (see LOCKOUT): to the one that was kept,
+   after mschap_find_account, or to 0, which unlocks the account. No other byte of the record
+   changes.
+   Returns MSCHAP_OK; MSCHAP_BAD_ARGUMENT for an invalid record, or for failures over 255.
+   Stack: 368 bytes. */
+uint32_t mschap_set_failures(mschap_record *record, size_t record_size, uint32_t failures);
+
 /* ---- account files (see ACCOUNT FILES): now is the present time, and max_age how old a password
         may be, both in seconds */
 
 /* Looks an account up by the exact bytes of its name, in one pass over the whole file. Writes the
-   record, which mschap_step takes as it is, and into *offset where the name's line starts. For a
-   name on no line that is the record of no account, without MSCHAP_FOUND, and 0. The time grows
-   with the file. It does not tell where the line is, nor how much of a name is right. But it tells
-   how many names in the file have as many bytes as the one sought, since the bytes are compared
-   only where the lengths are equal (see host/timing.c); and a name on a line takes longer than one
-   on none, by less than a microsecond.
+   record, with the count of failures 0 (the file has none: set it before the step, see LOCKOUT),
+   and into *offset where the name's line starts. For a name on no line that is the record of no
+   account, without MSCHAP_FOUND, and 0. The time grows with the file. It does not tell where the
+   line is, nor how much of a name is right. But it tells how many names in the file have as many
+   bytes as the one sought, since the bytes are compared only where the lengths are equal (see
+   host/timing.c); and a name on a line takes longer than one on none, by less than a microsecond.
    Returns MSCHAP_OK; MSCHAP_BAD_ARGUMENT unless record is MSCHAP_RECORD_SIZE bytes;
    MSCHAP_BAD_LINE for a line of another form, of any name, even behind the name's line; else
    MSCHAP_DOUBLED_NAME. With these two *offset is where the first such line starts; record is
@@ -412,10 +500,12 @@ uint32_t mschap_find_account(const uint8_t *file, size_t file_size,
                              mschap_record *record, size_t record_size,
                              size_t *offset);
 
-/* Writes a changed record, as mschap_answer_record gives it, into its line, in place: both hashes,
-   in digits of upper case or, where there is none, as 32 X, and now as the last change. Every other
-   byte of the file stays, the flags of the line too, whatever those of the record are. Writes into
-   *offset where the line starts. How to store the file: see ACCOUNT FILES.
+/* Writes a changed record, as mschap_answer_record gives it after an accepted change, into its
+   line, in place: both hashes, in digits of upper case or, where there is none, as 32 X, and now as
+   the last change. Every other byte of the file stays, the flags of the line too, whatever those of
+   the record are; its count of failures is not written. Writes into *offset where the line starts.
+   How to store the file: see ACCOUNT FILES. Do not pass the record of a judged Response, of which
+   the count alone is to be kept (see LOCKOUT): the new time would keep its password from expiring.
    Returns MSCHAP_OK; MSCHAP_BAD_ARGUMENT for an invalid record; MSCHAP_NO_RECORD for the record of
    no account; MSCHAP_BAD_LINE; MSCHAP_DOUBLED_NAME; MSCHAP_NO_ACCOUNT for a name on no line.
    With MSCHAP_BAD_LINE and MSCHAP_DOUBLED_NAME *offset is as for mschap_find_account.
@@ -449,11 +539,11 @@ uint32_t mschap_make_list(uint8_t *list, size_t list_size);
    Stack: 0 bytes. */
 uint32_t mschap_list_used(const uint8_t *list, size_t list_size);
 
-/* Opens a conversation with an identifier, 0 to 255, terms (MSCHAP_TERMS and what is joined to it)
-   and a challenge of MSCHAP_CHALLENGE_SIZE bytes, which must be unpredictable: from a CSPRNG.
-   Writes the conversation and, at the front of reply, the Challenge to send; the bytes behind it
-   are unchanged. The terms hold to the end of the conversation: no packet allows LM in one that was
-   opened without MSCHAP_LM_ALLOWED.
+/* Opens a conversation with an identifier, 0 to 255, terms (MSCHAP_TERMS, MSCHAP_LIMIT(n) and what
+   else is joined to them) and a challenge of MSCHAP_CHALLENGE_SIZE bytes, which must be
+   unpredictable: from a CSPRNG. Writes the conversation and, at the front of reply, the Challenge
+   to send; the bytes behind it are unchanged. The terms hold to the end of the conversation: no
+   packet allows LM in one that was opened without MSCHAP_LM_ALLOWED, and none moves the limit.
 
    The list of issued challenges keeps a Response that was recorded at one authenticator from being
    accepted by another: pass the same list for all that know the same accounts, one opening at a
@@ -465,7 +555,8 @@ uint32_t mschap_list_used(const uint8_t *list, size_t list_size);
 
    Returns MSCHAP_OK; or the first of these that applies: MSCHAP_BAD_ARGUMENT for another
    identifier or other terms, for a challenge or a conversation of another size, or if list is no
-   list; MSCHAP_RETRIES_RANGE; MSCHAP_REPLY_ROOM; MSCHAP_LIST; MSCHAP_SPENT; MSCHAP_LIST_FULL.
+   list; MSCHAP_NO_LIMIT; MSCHAP_RETRIES_RANGE; MSCHAP_REPLY_ROOM; MSCHAP_LIST; MSCHAP_SPENT;
+   MSCHAP_LIST_FULL.
    Stack: 1,520 bytes. */
 uint32_t mschap_open(uint32_t identifier, uint32_t terms,
                      const uint8_t *challenge, size_t challenge_size,
@@ -473,12 +564,13 @@ uint32_t mschap_open(uint32_t identifier, uint32_t terms,
                      mschap_conversation *conversation, size_t conversation_size,
                      uint8_t *reply, size_t reply_size);
 
-/* One step of a conversation: packet was received, and record is what the lookup of its name found
-   (mschap_account_offset and the three functions below it tell where the parts of the name are, and
-   mschap_find_account looks an account up in a file).
+/* One step of a conversation: packet was received, and record is what the lookup of its name found,
+   with the count of failures that it had last (mschap_account_offset and the three functions below
+   it tell where the parts of the name are, mschap_find_account looks an account up in a file, and
+   LOCKOUT says how its count is kept).
    Writes the next conversation over this one; at the front of reply the Success or Failure to
    send; and the answer, which tells the reason, whether the reply is a repeat, what is wrong with
-   a change that is not accepted, and whether there is a record to be stored.
+   a change that is not accepted, and which record is to be stored.
 
    A repeat is a packet with the code and the identifier of the packet that was answered last,
    whatever else is in it: the peer has missed the reply (RFC 1994). It draws the same reply
@@ -492,7 +584,8 @@ uint32_t mschap_open(uint32_t identifier, uint32_t terms,
    A change of the password has no name. While one is awaited, record is ignored (it must be valid,
    and any will do): the account is the one whose Response drew MSCHAP_E_PASSWD_EXPIRED. So
    remember with the conversation whose it is: its record is the one that mschap_answer_record
-   gives after an accepted change.
+   gives after an accepted change. Its count of failures has no part in that: the Response was
+   valid, and a change that is not accepted is no failure.
 
    Returns MSCHAP_OK if there is a reply to send, Success or Failure: the packet was judged, or is
    a repeat. Else the packet is refused: send no reply; the conversation goes on as if it had not
@@ -533,11 +626,14 @@ uint32_t mschap_answer_repeated(const mschap_answer *answer, size_t answer_size)
    Stack: 352 bytes. */
 uint32_t mschap_answer_fault(const mschap_answer *answer, size_t answer_size);
 
-/* The record after an accepted change of the password: store it in the place of the account's, in
-   an account file by mschap_write_account. A repeat of the change gives none: its record was given
-   when it was judged.
-   Returns MSCHAP_OK, with the record; MSCHAP_NO_RECORD if nothing is to be stored;
-   MSCHAP_BAD_ARGUMENT for an invalid answer, or unless record is MSCHAP_RECORD_SIZE bytes.
+/* The record that a step gives, to be stored in the place of the account's: after every judged
+   Response for which there was an account, the record that was passed with its new count of
+   failures; after an accepted change of the password, the new one. LOCKOUT says what is done with
+   each: of the first an account file gets nothing, and the second is for mschap_write_account.
+   Returns MSCHAP_OK, with the record; MSCHAP_NO_RECORD if there is none, after a Response for which
+   there was no account, a change that was not accepted, and a repeat, whose record was given when
+   it was judged; MSCHAP_BAD_ARGUMENT for an invalid answer, or unless record is MSCHAP_RECORD_SIZE
+   bytes.
    Stack: 368 bytes. */
 uint32_t mschap_answer_record(const mschap_answer *answer, size_t answer_size,
                               mschap_record *record, size_t record_size);

@@ -2,7 +2,8 @@
 
 use crate::{sys, LmHash, NtHash, Refusal};
 
-/// An account. What a lookup finds is an `Option<Account>`.
+/// An account. What a lookup finds is an `Option<Account>`; what a step gives back of it is an
+/// [`Update`](crate::Update).
 #[derive(Clone, Copy, Debug, Default, PartialEq, Eq)]
 pub struct Account {
     /// The NT hash, if there is one.
@@ -17,10 +18,15 @@ pub struct Account {
     pub dialin_denied: bool,
     /// The password has expired: it must be changed.
     pub expired: bool,
+    /// How many Responses in a row were judged invalid. At the limit of a conversation
+    /// ([`Terms::limit`](crate::Terms)) or over it the account is locked there. Set it to 0 to
+    /// unlock the account. It is a secret, as the hashes are: at the limit wrong guesses alone move
+    /// it, so that it tells whether a guess was right.
+    pub failures: u8,
 }
 
 impl Account {
-    /// The account's record, to be stored: it holds the hashes.
+    /// The account's record, to be stored: it holds the hashes and the count of failures.
     pub fn to_bytes(&self) -> Result<[u8; sys::RECORD_SIZE], Refusal> {
         Account::record(Some(self))
     }
@@ -39,6 +45,8 @@ impl Account {
             hours_denied: set(sys::HOURS_DENIED),
             dialin_denied: set(sys::DIALIN_DENIED),
             expired: set(sys::EXPIRED),
+            // never `INVALID`: the record has just been read
+            failures: sys::record_failures(record) as u8,
         };
         Ok(set(sys::FOUND).then_some(account))
     }
@@ -55,6 +63,9 @@ impl Account {
             }
         };
         Refusal::check(number)?;
+        // A record is made with the count 0. It is set whatever it is: the time is not to tell it.
+        let failures = found.map_or(0, |account| account.failures);
+        Refusal::check(sys::set_failures(&mut record, failures.into()))?;
         Ok(record)
     }
 

@@ -19,7 +19,9 @@ pub struct Times {
 /// An account, and where it is in its file.
 #[derive(Clone, Copy, Debug, PartialEq, Eq)]
 pub struct Found {
-    /// What its line says of it, at the time that was passed.
+    /// What its line says of it, at the time that was passed. The file has no count of failures:
+    /// [`failures`](Account::failures) is 0, and is to be set before a step takes the account, see
+    /// [`Update`](crate::Update).
     pub account: Account,
     /// Where its line starts.
     pub offset: usize,
@@ -132,14 +134,16 @@ pub fn find_account(file: &[u8], name: &[u8], times: Times) -> Result<Option<Fou
     Ok(account.map(|account| Found { account, offset }))
 }
 
-/// Writes a changed account into its line, in place: both hashes, and `now` as the last change.
-/// Every other byte stays, the line's flags too: of the account nothing is written but its hashes.
-/// Gives where the line starts; none, with nothing written, if the name is on no line. A file that
-/// is refused is unchanged.
+/// Writes a changed account ([`Update::Changed`](crate::Update::Changed)) into its line, in place:
+/// both hashes, and `now` as the last change. Never a counted one, whose password would then be as
+/// new as its last Response. Every other byte stays, the line's flags too: of the account its hashes
+/// alone are written. Gives where the line starts; none, with nothing written, if the name is on no
+/// line. A file that is refused is unchanged.
 ///
 /// Only the caller's bytes are written. Before, take a lock, read the file again, and look the name
-/// up again: where the account is another by now, write nothing. Store the file by a new one with
-/// the owner and mode of the old, fsync and rename. At `now` 0 the password never expires.
+/// up again: where the account is by now another than the one that its Response gave (its count is
+/// 0, as that of one just found), write nothing. Store the file by a new one with the owner and
+/// mode of the old, fsync and rename. At `now` 0 the password never expires.
 pub fn write_account(
     file: &mut [u8],
     name: &[u8],

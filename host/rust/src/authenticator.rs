@@ -13,21 +13,31 @@ pub enum Awaited {
     Nothing,
 }
 
-/// The terms of a conversation. `Terms::default()` has the defaults of both: 2 retries, and LM off.
+/// The terms of a conversation. There is no `Default`, as there is no limit that fits all: choose
+/// one, and [`Terms::new`] has the defaults of the rest: 2 retries, and LM off.
+///
+/// The limit stops a guesser who hangs up and calls back, and gets fresh retries: an account whose
+/// count [`failures`](Account::failures) has reached it is locked, so that every Response to it
+/// draws 691, the right one too. That works only if the account is kept which each step gives back,
+/// see [`Update`]. Anybody can lock an account by guessing: choose a limit that is not reached by
+/// mistyping, on a closed bench 10, for instance.
 ///
 /// A bench whose phones answer by LM alone asks for it:
 ///
 /// ```
 /// use mschap::Terms;
 ///
-/// let terms = Terms { lm_allowed: Some(true), ..Terms::default() };
+/// let terms = Terms { lm_allowed: Some(true), ..Terms::new(10) };
 /// ```
 ///
 /// Without it every LM response draws 691, the right one too. Up to 0.4.0 `None` allowed LM: an
 /// upgrade without this choice locks those phones out. Ask for it there alone, since an account
 /// that has both hashes can then be guessed at by its LM hash, much the weaker.
-#[derive(Clone, Copy, Debug, Default, PartialEq, Eq)]
+#[derive(Clone, Copy, Debug, PartialEq, Eq)]
 pub struct Terms {
+    /// How many invalid Responses in a row lock an account, 1 to 255; with 0 the opening is refused
+    /// as [`Refusal::NoLimit`].
+    pub limit: u8,
     /// How often a wrong password may be tried again, 0 to 7; with `None` it is 2.
     pub retries: Option<u8>,
     /// A response by LM is judged; else, and with `None`, it is never valid.
@@ -35,6 +45,15 @@ pub struct Terms {
 }
 
 impl Terms {
+    /// Terms with this limit, and the defaults of the rest.
+    pub const fn new(limit: u8) -> Terms {
+        Terms {
+            limit,
+            retries: None,
+            lm_allowed: None,
+        }
+    }
+
     /// The number of the C interface.
     fn number(self) -> u32 {
         let retries = self.retries.map_or(0, |count| sys::retries(count.into()));
@@ -43,7 +62,7 @@ impl Terms {
             Some(true) => sys::LM_ALLOWED,
             Some(false) => sys::LM_REFUSED,
         };
-        sys::TERMS | retries | lm
+        sys::TERMS | sys::limit(self.limit.into()) | retries | lm
     }
 }
 
@@ -52,6 +71,42 @@ impl Terms {
 /// answers to one challenge.
 #[derive(Clone, Copy, Debug, PartialEq, Eq)]
 pub struct Conversation([u8; sys::CONVERSATION_SIZE]);
+
+/// The account that a step gives back, to be kept in the place of the one that was passed, before
+/// the reply is sent.
+///
+/// The two kinds go to two places. Whoever keeps the accounts as values keeps either, by
+/// [`account`](Update::account). An account file has no place for the count: a `Counted` one is
+/// never for [`write_account`](crate::write_account), which would set the time of the last change,
+/// so that an old password did not expire; its [`failures`](Account::failures) are kept beside the
+/// file, by the name that was looked up, and set in the account that
+/// [`find_account`](crate::find_account) finds for the next Response. Without that there is no
+/// lockout.
+///
+/// For one account make one step at a time: two steps that are passed the same copy count one
+/// failure. Keep it also where it is the same as before: a right guess at a locked account changes
+/// nothing, and a reply that comes sooner would tell it.
+#[derive(Clone, Copy, Debug, PartialEq, Eq)]
+#[must_use]
+pub enum Update {
+    /// Nothing is to be kept: no account was found, the change was not accepted, or the packet is a
+    /// repeat.
+    Nothing,
+    /// A Response was judged: the account that was passed, with its new count and no other change.
+    Counted(Account),
+    /// A change of the password was accepted: the account with its new hash, and the count 0.
+    Changed(Account),
+}
+
+impl Update {
+    /// The account to be kept, of either kind.
+    pub fn account(&self) -> Option<&Account> {
+        match self {
+            Update::Nothing => None,
+            Update::Counted(account) | Update::Changed(account) => Some(account),
+        }
+    }
+}
 
 /// What a packet drew that was not refused.
 #[derive(Clone, Copy, Debug, PartialEq, Eq)]
@@ -67,8 +122,8 @@ pub struct Answer {
     pub fault: ChangeFault,
     /// The size of the reply, which is at the front of the buffer.
     pub size: usize,
-    /// The account after an accepted change of the password, to be stored.
-    pub updated: Option<Account>,
+    /// The account to be kept, after every judged Response and after an accepted change.
+    pub update: Update,
 }
 
 impl Conversation {
@@ -76,7 +131,7 @@ impl Conversation {
     /// ([`REPLY_SIZE`](crate::REPLY_SIZE) bytes or more). The challenge has to be unpredictable:
     /// from a CSPRNG. The challenge and a successor for each retry are added to the list `issued`;
     /// if one of them is there already, the opening is refused as [`Refusal::Spent`]. Gives the
-    /// conversation and the size of the packet.
+    /// conversation and the size of the packet. The terms hold to its end.
     pub fn open(
         identifier: u8,
         terms: Terms,
@@ -97,9 +152,10 @@ impl Conversation {
         Ok((Conversation(bytes), sys::packet_length(reply)))
     }
 
-    /// One step: a packet was received, and `found` is what the lookup of its name found (it is
-    /// ignored while a change is awaited). Writes the Success or Failure to be sent at the front of
-    /// `reply` ([`REPLY_SIZE`](crate::REPLY_SIZE) bytes or more). A packet that is refused gets no
+    /// One step: a packet was received, and `found` is what the lookup of its name found, with the
+    /// count that it had last (it is ignored while a change is awaited). Writes the Success or
+    /// Failure to be sent at the front of `reply` ([`REPLY_SIZE`](crate::REPLY_SIZE) bytes or
+    /// more): before it is sent, keep what [`Answer::update`] has. A packet that is refused gets no
     /// reply and changes nothing.
     ///
     /// A packet with the code and the identifier of the one that was answered last, whatever else
@@ -112,6 +168,7 @@ impl Conversation {
         reply: &mut [u8],
     ) -> Result<Answer, Refusal> {
         let record = Account::record(found)?;
+        let awaited = self.awaited();
         let mut answer = [0; sys::ANSWER_SIZE];
         Refusal::check(sys::step(&mut self.0, packet, &record, reply, &mut answer))?;
         let mut updated = [0; sys::RECORD_SIZE];
@@ -119,13 +176,18 @@ impl Conversation {
             sys::OK => Account::from_bytes(&updated)?,
             _ => None,
         };
+        let update = match (updated, awaited) {
+            (None, _) => Update::Nothing,
+            (Some(account), Awaited::Change) => Update::Changed(account),
+            (Some(account), _) => Update::Counted(account),
+        };
         let number = sys::answer_reason(&answer);
         Ok(Answer {
             repeated: sys::answer_repeated(&answer) == 1,
             reason: Reason::of(number.into()).ok_or(Refusal::Unexpected(number))?,
             fault: ChangeFault::of(sys::answer_fault(&answer)),
             size: sys::packet_length(reply),
-            updated,
+            update,
         })
     }
 

@@ -42,6 +42,8 @@ pub enum Refusal {
     Spent,
     /// 17: too few places left in the list of issued challenges.
     ListFull,
+    /// 18: a limit of 0. An opening has to say how many invalid Responses in a row lock an account.
+    NoLimit,
     /// 24: a bad list of issued challenges. An [`Issued`](crate::Issued) never is one.
     List,
     /// 100: bytes that no such value has, of another kind, layout version or size.
@@ -58,7 +60,7 @@ pub enum Refusal {
 }
 
 /// Each refusal that has a number of its own.
-const NUMBERS: [(u32, Refusal); 22] = [
+const NUMBERS: [(u32, Refusal); 23] = [
     (1, Refusal::Ended),
     (2, Refusal::ReplyRoom),
     (3, Refusal::Frame),
@@ -76,6 +78,7 @@ const NUMBERS: [(u32, Refusal); 22] = [
     (sys::DOUBLED_NAME, Refusal::DoubledName),
     (16, Refusal::Spent),
     (17, Refusal::ListFull),
+    (18, Refusal::NoLimit),
     (24, Refusal::List),
     (sys::BAD_ARGUMENT, Refusal::BadArgument),
     (101, Refusal::Malformed),
@@ -124,7 +127,7 @@ pub enum Reason {
     PasswordExpired,
     /// 649: there is no permission to dial in.
     NoDialinPermission,
-    /// 691: the Response is not valid.
+    /// 691: the Response is not valid, or the account is locked.
     AuthenticationFailure,
     /// 709: the change of the password is not accepted.
     ChangingPassword,

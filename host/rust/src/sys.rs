@@ -6,14 +6,14 @@
 //! each one does. Here every value is bytes: the types around this module tell them apart.
 
 /// The version of the interface that is declared here: major, minor and patch, a byte each.
-pub const VERSION: u32 = 0x000600;
+pub const VERSION: u32 = 0x000700;
 
-/// The version of a record's layout.
-pub const RECORD_LAYOUT: u8 = 1;
-/// The version of a conversation's layout: with the last answer, since 0.3.0.
-pub const CONVERSATION_LAYOUT: u8 = 2;
-/// The version of an answer's layout: with what is wrong with a change, since 0.4.0.
-pub const ANSWER_LAYOUT: u8 = 3;
+/// The version of a record's layout: with the count of failures, since 0.7.0.
+pub const RECORD_LAYOUT: u8 = 2;
+/// The version of a conversation's layout: with the limit, since 0.7.0.
+pub const CONVERSATION_LAYOUT: u8 = 3;
+/// The version of an answer's layout: with the record's count of failures, since 0.7.0.
+pub const ANSWER_LAYOUT: u8 = 4;
 /// The version of a peer's layout.
 pub const PEER_LAYOUT: u8 = 1;
 /// The version of a password's layout.
@@ -68,12 +68,22 @@ pub const DIALIN_DENIED: u32 = 0x20;
 /// A record's flag: the password has expired.
 pub const EXPIRED: u32 = 0x40;
 
-/// The terms of a conversation: the defaults.
+/// The terms of a conversation, to which at least a [`limit`] is joined.
 pub const TERMS: u32 = 0x10000;
 /// To be joined to the terms: a response by LM is judged. Without it none is valid.
 pub const LM_ALLOWED: u32 = 0x100;
 /// To be joined to the terms: a response by LM is never valid; the default.
 pub const LM_REFUSED: u32 = 0x200;
+
+/// To be joined to the terms: how many invalid Responses in a row lock an account, 1 to 255. Any
+/// other count is as if nothing were joined, which is refused with 18.
+pub const fn limit(count: u32) -> u32 {
+    if count < 256 {
+        count << 24
+    } else {
+        0
+    }
+}
 
 /// To be joined to the terms: how often a wrong password may be tried again.
 pub const fn retries(count: u32) -> u32 {
@@ -99,11 +109,11 @@ pub const RESPONSE_SIZE: usize = 24;
 /// Bytes of a filler.
 pub const FILLER_SIZE: usize = 512;
 /// Bytes of a record.
-pub const RECORD_SIZE: usize = 41;
+pub const RECORD_SIZE: usize = 42;
 /// Bytes of a conversation.
-pub const CONVERSATION_SIZE: usize = 58;
+pub const CONVERSATION_SIZE: usize = 60;
 /// Bytes of a step's answer.
-pub const ANSWER_SIZE: usize = 45;
+pub const ANSWER_SIZE: usize = 46;
 /// Bytes of a peer.
 pub const PEER_SIZE: usize = 21;
 /// Bytes of a password.
@@ -198,6 +208,10 @@ pub mod raw {
             lm_hash: *mut u8,
             lm_hash_size: usize,
         ) -> u32;
+        /// A record's count of failures; [`INVALID`](super::INVALID) for an invalid record.
+        pub fn mschap_record_failures(record: *const u8, record_size: usize) -> u32;
+        /// Sets a record's count of failures, in place.
+        pub fn mschap_set_failures(record: *mut u8, record_size: usize, failures: u32) -> u32;
         /// Looks an account up in an account file: its record, and where its line starts.
         pub fn mschap_find_account(
             file: *const u8,
@@ -271,7 +285,7 @@ pub mod raw {
         /// What is wrong with a change that was judged, 0 if nothing; [`INVALID`](super::INVALID)
         /// for an invalid answer.
         pub fn mschap_answer_fault(answer: *const u8, answer_size: usize) -> u32;
-        /// The record after an accepted change of the password.
+        /// The record that a step gives, after a judged Response or an accepted change.
         pub fn mschap_answer_record(
             answer: *const u8,
             answer_size: usize,
@@ -485,6 +499,18 @@ pub fn read_record(record: &[u8], flags: &mut u32, nt_hash: &mut [u8], lm_hash: 
     }
 }
 
+/// A record's count of failures; [`INVALID`] for an invalid record.
+pub fn record_failures(record: &[u8]) -> u32 {
+    // SAFETY: slices, as said above.
+    unsafe { raw::mschap_record_failures(record.as_ptr(), record.len()) }
+}
+
+/// Sets a record's count of failures, in place.
+pub fn set_failures(record: &mut [u8], failures: u32) -> u32 {
+    // SAFETY: slices, as said above.
+    unsafe { raw::mschap_set_failures(record.as_mut_ptr(), record.len(), failures) }
+}
+
 /// Looks an account up in an account file: its record, and where its line starts.
 pub fn find_account(
     file: &[u8],
@@ -634,7 +660,7 @@ pub fn answer_fault(answer: &[u8]) -> u32 {
     unsafe { raw::mschap_answer_fault(answer.as_ptr(), answer.len()) }
 }
 
-/// The record after an accepted change of the password.
+/// The record that a step gives, after a judged Response or an accepted change of the password.
 pub fn answer_record(answer: &[u8], record: &mut [u8]) -> u32 {
     // SAFETY: slices, as said above.
     unsafe {
