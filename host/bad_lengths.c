@@ -77,6 +77,9 @@ static size_t read_record(struct argument *r)
     uint32_t number = mschap_read_record(BUFFER(0), &flags, BUFFER(1), BUFFER(2));
     return checked(number, flags, BOTH);
 }
+static size_t record_failures(struct argument *r) { return mschap_record_failures(BUFFER(0)); }
+static size_t set_failures(struct argument *r) { return mschap_set_failures(BUFFER(0), 255); }
+static size_t set_failures_over(struct argument *r) { return mschap_set_failures(BUFFER(0), 256); }
 #define ACCOUNT \
     "b:1:XXXXXXXXXXXXXXXXXXXXXXXXXXXXXXXX:FC156AF7EDCD6C0EDDE3337D427F4EAC:[U          ]:" \
     "LCT-00000001:"
@@ -121,23 +124,30 @@ static size_t count_accounts(struct argument *r)
 }
 static size_t make_list(struct argument *r) { return mschap_make_list(BUFFER(0)); }
 static size_t list_used(struct argument *r) { return mschap_list_used(BUFFER(0)); }
+#define LIMITED (MSCHAP_TERMS | MSCHAP_LIMIT(5))
 static size_t opening(struct argument *r)
 {
-    return mschap_open(7, MSCHAP_TERMS | MSCHAP_RETRIES(2) | MSCHAP_LM_ALLOWED, BUFFER(0),
-                       BUFFER(1), BUFFER(2), BUFFER(3));
+    return mschap_open(7, LIMITED | MSCHAP_RETRIES(2) | MSCHAP_LM_ALLOWED, BUFFER(0), BUFFER(1),
+                       BUFFER(2), BUFFER(3));
 }
 static size_t opening_retries(struct argument *r)
 {
-    return mschap_open(7, MSCHAP_TERMS | MSCHAP_RETRIES(8), BUFFER(0), BUFFER(1), BUFFER(2),
-                       BUFFER(3));
+    return mschap_open(7, LIMITED | MSCHAP_RETRIES(8), BUFFER(0), BUFFER(1), BUFFER(2), BUFFER(3));
 }
 static size_t opening_terms(struct argument *r)
 {
-    return mschap_open(7, MSCHAP_RETRIES(2), BUFFER(0), BUFFER(1), BUFFER(2), BUFFER(3));
+    return mschap_open(7, MSCHAP_LIMIT(5) | MSCHAP_RETRIES(2), BUFFER(0), BUFFER(1), BUFFER(2),
+                       BUFFER(3));
 }
 static size_t opening_identifier(struct argument *r)
 {
-    return mschap_open(256, MSCHAP_TERMS, BUFFER(0), BUFFER(1), BUFFER(2), BUFFER(3));
+    return mschap_open(256, LIMITED, BUFFER(0), BUFFER(1), BUFFER(2), BUFFER(3));
+}
+/* with no limit, and 8 retries: the limit comes first */
+static size_t opening_unlimited(struct argument *r)
+{
+    return mschap_open(7, MSCHAP_TERMS | MSCHAP_LIMIT(256) | MSCHAP_RETRIES(8), BUFFER(0),
+                       BUFFER(1), BUFFER(2), BUFFER(3));
 }
 static size_t step(struct argument *r)
 {
@@ -193,20 +203,22 @@ static const uint8_t zeros[517];
 static const uint8_t text[5] = {'a', 0xc3, 0xa4, 'b'}; /* a, a with two dots, b */
 static const uint8_t password[517] = {'W', 1, 0, 4, 'a', 0, 0xe4, 0};
 static const uint8_t unpaired[517] = {'W', 1, 0, 2, 0, 0xd8};
-static const uint8_t record[42] = {'R', 1, 1, 1, [20] = 1};
-static const uint8_t nobody[42] = {'R', 1};
+static const uint8_t record[43] = {'R', 2, 1, 1, [20] = 1, [41] = 3}; /* 3 failures */
+static const uint8_t nobody[43] = {'R', 2};
 static const uint8_t one_line[98] = ACCOUNT, two_lines[196] = ACCOUNT "\n" ACCOUNT;
 static const uint8_t name[2] = {'b', 'x'};
 static const uint8_t none_used[29] = {'L', 1, 0, 0};
 static const uint8_t one_used[37] = {'L', 1, 0, 1}; /* by the challenge of bytes 0 */
-static const uint8_t opened[59] = {'C', 2, 2, 1, 7, 2}; /* it awaits a Response, identifier 7 */
+/* it awaits a Response, identifier 7, and its limit is 5 */
+static const uint8_t opened[61] = {'C', 3, 2, 1, 5, 7, 2};
 /* it has ended, and answered a Response, identifier 7, with a Failure, R=0 */
-static const uint8_t ended[59] = {'C', 2, 0, 1, 7, [52] = 1, 2, 7, 1, 691 >> 8, 691 & 255};
-static const uint8_t failed[46] = {'A', 3, 0, 691 >> 8, 691 & 255};
-static const uint8_t repeated[46] = {'A', 3, 1, 691 >> 8, 691 & 255};
-static const uint8_t changed[46] = {'A', 3, 0, 0, 0, 0, 1};
+static const uint8_t ended[61] = {'C', 3, 0, 1, 5, 7, [54] = 1, 2, 7, 1, 691 >> 8, 691 & 255};
+static const uint8_t failed[47] = {'A', 4, 0, 691 >> 8, 691 & 255};
+static const uint8_t counted[47] = {'A', 4, 0, 691 >> 8, 691 & 255, 0, 1, [45] = 4};
+static const uint8_t repeated[47] = {'A', 4, 1, 691 >> 8, 691 & 255};
+static const uint8_t changed[47] = {'A', 4, 0, 0, 0, 0, 1};
 /* a change with another old hash under its new one */
-static const uint8_t spoiled[46] = {'A', 3, 0, 709 >> 8, 709 & 255, 5};
+static const uint8_t spoiled[47] = {'A', 4, 0, 709 >> 8, 709 & 255, 5};
 static const uint8_t peer[22] = {'P', 1, 1, 7, [12] = 8}; /* it sent a packet, identifier 7 */
 static const uint8_t response[63] = {2, 7, 0, 62, 49, [53] = 1, 'D', 'O', 'M', '\\', 'U', 's', 'e',
                                      'r'};
@@ -242,61 +254,70 @@ static const struct function {
     {"nt_hash", nt_hash, 0, BAD, {{password, 516, FIXED}, {NULL, 16, FIXED}}},
     {"lm_hash", lm_hash, 0, BAD, {{zeros, 14, 0, 0, 8}, {NULL, 16, FIXED}}},
     {"make_record", make_record, 0, BAD,
-     {{zeros, 16, FIXED}, {zeros, 16, FIXED}, {NULL, 41, FIXED}}},
-    {"make_record, NT", make_record_nt, 0, BAD, {{zeros, 16, FIXED}, {NULL, 41, FIXED}}},
-    {"make_record, no hash", make_record_bare, 0, BAD, {{NULL, 41, FIXED}}},
+     {{zeros, 16, FIXED}, {zeros, 16, FIXED}, {NULL, 42, FIXED}}},
+    {"make_record, NT", make_record_nt, 0, BAD, {{zeros, 16, FIXED}, {NULL, 42, FIXED}}},
+    {"make_record, no hash", make_record_bare, 0, BAD, {{NULL, 42, FIXED}}},
     {"make_record, other bits", make_record_bits, BAD, BAD,
-     {{zeros, 16, FIXED}, {zeros, 16, FIXED}, {NULL, 41, FIXED}}},
+     {{zeros, 16, FIXED}, {zeros, 16, FIXED}, {NULL, 42, FIXED}}},
     {"read_record", read_record, 0, BAD,
-     {{record, 41, FIXED}, {NULL, 16, FIXED}, {NULL, 16, FIXED}}},
+     {{record, 42, FIXED}, {NULL, 16, FIXED}, {NULL, 16, FIXED}}},
+    {"record_failures", record_failures, 3, NOT, {{record, 42, TOLD}}},
+    {"record_failures, nobody", record_failures, 0, NOT, {{nobody, 42, TOLD}}},
+    {"set_failures", set_failures, 0, BAD, {{record, 42, FIXED}}},
+    {"set_failures, nobody", set_failures, 0, BAD, {{nobody, 42, FIXED}}},
+    {"set_failures, 256", set_failures_over, BAD, BAD, {{record, 42, FIXED}}},
     /* a byte less is the colon behind the sixth field of the last line */
     {"find_account", find_account, 0, BAD,
-     {{one_line, 97, 0, 14, 0}, {name, 1, 0, 0, 0}, {NULL, 41, FIXED}}},
+     {{one_line, 97, 0, 14, 0}, {name, 1, 0, 0, 0}, {NULL, 42, FIXED}}},
     {"find_account, doubled", find_account_two, 15, BAD,
-     {{two_lines, 195, 0, 14, 15}, {name, 1, 0, 0, 0}, {NULL, 41, FIXED}}},
+     {{two_lines, 195, 0, 14, 15}, {name, 1, 0, 0, 0}, {NULL, 42, FIXED}}},
     {"write_account", write_account, 0, BAD,
-     {{one_line, 97, 103, 14, 0}, {name, 1, 103, 103, 103}, {record, 41, FIXED}}},
+     {{one_line, 97, 103, 14, 0}, {name, 1, 103, 103, 103}, {record, 42, FIXED}}},
     {"write_account, doubled", write_account_two, 15, BAD,
-     {{two_lines, 195, 103, 14, 15}, {name, 1, 103, 103, 103}, {record, 41, FIXED}}},
+     {{two_lines, 195, 103, 14, 15}, {name, 1, 103, 103, 103}, {record, 42, FIXED}}},
     {"write_account, nobody", write_account, 102, BAD,
-     {{one_line, 97, 102, 102, 102}, {name, 1, 102, 102, 102}, {nobody, 41, FIXED}}},
+     {{one_line, 97, 102, 102, 102}, {name, 1, 102, 102, 102}, {nobody, 42, FIXED}}},
     {"count_accounts", count_accounts, 20020, 0, {{two_lines, 195, 0, 21010, 20020}}},
     {"make_list", make_list, 0, 24, {{NULL, 28, 24, 24, 24}}},
     {"list_used", list_used, 1, NOT, {{one_used, 36, TOLD}}},
     /* no place used, and three to be used */
     {"open", opening, 0, BAD,
-     {{zeros, 8, FIXED}, {none_used, 28, BAD, 24, 24}, {NULL, 58, FIXED}, {NULL, 17, 2, 2, 0}}},
+     {{zeros, 8, FIXED}, {none_used, 28, BAD, 24, 24}, {NULL, 60, FIXED}, {NULL, 17, 2, 2, 0}}},
     /* one place used, by the same challenge */
     {"open, spent", opening, 16, BAD,
-     {{zeros, 8, FIXED}, {one_used, 36, BAD, 24, 24}, {NULL, 58, FIXED}, {NULL, 17, 2, 2, 16}}},
+     {{zeros, 8, FIXED}, {one_used, 36, BAD, 24, 24}, {NULL, 60, FIXED}, {NULL, 17, 2, 2, 16}}},
     {"open, 8 retries", opening_retries, 13, BAD,
-     {{zeros, 8, FIXED}, {none_used, 28, BAD, 13, 13}, {NULL, 58, FIXED}, {NULL, 17, 13, 13, 13}}},
+     {{zeros, 8, FIXED}, {none_used, 28, BAD, 13, 13}, {NULL, 60, FIXED}, {NULL, 17, 13, 13, 13}}},
+    {"open, no limit", opening_unlimited, 18, BAD,
+     {{zeros, 8, FIXED}, {none_used, 28, BAD, 18, 18}, {NULL, 60, FIXED}, {NULL, 17, 18, 18, 18}}},
     {"open, no terms", opening_terms, BAD, BAD,
-     {{zeros, 8, FIXED}, {none_used, 28, FIXED}, {NULL, 58, FIXED}, {NULL, 17, FIXED}}},
+     {{zeros, 8, FIXED}, {none_used, 28, FIXED}, {NULL, 60, FIXED}, {NULL, 17, FIXED}}},
     {"open, identifier 256", opening_identifier, BAD, BAD,
-     {{zeros, 8, FIXED}, {none_used, 28, FIXED}, {NULL, 58, FIXED}, {NULL, 17, FIXED}}},
+     {{zeros, 8, FIXED}, {none_used, 28, FIXED}, {NULL, 60, FIXED}, {NULL, 17, FIXED}}},
     {"step", step, 0, BAD,
-     {{opened, 58, FIXED}, {response, 62, 3, 3, 0}, {nobody, 41, FIXED}, {NULL, 17, 2, 2, 0},
-     {NULL, 45, FIXED}}},
+     {{opened, 60, FIXED}, {response, 62, 3, 3, 0}, {nobody, 42, FIXED}, {NULL, 17, 2, 2, 0},
+     {NULL, 46, FIXED}}},
     {"step, a repeat", step, 0, BAD,
-     {{ended, 58, FIXED}, {response, 62, 3, 3, 0}, {nobody, 41, FIXED}, {NULL, 17, 2, 2, 0},
-     {NULL, 45, FIXED}}},
+     {{ended, 60, FIXED}, {response, 62, 3, 3, 0}, {nobody, 42, FIXED}, {NULL, 17, 2, 2, 0},
+     {NULL, 46, FIXED}}},
     {"step, ended", step, 1, BAD,
-     {{ended, 58, FIXED}, {challenge, 13, 3, 3, 1}, {nobody, 41, FIXED}, {NULL, 17, 2, 2, 1},
-     {NULL, 45, FIXED}}},
-    {"answer_reason", answer_reason, 691, NOT, {{failed, 45, TOLD}}},
-    {"answer_repeated", answer_repeated, 1, NOT, {{repeated, 45, TOLD}}},
-    {"answer_repeated, judged", answer_repeated, 0, NOT, {{failed, 45, TOLD}}},
-    {"answer_fault", answer_fault, MSCHAP_FAULT_OLD_HASH_WRONG, NOT, {{spoiled, 45, TOLD}}},
-    {"answer_fault, none", answer_fault, 0, NOT, {{changed, 45, TOLD}}},
-    {"answer_record", answer_record, 0, BAD, {{changed, 45, FIXED}, {NULL, 41, FIXED}}},
-    {"answer_record, none", answer_record, 102, BAD, {{failed, 45, FIXED}, {NULL, 41, FIXED}}},
+     {{ended, 60, FIXED}, {challenge, 13, 3, 3, 1}, {nobody, 42, FIXED}, {NULL, 17, 2, 2, 1},
+     {NULL, 46, FIXED}}},
+    {"answer_reason", answer_reason, 691, NOT, {{failed, 46, TOLD}}},
+    {"answer_repeated", answer_repeated, 1, NOT, {{repeated, 46, TOLD}}},
+    {"answer_repeated, judged", answer_repeated, 0, NOT, {{failed, 46, TOLD}}},
+    {"answer_fault", answer_fault, MSCHAP_FAULT_OLD_HASH_WRONG, NOT, {{spoiled, 46, TOLD}}},
+    {"answer_fault, none", answer_fault, 0, NOT, {{changed, 46, TOLD}}},
+    {"answer_record", answer_record, 0, BAD, {{changed, 46, FIXED}, {NULL, 42, FIXED}}},
+    {"answer_record, counted", answer_record, 0, BAD,
+     {{counted, 46, FIXED}, {NULL, 42, FIXED}}},
+    {"answer_record, none", answer_record, 102, BAD, {{failed, 46, FIXED}, {NULL, 42, FIXED}}},
     {"answer_record, a repeat", answer_record, 102, BAD,
-     {{repeated, 45, FIXED}, {NULL, 41, FIXED}}},
-    {"conversation_awaits", awaits, 2, NOT, {{opened, 58, TOLD}}},
-    {"conversation_awaits, ended", awaits, 0, NOT, {{ended, 58, TOLD}}},
-    {"conversation_identifier", identifier, 7, NOT, {{opened, 58, TOLD}}},
-    {"conversation_retries", retries, 2, NOT, {{opened, 58, TOLD}}},
+     {{repeated, 46, FIXED}, {NULL, 42, FIXED}}},
+    {"conversation_awaits", awaits, 2, NOT, {{opened, 60, TOLD}}},
+    {"conversation_awaits, ended", awaits, 0, NOT, {{ended, 60, TOLD}}},
+    {"conversation_identifier", identifier, 7, NOT, {{opened, 60, TOLD}}},
+    {"conversation_retries", retries, 2, NOT, {{opened, 60, TOLD}}},
     {"packet_length", packet_length, 62, 0, {{response, 62, 0, 0, 62}}},
     {"account_offset", account_offset, 58, 0, {{response, 62, 0, 0, 58}}},
     {"account_length", account_length, 4, 0, {{response, 62, 0, 0, 4}}},

@@ -74,8 +74,8 @@ static void make_all(void)
     give_record(2);
     give_password(3, "another");
     give(4, MSCHAP_FILLER_SIZE);
-    mschap_open(7, MSCHAP_TERMS, challenge, sizeof challenge, memory[0].bytes, size[0],
-                &made.conversation, sizeof made.conversation,
+    mschap_open(7, MSCHAP_TERMS | MSCHAP_LIMIT(5), challenge, sizeof challenge,
+                memory[0].bytes, size[0], &made.conversation, sizeof made.conversation,
                 made.challenge, sizeof made.challenge);
     made.challenge_size = mschap_packet_length(made.challenge, sizeof made.challenge);
     mschap_read_challenge(made.challenge, made.challenge_size, &made.asked, sizeof made.asked);
@@ -123,8 +123,11 @@ static void give_out(int i, size_t bytes, int turn)
 static int give_all(int turn)
 {
     static const uint32_t identifiers[] = {0, 7, 255};
-    static const uint32_t terms[] = {MSCHAP_TERMS, MSCHAP_TERMS | MSCHAP_RETRIES(7),
-                                     MSCHAP_TERMS | MSCHAP_RETRIES(0) | MSCHAP_LM_REFUSED};
+    static const uint32_t terms[] = {
+        MSCHAP_TERMS | MSCHAP_LIMIT(1), MSCHAP_TERMS | MSCHAP_LIMIT(255) | MSCHAP_RETRIES(7),
+        MSCHAP_TERMS | MSCHAP_LIMIT(5) | MSCHAP_RETRIES(0) | MSCHAP_LM_REFUSED,
+    };
+    static const uint32_t failures[] = {0, 42, 255};
     const size_t hash = MSCHAP_HASH_SIZE;
     static const uint8_t file[] =
         "#\nUser:1001:XXXXXXXXXXXXXXXXXXXXXXXXXXXXXXXX:FC156AF7EDCD6C0EDDE3337D427F4EAC:"
@@ -151,6 +154,9 @@ static int give_all(int turn)
         give_record(0);
         give_out(2, hash, turn);
         give_out(3, hash, turn);
+    } else if (named("mschap_set_failures")) {
+        give_record(0);
+        number[1] = failures[turn % 3];
     } else if (named("mschap_find_account")) {
         put(0, file, sizeof file - 1);
         put(1, "User", 4);

@@ -4,8 +4,10 @@
  * reply or its reason, and the way. The time is not to tell which way it was, so tests/timing.sh
  * counts the instructions of each call. Exit status 1 where a call does not draw its reply.
  *
- * With the argument mschap_find_account it calls that instead, with names that are in a file and
- * names that are not: the time is not to tell where a name is, nor how much of a name is right.
+ * With another function's name for its argument it calls that one instead: mschap_find_account with
+ * names that are in a file and names that are not, as the time is not to tell where a name is, nor
+ * how much of a name is right; and those through which the count of failures goes, with different
+ * counts, as the time is not to tell the count.
  */
 #include <mschap.h>
 #include <stdio.h>
@@ -22,15 +24,17 @@
 #define NT 3
 #define LM 20
 #define FLAGS 37
-#define ACCOUNT_SIZE 38 /* from NT on */
+#define FAILURES 41
+#define ACCOUNT_SIZE 39 /* from NT on */
 
 /* and a conversation: */
 #define AWAITED 2
 #define LM_ALLOWED 3
-#define IDENTIFIER 4
-#define RETRIES 5
-#define CHALLENGE 6
-#define KEPT 14 /* the account, as a record has it from NT on */
+#define LIMIT 4
+#define IDENTIFIER 5
+#define RETRIES 6
+#define CHALLENGE 7
+#define KEPT 15 /* the account, as a record has it from NT on */
 
 /* and a change: the last four octets of the block, the old hash under the new one, and so on */
 #define LENGTH 516
@@ -70,8 +74,9 @@ static void nobody(void)
     record[1] = MSCHAP_RECORD_LAYOUT;
 }
 
-/* A record that was found, with both hashes; a packet with both responses right, which is judged
-   by the NT one; LM is allowed. Each way changes a part of this. */
+/* A record that was found, with both hashes and no failure; a packet with both responses right,
+   which is judged by the NT one; LM is allowed, and the limit is 5. Each way changes a part of
+   this. */
 static void rightful(void)
 {
     static const uint8_t head[] = {2, 7, 0, PACKET, 49};
@@ -81,6 +86,7 @@ static void rightful(void)
     conversation[1] = MSCHAP_CONVERSATION_LAYOUT;
     conversation[AWAITED] = MSCHAP_AWAITS_RESPONSE;
     conversation[LM_ALLOWED] = 1;
+    conversation[LIMIT] = 5;
     conversation[IDENTIFIER] = 7;
     conversation[RETRIES] = retries;
     memcpy(conversation + CHALLENGE, challenge, sizeof challenge);
@@ -97,7 +103,18 @@ static void rightful(void)
     memset(&answer, 0, sizeof answer);
 }
 
-static void judged(const char *way, const char *group, const uint8_t *expected, size_t size)
+/* The count of failures that the step gives back; MSCHAP_INVALID where there is no record. */
+static uint32_t failures_after(void)
+{
+    mschap_record after;
+    if (mschap_answer_record(&answer, sizeof answer, &after, sizeof after) != MSCHAP_OK)
+        return MSCHAP_INVALID;
+    return mschap_record_failures(&after, sizeof after);
+}
+
+/* One step, of an account that has failed so often then. */
+static void judged(const char *way, uint32_t after, const char *group, const uint8_t *expected,
+                   size_t size)
 {
     uint32_t number = mschap_step(&talk, sizeof talk, packet, sizeof packet,
                                   &found, sizeof found, reply, sizeof reply,
@@ -106,21 +123,40 @@ static void judged(const char *way, const char *group, const uint8_t *expected, 
         fprintf(stderr, "timing: %s: another reply than %s\n", way, group);
         failed = 1;
     }
+    if (failures_after() != after) {
+        fprintf(stderr, "timing: %s: another count than %u\n", way, (unsigned)after);
+        failed = 1;
+    }
     printf("%s %s\n", group, way);
     rightful();
 }
 
 static void valid(const char *way)
 {
-    judged(way, "Success", success, sizeof success);
+    judged(way, 0, "Success", success, sizeof success);
+}
+
+static void not_valid(const char *way, uint32_t after)
+{
+    if (retries > 0)
+        judged(way, after, "R=1", again, MSCHAP_REPLY_SIZE);
+    else
+        judged(way, after, "R=0", no_more, MSCHAP_REPLY_SIZE);
 }
 
 static void invalid(const char *way)
 {
-    if (retries > 0)
-        judged(way, "R=1", again, MSCHAP_REPLY_SIZE);
+    uint32_t count = record[FAILURES];
+    if (record[FOUND] == 0)
+        not_valid(way, MSCHAP_INVALID);
     else
-        judged(way, "R=0", no_more, MSCHAP_REPLY_SIZE);
+        not_valid(way, count < 255 ? count + 1 : count);
+}
+
+/* A Response that is right for an account which is locked: the count stays, and tells it. */
+static void right_but_locked(const char *way)
+{
+    not_valid(way, record[FAILURES]);
 }
 
 /* Without a hash, the bytes that stand beside the flag stay: they are to have no effect. */
@@ -201,6 +237,78 @@ static void all_ways(void)
     conversation[LM_ALLOWED] = 0;
     without(NT);
     invalid("LM off, flag 1 and no NT hash");
+}
+
+static void counted(uint8_t limit, uint8_t count)
+{
+    conversation[LIMIT] = limit;
+    record[FAILURES] = count;
+}
+
+/* Counts below the limit, at it and over it: a locked account takes what an unknown one takes,
+   whatever its Response says. */
+static void all_counts(void)
+{
+    static const uint8_t below[][2] = {{5, 3}, {5, 4}, {1, 0}, {255, 254}};
+    static const uint8_t locked[][2] = {{5, 5}, {5, 6}, {5, 254}, {5, 255}, {1, 1}, {255, 255}};
+    char way[128];
+    size_t i;
+    rightful();
+    for (i = 0; i < sizeof below / sizeof *below; i++) {
+        const uint8_t limit = below[i][0], count = below[i][1];
+        sprintf(way, "limit %u, count %u", limit, count);
+        counted(limit, count);
+        valid(way);
+        counted(limit, count);
+        packet[FLAG] = 0;
+        valid(way);
+        counted(limit, count);
+        packet[NT_RESPONSE] ^= 1;
+        invalid(way);
+        counted(limit, count);
+        conversation[LM_ALLOWED] = packet[FLAG] = 0;
+        invalid(way);
+    }
+    for (i = 0; i < sizeof locked / sizeof *locked; i++) {
+        const uint8_t limit = locked[i][0], count = locked[i][1];
+        sprintf(way, "locked, limit %u, count %u", limit, count);
+        counted(limit, count);
+        right_but_locked(way);
+        counted(limit, count);
+        memset(record + FLAGS, 1, 4);
+        right_but_locked(way);
+        counted(limit, count);
+        packet[FLAG] = 0;
+        right_but_locked(way);
+        counted(limit, count);
+        without(NT);
+        right_but_locked(way);
+        counted(limit, count);
+        packet[NT_RESPONSE] ^= 1;
+        invalid(way);
+        counted(limit, count);
+        memset(packet + NT_RESPONSE, 0, MSCHAP_RESPONSE_SIZE);
+        invalid(way);
+        counted(limit, count);
+        packet[FLAG] = 0;
+        packet[LM_RESPONSE + 23] ^= 0x80;
+        invalid(way);
+        counted(limit, count);
+        conversation[LM_ALLOWED] = packet[FLAG] = 0;
+        invalid(way);
+        counted(limit, count);
+        without(NT);
+        without(LM);
+        invalid(way);
+        sprintf(way, "no record, octets of an account with limit %u, count %u", limit, count);
+        counted(limit, count);
+        record[FOUND] = 0;
+        invalid(way);
+        counted(limit, count);
+        record[FOUND] = 0;
+        packet[NT_RESPONSE] ^= 1;
+        invalid(way);
+    }
 }
 
 /* A conversation that has kept the user's record, and the right change. */
@@ -298,6 +406,39 @@ static void all_lookups(void)
     looked_up("#a comme", "none", "as a comment");
 }
 
+static const uint8_t counts[] = {0, 1, 4, 5, 6, 254, 255};
+
+/* The record of a judged Response is handed out, its count told, and another one set. */
+static void all_records(const char *function)
+{
+    mschap_record after;
+    uint32_t number, told;
+    size_t i, k;
+    for (i = 0; i < sizeof counts; i++) {
+        rightful();
+        record[FAILURES] = counts[i];
+        if (strcmp(function, "mschap_answer_record") == 0) {
+            failed |= mschap_step(&talk, sizeof talk, packet, sizeof packet, &found, sizeof found,
+                                  reply, sizeof reply, &answer, sizeof answer) != MSCHAP_OK;
+            number = mschap_answer_record(&answer, sizeof answer, &after, sizeof after);
+            told = after.bytes[FAILURES];
+            failed |= number != MSCHAP_OK || told != (counts[i] < 5 ? 0 : counts[i]);
+            printf("handed count %u\n", counts[i]);
+        } else if (strcmp(function, "mschap_record_failures") == 0) {
+            failed |= mschap_record_failures(&found, sizeof found) != counts[i];
+            printf("told count %u\n", counts[i]);
+        } else {
+            for (k = 0; k < sizeof counts; k++) {
+                number = mschap_set_failures(&found, sizeof found, counts[k]);
+                failed |= number != MSCHAP_OK || record[FAILURES] != counts[k];
+                printf("set count %u\n", counts[k]);
+            }
+        }
+    }
+    if (failed)
+        fprintf(stderr, "timing: %s answers otherwise\n", function);
+}
+
 /* The change from the password to an empty one, as our peer writes it. */
 static void write_right_change(const mschap_password *password)
 {
@@ -337,9 +478,14 @@ int main(int argc, char **argv)
                                         nt_right, sizeof nt_right) != MSCHAP_OK;
     failed |= mschap_challenge_response(lm_hash.bytes, sizeof lm_hash, challenge, sizeof challenge,
                                         lm_right, sizeof lm_right) != MSCHAP_OK;
+    if (argc == 2 && strcmp(argv[1], "mschap_step") != 0) {
+        all_records(argv[1]);
+        return failed;
+    }
     for (i = 0; i < sizeof tries; i++) {
         retries = tries[i];
         all_ways();
+        all_counts();
     }
     write_right_change(&password);
     all_faults();

@@ -1,20 +1,25 @@
 #!/bin/sh
 # A Response that is not valid takes the same instructions in whatever way it is not: a wrong
-# response, no record, no hash, LM off. A change that is not accepted takes the same but for 8,
-# whatever its fault is: it comes from who knew the old password, and a branch of the compiler's is
-# let pass. A lookup in an account file takes the same wherever the name's line is, and for names of
-# one length that are on no line, however much of them is right. host/timing.c makes one call for
-# each way, and callgrind counts the instructions within mschap_step or mschap_find_account. Calls
-# with the same reply, or that find or do not find, are compared.
+# response, no record, no hash, LM off, or a locked account, at which the right response is no more
+# valid than a wrong one. So do the functions through which the count of failures goes, whatever the
+# count is: it tells whether a guess at a locked account was right. A change that is not accepted
+# takes the same but for 8, whatever its fault is: it comes from who knew the old password, and a
+# branch of the compiler's is let pass. A lookup in an account file takes the same wherever the
+# name's line is, and for names of one length that are on no line, however much of them is right.
+# host/timing.c makes one call for each way, and callgrind counts the instructions within the
+# function. Calls with the same reply, or that find or do not find, are compared.
 # Run in the repository. Argument: the archive, if not the one that `rt staticlib mschap` writes.
 set -eu
 archive=${1:-target/staticlib/libmschap.a}
 program=target/host-timing
 ${CC:-cc} -Wall -Wextra -Werror -std=c99 -pedantic -I host/include host/timing.c "$archive" \
     -o "$program"
+functions='mschap_step mschap_find_account'
+functions="$functions mschap_answer_record mschap_record_failures mschap_set_failures"
 if ! command -v valgrind > /dev/null; then
-    "$program" > /dev/null
-    "$program" mschap_find_account > /dev/null
+    for function in $functions; do
+        "$program" $function > /dev/null
+    done
     echo 'timing: skipped, as valgrind is not installed: no instructions were counted'
     exit 0
 fi
@@ -23,7 +28,7 @@ fi
 # since binding one at its first use would be counted.
 parts=$(mktemp -d)
 trap 'rm -rf "$parts"' EXIT
-for function in mschap_step mschap_find_account; do
+for function in $functions; do
     LD_BIND_NOW=1 valgrind --quiet --tool=callgrind --callgrind-out-file="$parts/$function" \
         --toggle-collect=$function --dump-after=$function "$program" $function > "$parts/ways"
     call=0
@@ -42,6 +47,7 @@ awk '
     END {
         if (!("R=1" in calls) || !("R=0" in calls) || !("709" in calls)) bad = 1
         if (!("found" in calls) || !("none" in calls)) bad = 1
+        if (!("handed" in calls) || !("told" in calls) || !("set" in calls)) bad = 1
         for (i = 1; i <= groups; i++)
             if (most[group[i]] - least[group[i]] > (group[i] == "709" ? 8 : 0)) bad = 1
         for (i = 1; bad && i <= NR; i++) print "timing: " line[i]

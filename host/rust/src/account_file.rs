@@ -136,9 +136,9 @@ pub fn find_account(file: &[u8], name: &[u8], times: Times) -> Result<Option<Fou
 
 /// Writes a changed account ([`Update::Changed`](crate::Update::Changed)) into its line, in place:
 /// both hashes, and `now` as the last change. Never a counted one, whose password would then be as
-/// new as its last Response. Every other byte stays, the line's flags too: of the account its hashes
-/// alone are written. Gives where the line starts; none, with nothing written, if the name is on no
-/// line. A file that is refused is unchanged.
+/// new as its last Response. Every other byte stays, the line's flags too: of the account its
+/// hashes alone are written. Gives where the line starts; none, and nothing is written, if it is on
+/// no line. A file that is refused is unchanged.
 ///
 /// Only the caller's bytes are written. Before, take a lock, read the file again, and look the name
 /// up again: where the account is by now another than the one that its Response gave (its count is

@@ -16,20 +16,27 @@ pub const LIST: u8 = b'L';
 pub const KINDS: [u8; 6] = [RECORD, ANSWER, CONVERSATION, PEER, PASSWORD, LIST];
 /// Bytes of kind and version.
 pub const TAG: usize = 2;
+/// Where the limit is in a conversation.
+pub const LIMIT_AT: usize = 4;
 /// Where the account that is kept begins in a conversation.
-pub const KEPT_AT: usize = 14;
+pub const KEPT_AT: usize = 15;
 /// Where the last answer begins in a conversation.
-pub const LAST_AT: usize = 52;
+pub const LAST_AT: usize = 54;
 /// Bytes of an account within a record, an answer or a conversation.
-pub const ACCOUNT_SIZE: usize = 38;
+pub const ACCOUNT_SIZE: usize = 39;
+/// Where the flags are in an account: that there is an NT hash, an LM hash, and the four others.
+pub const ACCOUNT_FLAGS: [usize; 6] = [0, 17, 34, 35, 36, 37];
+/// Where the count of failures is in a record.
+pub const FAILURES_AT: usize = 41;
 /// Bytes before the places of a list.
 pub const LIST_HEAD: usize = 4;
 
 /// The version of a kind's layout.
 pub fn version(kind: u8) -> u8 {
     match kind {
-        ANSWER => 3,
-        CONVERSATION => 2,
+        ANSWER => 4,
+        CONVERSATION => 3,
+        RECORD => 2,
         _ => 1,
     }
 }
@@ -75,6 +82,7 @@ pub fn account(account: &Account) -> [u8; ACCOUNT_SIZE] {
     bytes[35] = account.hours.into();
     bytes[36] = account.no_dialin.into();
     bytes[37] = account.expired.into();
+    bytes[38] = account.failures;
     bytes
 }
 
@@ -86,6 +94,7 @@ pub fn to_account(bytes: &[u8]) -> Option<Account> {
         hours: flag(bytes[35])?,
         no_dialin: flag(bytes[36])?,
         expired: flag(bytes[37])?,
+        failures: bytes[38],
     })
 }
 
@@ -111,7 +120,7 @@ pub fn to_record(bytes: &[u8]) -> Option<Option<Account>> {
     to_lookup(body(RECORD, sys::RECORD_SIZE, bytes)?)
 }
 
-/// The flags and the two hashes of a record, as they are stored.
+/// The flags and the two hashes of a record, as they are stored; any byte is a count of failures.
 pub fn record_parts(bytes: &[u8]) -> Option<(u32, [u8; 16], [u8; 16])> {
     to_record(bytes)?;
     let flags = [2, 3, 20, 37, 38, 39, 40]
@@ -219,35 +228,37 @@ pub fn conversation(conversation: &Conversation) -> [u8; sys::CONVERSATION_SIZE]
             Phase::Ended => 0,
             Phase::Response => 2,
             Phase::Change(kept) => {
-                to[12..50].copy_from_slice(&account(kept));
+                to[13..52].copy_from_slice(&account(kept));
                 6
             }
         };
         to[1] = conversation.lm.into();
-        to[2] = conversation.id;
-        to[3] = conversation.retries;
-        to[4..12].copy_from_slice(&conversation.challenge);
+        to[2] = conversation.limit;
+        to[3] = conversation.id;
+        to[4] = conversation.retries;
+        to[5..13].copy_from_slice(&conversation.challenge);
         if let Some(answered) = &conversation.last {
-            to[50..].copy_from_slice(&last(answered));
+            to[52..].copy_from_slice(&last(answered));
         }
     })
 }
 
 pub fn to_conversation(bytes: &[u8]) -> Option<Conversation> {
     let body = body(CONVERSATION, sys::CONVERSATION_SIZE, bytes)?;
-    let kept = to_account(&body[12..50])?;
+    let kept = to_account(&body[13..52])?;
     Some(Conversation {
-        id: body[2],
-        challenge: part(body, 4),
-        retries: body[3],
+        id: body[3],
+        challenge: part(body, 5),
+        retries: body[4],
         lm: flag(body[1])?,
+        limit: body[2],
         phase: match body[0] {
             0 => Phase::Ended,
             2 => Phase::Response,
             6 => Phase::Change(kept),
             _ => return None,
         },
-        last: to_last(&body[50..])?,
+        last: to_last(&body[52..])?,
     })
 }
 
