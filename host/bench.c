@@ -33,6 +33,7 @@
 #define PASSWORD 20
 #define RETRIES 2 /* of an opening */
 #define SPENT (RETRIES + 1) /* the challenges that it spends */
+#define MOST_FAILURES 10 /* its limit */
 #define HALF (MSCHAP_LIST_PLACES / 2)
 #define NEARLY (MSCHAP_LIST_PLACES - SPENT) /* used places that leave room for one opening */
 #define FEW 8
@@ -47,7 +48,7 @@
 
 /* Where the layouts have what follows from call to call: to set it there takes no time that a
    caller would not take. */
-#define IDENTIFIER 4 /* in a conversation */
+#define IDENTIFIER 5 /* in a conversation */
 #define USED 2       /* in a list: two bytes, the most significant first */
 #define PLACES 4     /* in a list */
 #define SENT 2       /* in a peer: whether a packet was sent, and its identifier */
@@ -73,7 +74,7 @@ struct judged {
     mschap_answer answer;
 };
 
-static struct judged response, wrong_response, unknown, change;
+static struct judged response, wrong_response, unknown, locked, change;
 /* A packet that is a repeat, and one that is refused. */
 static struct judged repeat, refused;
 
@@ -180,6 +181,11 @@ static void our_unknown(struct work *w, long calls)
     judge(&unknown, w, calls);
 }
 
+static void our_locked(struct work *w, long calls)
+{
+    judge(&locked, w, calls);
+}
+
 static void our_change(struct work *w, long calls)
 {
     judge(&change, w, calls);
@@ -222,7 +228,8 @@ static void open_again(struct opening *o, struct work *w, long calls)
     while (calls-- > 0) {
         size_t used;
         answer = mschap_open((uint8_t)(o->reply[1] + 1 + answer),
-                             MSCHAP_TERMS | MSCHAP_RETRIES(RETRIES) | MSCHAP_LM_ALLOWED,
+                             MSCHAP_TERMS | MSCHAP_LIMIT(MOST_FAILURES) | MSCHAP_RETRIES(RETRIES)
+                                 | MSCHAP_LM_ALLOWED,
                              o->challenge, sizeof o->challenge,
                              o->list, MSCHAP_LIST_SIZE(o->places),
                              &o->conversation, sizeof o->conversation, o->reply, sizeof o->reply);
@@ -396,6 +403,7 @@ static struct line {
     {.what = "judged Response", .run = {our_response, NULL}},
     {.what = "judged Response, wrong", .run = {our_wrong_response, NULL}},
     {.what = "judged Response, no record", .run = {our_unknown, NULL}},
+    {.what = "judged Response, locked", .run = {our_locked, NULL}},
     {.what = "judged change", .run = {our_change, NULL}},
     {.what = "repeated Response", .run = {our_repeat, NULL}},
     {.what = "refused Response", .run = {our_refused, NULL}},
@@ -413,10 +421,10 @@ static struct line {
 #define ANSWER 3
 #define HASH_AND_ANSWER 4
 #define RESPONSE 5
-#define OPEN_EMPTY 11
-#define OPEN_NEARLY 13
-#define OPEN_ALIKE 15
-#define OPEN_FEW 16
+#define OPEN_EMPTY 12
+#define OPEN_NEARLY 14
+#define OPEN_ALIKE 16
+#define OPEN_FEW 17
 
 static void begin(struct work *w)
 {
@@ -489,7 +497,8 @@ static uint32_t prepare(const struct work *w)
     wrong |= mschap_make_record(flags, &hash, sizeof hash, NULL, 0, &response.record,
                                 sizeof response.record);
     wrong |= mschap_make_list(list, sizeof list);
-    wrong |= mschap_open(7, MSCHAP_TERMS | MSCHAP_RETRIES(RETRIES) | MSCHAP_LM_REFUSED,
+    wrong |= mschap_open(7, MSCHAP_TERMS | MSCHAP_LIMIT(MOST_FAILURES) | MSCHAP_RETRIES(RETRIES)
+                                | MSCHAP_LM_REFUSED,
                          w->challenge, 8, list, sizeof list,
                          &response.conversation, sizeof response.conversation,
                          response.reply, sizeof response.reply);
@@ -499,13 +508,16 @@ static uint32_t prepare(const struct work *w)
     response.size = mschap_packet_length(response.packet, sizeof response.packet);
     response.code = 3;
 
-    /* the same with a wrong NT response, and with no record */
+    /* the same with a wrong NT response, with no record, and the right one for a locked account */
     wrong_response = response;
     wrong_response.packet[29] ^= 1;
     wrong_response.code = 4;
     unknown = response;
     wrong |= mschap_make_record(0, NULL, 0, NULL, 0, &unknown.record, sizeof unknown.record);
     unknown.code = 4;
+    locked = response;
+    wrong |= mschap_set_failures(&locked.record, sizeof locked.record, MOST_FAILURES);
+    locked.code = 4;
 
     /* the same once it was answered, and under another identifier than the awaited one */
     repeat = response;

@@ -3,9 +3,11 @@
  * mistyped password and then with the right one, which has expired, and changes it. Twice it misses
  * the reply and sends the same packet again. In a second conversation the new password has expired
  * too, and the change is made with a mistyped old one: the peer is told 709 alone, and the
- * authenticator what is wrong. At the end another authenticator tries to open with the first
- * challenge again, and is refused. The challenges are fixed, so that it prints the same each time;
- * examples/ has the two ends as programs of their own, which draw them.
+ * authenticator what is wrong. Then somebody guesses until the account is locked, hangs up and
+ * calls back: the right password fails then too, until the account is unlocked. At the end another
+ * authenticator tries to open with the first challenge again, and is refused. The challenges are
+ * fixed, so that it prints the same each time; examples/ has the two ends as programs of their own,
+ * which draw them.
  *
  *     cc host/example.c $(pkg-config --cflags --libs mschap)
  */
@@ -41,8 +43,26 @@ static mschap_answer answer;
 static mschap_peer peer;
 static uint8_t packet[MSCHAP_CHANGE_PACKET], reply[MSCHAP_REPLY_SIZE];
 
+/* how many invalid Responses in a row lock the account: few, so that the example is short */
+#define MOST_FAILURES 3
+#define TERMS (MSCHAP_TERMS | MSCHAP_LIMIT(MOST_FAILURES) | MSCHAP_LM_REFUSED)
+
+static uint8_t list[MSCHAP_LIST_SIZE(16)];
+
+/* The authenticator opens a conversation, and the peer reads the Challenge. */
+static void open_with(uint8_t identifier, const uint8_t *challenge)
+{
+    size_t size;
+    check("open", mschap_open(identifier, TERMS, challenge, MSCHAP_CHALLENGE_SIZE,
+                              list, sizeof list, &talk, sizeof talk, reply, sizeof reply));
+    size = mschap_packet_length(reply, sizeof reply);
+    show("Challenge", reply, size);
+    check("read_challenge", mschap_read_challenge(reply, size, &peer, sizeof peer));
+}
+
 /* The authenticator answers the packet, and the peer reads the reply. Returns what it calls for.
-   What is wrong with a change is for the authenticator's log: the reply does not tell it. */
+   The record that the step gives takes the place of the one before: after each Response with its
+   count of failures. Neither that nor what is wrong with a change is told by the reply. */
 static uint32_t step(const char *what)
 {
     uint32_t call, fault;
@@ -61,6 +81,9 @@ static uint32_t step(const char *what)
            (unsigned)mschap_conversation_awaits(&talk, sizeof talk),
            (unsigned)mschap_conversation_retries(&talk, sizeof talk),
            mschap_answer_repeated(&answer, sizeof answer) ? ", again" : "");
+    if (mschap_answer_record(&answer, sizeof answer, &record, sizeof record) == MSCHAP_OK)
+        printf("%-28s%u\n", "the record: failures",
+               (unsigned)mschap_record_failures(&record, sizeof record));
     fault = mschap_answer_fault(&answer, sizeof answer);
     if (fault != MSCHAP_FAULT_NONE)
         printf("%-28s%u, %s\n", "the authenticator: fault", (unsigned)fault,
@@ -70,6 +93,16 @@ static uint32_t step(const char *what)
     return call;
 }
 
+/* The peer answers with a password, and the authenticator judges it. */
+static uint32_t respond(const char *what, const mschap_password *password)
+{
+    static const uint8_t name[] = {'D', 'O', 'M', '\\', 'U', 's', 'e', 'r'};
+    check("write_response",
+          mschap_write_response(&peer, sizeof peer, password, sizeof *password,
+                                name, sizeof name, packet, sizeof packet));
+    return step(what);
+}
+
 int main(void)
 {
     /* an example only: a real one is unpredictable, from a CSPRNG, and so is a filler */
@@ -77,16 +110,18 @@ int main(void)
                                                              0x08, 0x5d, 0x30, 0x41};
     static const uint8_t another[MSCHAP_CHALLENGE_SIZE] = {0x21, 0x02, 0x99, 0x01,
                                                            0x44, 0x6a, 0xf3, 0x70};
+    static const uint8_t third[MSCHAP_CHALLENGE_SIZE] = {0x5c, 0x77, 0x10, 0xe8,
+                                                         0x3b, 0xd2, 0x06, 0x9f};
+    static const uint8_t fourth[MSCHAP_CHALLENGE_SIZE] = {0xa1, 0x3e, 0x52, 0x4b,
+                                                          0x90, 0x18, 0xcd, 0x64};
     static const uint8_t filler[MSCHAP_FILLER_SIZE];
     static const uint8_t stray[] = {6, 200, 0, 4}; /* a change with another identifier */
-    static const uint8_t name[] = {'D', 'O', 'M', '\\', 'U', 's', 'e', 'r'};
-    static uint8_t list[MSCHAP_LIST_SIZE(8)];
     mschap_password password, mistyped;
     mschap_new_password renewed;
     mschap_nthash hash;
     mschap_lmhash lm_hash;
     uint32_t flags;
-    size_t size;
+    int guess;
 
     /* the account: its password has expired */
     make_password("clientPass", 10, &password);
@@ -98,24 +133,12 @@ int main(void)
                                             &hash, sizeof hash, NULL, 0, &record, sizeof record));
 
     check("make_list", mschap_make_list(list, sizeof list));
-    check("open", mschap_open(7, MSCHAP_TERMS | MSCHAP_LM_REFUSED, challenge, sizeof challenge,
-                              list, sizeof list, &talk, sizeof talk, reply, sizeof reply));
-    size = mschap_packet_length(reply, sizeof reply);
-    show("Challenge", reply, size);
-
-    check("read_challenge", mschap_read_challenge(reply, size, &peer, sizeof peer));
-    check("write_response",
-          mschap_write_response(&peer, sizeof peer, &mistyped, sizeof mistyped,
-                                name, sizeof name, packet, sizeof packet));
-    printf("%-28s%.*s\n", "account", (int)mschap_account_length(packet, sizeof packet),
-           (const char *)packet + mschap_account_offset(packet, sizeof packet));
-    if (step("Response, mistyped") != MSCHAP_CALL_RESPONSE)
+    open_with(7, challenge);
+    if (respond("Response, mistyped", &mistyped) != MSCHAP_CALL_RESPONSE)
         return 1;
-
-    check("write_response",
-          mschap_write_response(&peer, sizeof peer, &password, sizeof password,
-                                name, sizeof name, packet, sizeof packet));
-    if (step("Response, expired") != MSCHAP_CALL_CHANGE)
+    printf("%-28s%.*s\n", "its account", (int)mschap_account_length(packet, sizeof packet),
+           (const char *)packet + mschap_account_offset(packet, sizeof packet));
+    if (respond("Response, expired", &password) != MSCHAP_CALL_CHANGE)
         return 1;
     /* the peer missed the reply: it gets the same one again, and nothing is judged */
     if (step("the same Response again") != MSCHAP_CALL_CHANGE)
@@ -131,7 +154,6 @@ int main(void)
                               packet, sizeof packet));
     if (step("change") != MSCHAP_CALL_NONE)
         return 1;
-    check("answer_record", mschap_answer_record(&answer, sizeof answer, &record, sizeof record));
     check("read_record", mschap_read_record(&record, sizeof record, &flags, &hash, sizeof hash,
                                             &lm_hash, sizeof lm_hash));
     show("the new NT hash", hash.bytes, sizeof hash);
@@ -144,15 +166,8 @@ int main(void)
     /* the new password has expired too, and its change is made with a mistyped old one */
     check("make_record", mschap_make_record(flags | MSCHAP_EXPIRED, &hash, sizeof hash, NULL, 0,
                                             &record, sizeof record));
-    check("open", mschap_open(8, MSCHAP_TERMS | MSCHAP_LM_REFUSED, another, sizeof another,
-                              list, sizeof list, &talk, sizeof talk, reply, sizeof reply));
-    size = mschap_packet_length(reply, sizeof reply);
-    show("Challenge", reply, size);
-    check("read_challenge", mschap_read_challenge(reply, size, &peer, sizeof peer));
-    check("write_response",
-          mschap_write_response(&peer, sizeof peer, &renewed.password, sizeof renewed.password,
-                                name, sizeof name, packet, sizeof packet));
-    if (step("Response, expired") != MSCHAP_CALL_CHANGE)
+    open_with(8, another);
+    if (respond("Response, expired", &renewed.password) != MSCHAP_CALL_CHANGE)
         return 1;
     check("write_change",
           mschap_write_change(&peer, sizeof peer, &mistyped, sizeof mistyped,
@@ -164,10 +179,28 @@ int main(void)
     if (step("the same change again") != MSCHAP_CALL_END)
         return 1;
 
+    /* somebody guesses, until the account is locked; hangs up, calls back, and hits upon the right
+       password: it fails, and leaves the count as it is */
+    check("make_record", mschap_make_record(flags, &hash, sizeof hash, NULL, 0,
+                                            &record, sizeof record));
+    open_with(9, third);
+    for (guess = 1; guess < MOST_FAILURES; guess++)
+        if (respond("Response, a wrong guess", &password) != MSCHAP_CALL_RESPONSE)
+            return 1;
+    if (respond("Response, a wrong guess", &mistyped) != MSCHAP_CALL_END)
+        return 1;
+    open_with(10, fourth);
+    if (respond("Response, right but locked", &renewed.password) != MSCHAP_CALL_RESPONSE)
+        return 1;
+    /* whoever keeps the accounts unlocks this one */
+    check("set_failures", mschap_set_failures(&record, sizeof record, 0));
+    if (respond("Response, unlocked", &renewed.password) != MSCHAP_CALL_NONE)
+        return 1;
+
     /* another authenticator, which shares the same list */
     printf("%-28s%u\n", "the same challenge again",
-           (unsigned)mschap_open(9, MSCHAP_TERMS, challenge, sizeof challenge, list, sizeof list,
+           (unsigned)mschap_open(11, TERMS, challenge, sizeof challenge, list, sizeof list,
                                  &talk, sizeof talk, reply, sizeof reply));
-    printf("%-28s%u of 8\n", "places used", (unsigned)mschap_list_used(list, sizeof list));
+    printf("%-28s%u of 16\n", "places used", (unsigned)mschap_list_used(list, sizeof list));
     return 0;
 }

@@ -302,9 +302,14 @@ static void try_passwords(void)
 #define NT 3
 #define LM 20
 #define FLAGS 37
+#define FAILURES 41
+
+static uint32_t failures;
 
 CALL(mschap_make_record, flags, BUFFER(0), BUFFER(1), BUFFER(2))
 CALL(mschap_read_record, BUFFER(0), &flags, BUFFER(1), BUFFER(2))
+CALL(mschap_record_failures, BUFFER(0))
+CALL(mschap_set_failures, BUFFER(0), failures)
 
 static void try_records(void)
 {
@@ -320,6 +325,19 @@ static void try_records(void)
         give(1, MSCHAP_HASH_SIZE);
         give(2, MSCHAP_HASH_SIZE);
         TRY(mschap_read_record, f < 128 ? MSCHAP_OK : ANY);
+        for (failures = 0; failures <= 256 && f < 128; failures += f == 7 ? 1 : 64) {
+            const int fits = failures < 256;
+            TRY(mschap_set_failures, fits ? MSCHAP_OK : MSCHAP_BAD_ARGUMENT);
+            given[0].octets[FAILURES] = (uint8_t)failures;
+            TRY(mschap_record_failures, fits ? failures : 0);
+        }
+        given[0].octets[FOUND] = 2; /* no value */
+        failures = f;
+        TRY(mschap_record_failures, MSCHAP_INVALID);
+        TRY(mschap_set_failures, MSCHAP_BAD_ARGUMENT);
+        given[0].size--;
+        TRY(mschap_record_failures, MSCHAP_INVALID);
+        TRY(mschap_set_failures, MSCHAP_BAD_ARGUMENT);
     }
 }
 
@@ -525,7 +543,7 @@ static void try_opening(size_t places, size_t used, uint32_t chosen, size_t spen
     else if (places - used < spent)
         expected = MSCHAP_LIST_FULL;
     give_list(places, used, alike);
-    terms = MSCHAP_TERMS | chosen;
+    terms = MSCHAP_TERMS | MSCHAP_LIMIT(1 + used % 255) | chosen;
     if (!alike)
         terms |= used % 2 ? MSCHAP_LM_ALLOWED : MSCHAP_LM_REFUSED;
     TRY(mschap_open, expected);
@@ -547,7 +565,7 @@ static void try_openings(void)
                 try_opening(places[p], used, 0, 3, alike);
             }
     /* the last successor of the challenge is the last entry */
-    terms = MSCHAP_TERMS | MSCHAP_RETRIES(7);
+    terms = MSCHAP_TERMS | MSCHAP_LIMIT(255) | MSCHAP_RETRIES(7);
     list = give_list(MSCHAP_LIST_PLACES, 4000, 0);
     memcpy(list + last, given[0].octets, MSCHAP_CHALLENGE_SIZE);
     list[last] = (uint8_t)(given[0].octets[0] + 7 * 23);
@@ -559,6 +577,8 @@ static void try_openings(void)
     TRY(mschap_make_list, MSCHAP_LIST);
     given[3].size = MSCHAP_REPLY_SIZE - 1;
     TRY(mschap_open, MSCHAP_REPLY_ROOM);
+    terms = MSCHAP_TERMS | MSCHAP_LIMIT(0) | MSCHAP_RETRIES(8);
+    TRY(mschap_open, MSCHAP_NO_LIMIT);
     list[0] = 0;
     TRY(mschap_open, MSCHAP_BAD_ARGUMENT);
     TRY(mschap_list_used, MSCHAP_INVALID);
@@ -585,23 +605,24 @@ static mschap_nthash nt;
 static mschap_lmhash lan;
 static uint8_t challenge[MSCHAP_CHALLENGE_SIZE];
 
-/* A conversation, behind its kind and version: the awaited code, LM, identifier, retries, the
-   challenge, the account that is kept, which is as in a record from NT on, and the last answer:
+/* A conversation, behind its kind and version: the awaited code, LM, limit, identifier, retries,
+   the challenge, the account that is kept, which is as in a record from NT on, and the last answer:
    whether there is one, code, identifier, which reply (0: Success, 1: Failure, 2: with a retry) and
    the reason in two bytes. */
 #define AWAITED 2
 #define LM_ALLOWED 3
-#define RETRIES 5
-#define CHALLENGE 6
-#define KEPT 14
-#define ANSWERED 52
-#define REPLY 55
+#define LIMIT 4
+#define RETRIES 6
+#define CHALLENGE 7
+#define KEPT 15
+#define ANSWERED 54
+#define REPLY 57
 
-/* A conversation that awaits a packet of that code with identifier 7, LM allowed and 2 retries
-   left, and a record with both hashes and no flag. */
+/* A conversation that awaits a packet of that code with identifier 7, LM allowed, the limit 5 and 2
+   retries left, and a record with both hashes, no flag and no failure. */
 static void give_step(uint8_t code)
 {
-    const uint8_t front[] = {'C', MSCHAP_CONVERSATION_LAYOUT, code, 1, 7, 2};
+    const uint8_t front[] = {'C', MSCHAP_CONVERSATION_LAYOUT, code, 1, 5, 7, 2};
     uint8_t *conversation = give(0, MSCHAP_CONVERSATION_SIZE);
     uint8_t *record = give(2, MSCHAP_RECORD_SIZE);
     memset(record, 0, MSCHAP_RECORD_SIZE);
@@ -698,6 +719,15 @@ static void try_judged(void)
         try_step(4);
         given[2].octets[FOUND] = 0; /* no record */
         try_step(4);
+        give_step(2);
+        give_response(1, n, n / 2);
+        for (unsigned count = 0; count < 256; count += n == 1 ? 1 : 51) {
+            given[2].octets[FAILURES] = (uint8_t)count;
+            given[0].octets[LIMIT] = (uint8_t)n;
+            try_step(count < (uint8_t)n ? 3 : 4);
+        }
+        given[1].octets[29] ^= 1;
+        try_step(4);
     }
     for (size_t n = 0; n <= 512; n += 2) {
         give_step(6);
@@ -717,8 +747,10 @@ static void try_judged(void)
         packet = k % 2 ? give_response(1, n + 1, draw()) : give_change(2 * n, 2 * n);
         for (int others = draw() % 4; others > 0; others--)
             packet[(draw() * 256u + draw()) % given[1].size] = draw();
-        for (int flag = FLAGS; flag < MSCHAP_RECORD_SIZE; flag++)
+        for (int flag = FLAGS; flag < FAILURES; flag++)
             given[2].octets[flag] = draw() % 2;
+        given[2].octets[FAILURES] = draw();
+        given[0].octets[LIMIT] = draw();
         TRY(mschap_step, ANY);
     }
 }

@@ -469,14 +469,14 @@ uint32_t mschap_read_record(const mschap_record *record, size_t record_size,
 /* Returns a record's count of failures, 0 to 255: how many Responses in a row were judged invalid
    (see LOCKOUT; in the record of no account it has no effect); MSCHAP_INVALID for an invalid
    record.
-   Stack: 368 bytes. */
+   Stack: 304 bytes. */
 uint32_t mschap_record_failures(const mschap_record *record, size_t record_size);
 
 /* Sets a record's count of failures, 0 to 255, in place (see LOCKOUT): to the one that was kept,
    after mschap_find_account, or to 0, which unlocks the account. No other byte of the record
    changes.
    Returns MSCHAP_OK; MSCHAP_BAD_ARGUMENT for an invalid record, or for failures over 255.
-   Stack: 368 bytes. */
+   Stack: 336 bytes. */
 uint32_t mschap_set_failures(mschap_record *record, size_t record_size, uint32_t failures);
 
 /* ---- account files (see ACCOUNT FILES): now is the present time, and max_age how old a password
@@ -592,7 +592,7 @@ uint32_t mschap_open(uint32_t identifier, uint32_t terms,
    come. Returns then the first of these that applies: MSCHAP_REPLY_ROOM; MSCHAP_FRAME; and, unless
    the packet is a repeat, MSCHAP_ENDED; MSCHAP_CODE; MSCHAP_IDENTIFIER; MSCHAP_SIZE; MSCHAP_FLAGS.
    Returns MSCHAP_BAD_ARGUMENT for an invalid conversation or record, or an answer of another size.
-   Stack: 4,096 bytes. */
+   Stack: 4,160 bytes. */
 uint32_t mschap_step(mschap_conversation *conversation, size_t conversation_size,
                      const uint8_t *packet, size_t packet_size,
                      const mschap_record *record, size_t record_size,
@@ -640,18 +640,18 @@ uint32_t mschap_answer_record(const mschap_answer *answer, size_t answer_size,
 
 /* Returns what a conversation awaits: MSCHAP_AWAITS_RESPONSE, MSCHAP_AWAITS_CHANGE or
    MSCHAP_AWAITS_NOTHING; MSCHAP_INVALID for an invalid conversation.
-   Stack: 384 bytes. */
+   Stack: 512 bytes. */
 uint32_t mschap_conversation_awaits(const mschap_conversation *conversation,
                                     size_t conversation_size);
 
 /* Returns the identifier of the packet that is awaited, 0 to 255 (of the last one, if none is);
    MSCHAP_INVALID for an invalid conversation.
-   Stack: 384 bytes. */
+   Stack: 512 bytes. */
 uint32_t mschap_conversation_identifier(const mschap_conversation *conversation,
                                         size_t conversation_size);
 
 /* Returns how many retries are left; MSCHAP_INVALID for an invalid conversation.
-   Stack: 384 bytes. */
+   Stack: 512 bytes. */
 uint32_t mschap_conversation_retries(const mschap_conversation *conversation,
                                      size_t conversation_size);
 
