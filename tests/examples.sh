@@ -2,7 +2,8 @@
 # The examples in host/ and host/examples do what they say: the one in one program prints the same
 # each time; authenticator and peer talk through pipes, over some runs that share the files of a
 # folder, and a change of a password changes its own bytes of the account file alone, undoes nobody
-# else's change, and lets nobody else read the file; and the script in Python, where that is
+# else's change, and lets nobody else read the file; guessers who hang up and call back are stopped,
+# however many call at once, until the account is unlocked; and the script in Python, where that is
 # installed, plays both ends. Run in the repository, once `make lib` has written target/mschap.
 set -eu
 folder=target/mschap
@@ -255,15 +256,133 @@ meanwhile 0 '^reason: 0$' edit '/^ann:/s/0123456789/9876543210/'
 changed 'Blaugrün 🔑'
 meanwhile 0 '^reason: 0$' "$scratch/authenticator" "$scratch/accounts" anew 'Grün 1'
 changed 'Blaugrün 🔑'
+# So is one during which others fail with the account's name; it sets their count to 0.
+counts=$scratch/accounts/failures
+has_count() {
+    line=$(LC_ALL=C grep -a '^... J.*rgen$' "$counts")
+    [ "$line" = "$1 Jürgen" ] || fail "the count is not $1 but '$line'"
+}
+others_fail() {
+    edit '/^ann:/s/LCT-0000abcd/LCT-0000abce/'
+    sed 's/^... Jürgen$/007 Jürgen/' "$counts" > "$scratch/edited"
+    cat "$scratch/edited" > "$counts"
+    has_count 007
+}
+meanwhile 0 '^reason: 0$' others_fail
+changed 'Blaugrün 🔑'
+has_count 000
+
+# A conversation: the exit status of the authenticator, and the reasons that it gives; one with an !
+# behind it is that of an account which is locked then. A peer without further passwords hangs up.
+calls() {
+    status=$1 reasons=$2
+    shift 2
+    "$scratch/authenticator" "$scratch/accounts" < "$scratch/to" > "$scratch/from" \
+        2> "$scratch/authenticator.log" &
+    authenticator=$!
+    "$scratch/peer" "$@" > "$scratch/to" < "$scratch/from" 2> "$scratch/peer.log" || :
+    own_status=0
+    wait $authenticator || own_status=$?
+    [ "$own_status" -eq "$status" ] || fail "exit status $own_status, and not $status"
+    printf '%s\n' $reasons | sed 's/.*/reason: &/; s/!$/\nthe account is locked/' \
+        > "$scratch/expected"
+    sed -e 1d -e '/, again$/d' -e '/^the other end has hung up$/d' "$scratch/authenticator.log" \
+        | diff "$scratch/expected" - || fail 'the authenticator says otherwise'
+    # of the lock the peer hears nothing
+    printf '%s\n' $reasons | sed 's/.*/reason: &/; s/!$//' > "$scratch/expected"
+    grep '^reason' "$scratch/peer.log" | diff "$scratch/expected" - || fail 'the peer hears more'
+}
+# Which file it is: it is another one, once it was stored anew.
+stored() {
+    stat -c %i "$counts"
+}
+# With every Response the counts are stored anew, also where they stay as they are.
+stores() {
+    before=$(stored)
+    "$@"
+    [ "$(stored)" != "$before" ] || fail "nothing is stored by: $*"
+}
+
+# A guesser who calls again and again, each time to an authenticator that was started anew, has as
+# many tries as the limit says; then the right password fails too, wherever it comes from, and the
+# reply is the same. A repeat counts for nothing, and a domain makes no other account.
+[ "$(sed -nE 's/^#define LIMIT ([0-9]+) .*/\1/p' host/examples/authenticator.c)" = 10 ] \
+    || fail 'the limit is another one than this test is made for'
+right='Blaugrün 🔑'
+calls 1 '691 691 691' 'Jürgen' unused a b c
+has_count 003
+calls 2 691 --lossy 'DOM\Jürgen' unused d
+has_count 004
+calls 1 '691 691 691' 'other\Jürgen' unused e f g
+calls 2 '691 691' 'Jürgen' unused h i
+has_count 009
+# one below the limit: the owner gets in, and the guesser begins anew
+calls 0 0 'Jürgen' unused "$right"
+has_count 000
+for call in 1 2 3; do
+    calls 1 '691 691 691' 'Jürgen' unused a b c
+done
+stores calls 2 691! 'Jürgen' unused d
+has_count 010
+stores calls 2 691! 'Jürgen' unused "$right"
+has_count 010
+stores calls 1 '691! 691! 691!' 'DOM\Jürgen' unused "$right" "$right" "$right"
+has_count 010
+stores calls 1 '691! 691! 691!' 'Jürgen' unused "$right" a "$right"
+has_count 011
+# no other account is locked, and a name that there is not is not counted, though it takes as long
+add zora 'Grün 1'
+calls 0 '648 0' zora 'Neu 3' 'Grün 1'
+stores calls 1 '691 691 691' nobody unused a b c
+if grep -a nobody "$counts"; then
+    fail 'a name is counted that no account has'
+fi
+# The keeper of the accounts unlocks it.
+status=0
+$run "$scratch/authenticator" "$scratch/accounts" nobody 2> "$scratch/unlock.log" || status=$?
+[ $status -eq 2 ] && grep -q '^no account of that name has failed$' "$scratch/unlock.log" \
+    || fail "exit status $status where a name is unlocked that has not failed"
+has_count 011
+$run "$scratch/authenticator" "$scratch/accounts" 'Jürgen'
+has_count 000
+calls 0 '691 0' 'Jürgen' unused a "$right"
+has_count 000
+
+# Guessers who call at the same time are all counted: 6 of them, with 3 tries each.
+callers=
+for caller in 1 2 3 4 5 6; do
+    mkfifo "$scratch/to$caller" "$scratch/from$caller"
+    "$scratch/authenticator" "$scratch/accounts" \
+        < "$scratch/to$caller" > "$scratch/from$caller" 2> "$scratch/caller$caller.log" &
+    callers="$callers $!"
+    "$scratch/peer" 'Jürgen' unused a b c > "$scratch/to$caller" < "$scratch/from$caller" \
+        2> /dev/null &
+    callers="$callers $!"
+done
+for process in $callers; do
+    status=0
+    wait "$process" || status=$?
+    [ $status -eq 1 ] || fail "exit status $status where guessers call at the same time"
+done
+has_count 018
+rm "$scratch"/caller*.log
+# A new password unlocks the account too.
+add 'Jürgen' 'Grün 1'
+has_count 000
+calls 0 '691 648 0' 'Jürgen' "$right" a 'Grün 1'
+has_count 000
 
 [ ! -e "$scratch/accounts/new" ] || fail 'a temporary file is left'
-stored=$(find "$scratch/accounts" -type f | wc -l)
-[ "$stored" -eq 3 ] || fail "there are $stored files, and not list, lock and accounts"
+files=$(find "$scratch/accounts" -type f | wc -l)
+[ "$files" -eq 4 ] || fail "there are $files files, and not list, lock, accounts and counts"
 [ "$(access "$accounts")" = "$access" ] || fail 'the changed file has another owner or mode'
-[ "$(stat -c %a "$scratch/accounts/issued")" = 600 ] || fail 'others can read the list'
+for file in issued failures; do
+    [ "$(stat -c %a "$scratch/accounts/$file")" = 600 ] || fail "others can read the file $file"
+done
 
 # A damaged account file serves nobody, even behind the account's own line, and names the place; nor
-# does a symbolic link, which a new file would replace, nor a list that is of another version.
+# do damaged counts, a symbolic link, which a new file would replace, and a list that is of another
+# version.
 refused() {
     "$scratch/authenticator" "$scratch/accounts" < "$scratch/to" > "$scratch/from" \
         2> "$scratch/authenticator.log" &
@@ -287,6 +406,17 @@ done
 { cat "$scratch/kept" && LC_ALL=C sed -n '/^J.*rgen:/p' "$scratch/kept"; } > "$accounts"
 first=$(LC_ALL=C grep -ab '^J.*rgen:' "$scratch/kept" | cut -d : -f 1)
 refused "^smbpasswd: the name is on two lines, first at offset $first\$"
+cp "$scratch/kept" "$accounts"
+cp "$counts" "$scratch/counted"
+for line in junk '3 Jürgen' '0003 Jürgen' '00x Jürgen' '003:Jürgen' '' 003; do
+    { cat "$scratch/counted" && echo "$line"; } > "$counts"
+    refused '^failures: a malformed line$'
+done
+printf '003 Jürgen' > "$counts"
+refused '^failures: a malformed line$'
+printf '256 Jürgen\n' > "$counts"
+refused '^failures: a count over 255$'
+cp "$scratch/counted" "$counts"
 cp "$scratch/kept" "$scratch/elsewhere"
 ln -sf "$scratch/elsewhere" "$accounts"
 refused '^smbpasswd is a symbolic link'
@@ -296,7 +426,7 @@ add 'Jürgen' 'Grün 1' || status=$?
     && [ -L "$accounts" ] && cmp "$scratch/kept" "$scratch/elsewhere" \
     || fail "exit status $status where the account file is a symbolic link"
 rm "$accounts"
-refused 'the account file cannot be read'
+refused '^smbpasswd cannot be read$'
 for name in '' '#Jürgen' 'Jür:gen'; do
     status=0
     add "$name" 'Grün 1' || status=$?
@@ -336,16 +466,22 @@ for line in \
     'authenticator  stores the account with its new password' \
     'Failure, identifier [0-9]*, 17 bytes: "E=709 R=0 V=2"' \
     "authenticator  notes for its log alone: $over\$" \
+    'authenticator  stores how often it has failed in a row, 4$' \
+    'authenticator  stores how often it has failed in a row, 5: the account is locked$' \
+    'keeper         unlocks the account' \
     'Failure, identifier [0-9]*, 17 bytes: "E=691 R=0 V=2"' \
     'Response, identifier [0-9]*, [0-9]* bytes: by LM [0-9a-f]*, name DOM' \
-    'places used in the list of issued challenges: 18'; do
+    'places used in the list of issued challenges: 30'; do
     grep -q "$line" "$scratch/bench.log" || fail "$script does not print: $line"
 done
-[ "$(grep -c '^peer *is in$' "$scratch/bench.log")" = 2 ] || fail "$script: not let in twice"
+[ "$(grep -c '^peer *is in$' "$scratch/bench.log")" = 3 ] || fail "$script: not let in 3 times"
+# locked by the fifth failure, and for the right password
+[ "$(grep -c 'the account is locked$' "$scratch/bench.log")" = 2 ] \
+    || fail "$script: the account is not locked for two Responses"
 # the phone that answers by LM alone: turned away, and let in where LM is asked for
 [ "$(grep '^old phone *is ' "$scratch/bench.log" | tr -s ' ' | tr '\n' ,)" \
     = 'old phone is not let in,old phone is in,' ] || fail "$script: the old phone fares otherwise"
-[ "$(grep -c 'its last reply again$' "$scratch/bench.log")" = 4 ] \
+[ "$(grep -c 'its last reply again$' "$scratch/bench.log")" = 8 ] \
     || fail "$script: not each last reply is given again"
 [ "$(grep -c 'stores the account' "$scratch/bench.log")" = 1 ] || fail "$script stores it twice"
 [ "$(grep -c 'notes for its log' "$scratch/bench.log")" = 1 ] || fail "$script notes it twice"

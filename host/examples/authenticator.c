@@ -1,11 +1,14 @@
 /*
  * An authenticator: it talks to one peer (peer.c) over standard input and output, and says on
  * standard error what happens. What has to outlast it is in files of a folder: `issued`, the list
- * of issued challenges, and `smbpasswd`, the accounts in the layout of Samba's smbpasswd(5).
+ * of issued challenges; `smbpasswd`, the accounts in the layout of Samba's smbpasswd(5); and
+ * `failures`, which has no place there: how many Responses in a row have failed for an account. So
+ * a guesser who hangs up and calls back is stopped, however often this program is started.
  *
  *     authenticator FOLDER NAME PASSWORD    gives an account a password of long ago, which must be
- *                                           changed (unless its line has the flag X); makes the
- *                                           account, if there is none of that name
+ *                                           changed (unless its line has the flag X), and unlocks
+ *                                           it; makes it, if there is none of that name
+ *     authenticator FOLDER NAME             unlocks an account
  *     authenticator FOLDER                  lets a peer in, or not: exit status 0 or 1
  *
  * Samba's own programs must not write the file meanwhile. A real program does not take a password
@@ -26,6 +29,11 @@ static uint8_t list[MSCHAP_LIST_SIZE(3 * OPENINGS)];
 #define MAX_AGE (90 * 24 * 3600) /* seconds: an older password must be changed */
 #define LONG_AGO 1               /* a time that is longer ago; one of 0 would never expire */
 #define FIRST_UID 1001
+
+#define COUNTS "failures"
+#define LIMIT 10 /* so many failures in a row lock an account */
+#define DIGITS 3 /* of a count */
+#define HEAD 4   /* bytes of its line before the name: the digits and a space */
 
 /* A file's whole bytes. Returns 0 if there is no such file. */
 static int load(const char *path, void *bytes, size_t size)
@@ -78,7 +86,8 @@ static void store(const char *path, const void *bytes, size_t size)
 }
 
 /* All authenticators of the folder change its files one at a time: so there is a lock, on a file of
-   its own. To close it is to release it. */
+   its own. To close it is to release it. It is held from the lookup of an account until what the
+   step gives is stored: two steps with the same count would count one failure. */
 static int take_lock(void)
 {
     int lock = open("lock", O_RDWR | O_CREAT, 0600);
@@ -87,26 +96,39 @@ static int take_lock(void)
     return lock;
 }
 
-/* The bytes of the account file, as it was read last. */
-static uint8_t *file;
-static size_t file_size;
+/* The bytes of a file, as it was read last. */
+struct bytes {
+    uint8_t *at;
+    size_t size;
+};
+static struct bytes accounts, counts;
 
-/* Reads it. Unless it has to be there, a file that is missing counts as an empty one. A lookup
-   needs no lock: `store` leaves no half of a file. */
-static void read_accounts(int required)
+/* Makes it longer by so many bytes, which are to be filled, and returns the first of them. Behind
+   them there is room for a terminator. */
+static uint8_t *extend(struct bytes *bytes, size_t more)
+{
+    size_t size = bytes->size;
+    bytes->size += more;
+    bytes->at = realloc(bytes->at, bytes->size + sizeof "");
+    if (bytes->at == NULL)
+        die("no memory");
+    return bytes->at + size;
+}
+
+/* Reads it. Unless it has to be there, a file that is missing counts as an empty one. */
+static void read_file(const char *path, int required, struct bytes *bytes)
 {
     struct stat status;
     int from;
-    file_size = 0;
-    if (!exists(ACCOUNTS, &status) && !required)
+    bytes->size = 0;
+    if (!exists(path, &status) && !required)
         return;
-    from = open(ACCOUNTS, O_RDONLY);
-    if (from < 0 || fstat(from, &status) != 0)
-        die("the account file cannot be read");
-    file_size = (size_t)status.st_size;
-    file = realloc(file, file_size > 0 ? file_size : 1);
-    if (file == NULL || !read_all(from, file, file_size))
-        die("the account file cannot be read");
+    from = open(path, O_RDONLY);
+    if (from < 0 || fstat(from, &status) != 0
+        || !read_all(from, extend(bytes, (size_t)status.st_size), (size_t)status.st_size)) {
+        fprintf(stderr, "%s cannot be read\n", path);
+        exit(2);
+    }
     close(from);
 }
 
@@ -126,43 +148,125 @@ static void die_of_file(uint32_t number, size_t offset)
 static uint8_t name[MSCHAP_NAME_MAX];
 static size_t name_size;
 
-/* What the file says of that name now. */
+static void set_name(const void *bytes, size_t size)
+{
+    if (size > sizeof name)
+        die("a name that no account has");
+    memcpy(name, bytes, size);
+    name_size = size;
+}
+
+/* The line of that name among the counts: digits, a space and the name. NULL, if it has not failed.
+   A line of another form serves nobody: it could be this one. */
+static uint8_t *find_count(void)
+{
+    uint8_t *found = NULL, *line, *end;
+    size_t at = 0;
+    while (at < counts.size) {
+        line = counts.at + at;
+        end = memchr(line, '\n', counts.size - at);
+        if (end == NULL || strspn((char *)line, "0123456789") != DIGITS || line[DIGITS] != ' ')
+            die(COUNTS ": a malformed line");
+        if ((size_t)(end - line) == HEAD + name_size && memcmp(line + HEAD, name, name_size) == 0)
+            found = line;
+        at = (size_t)(++end - counts.at);
+    }
+    return found;
+}
+
+/* Sets it; an account that has not failed needs none. */
+static void set_count(uint32_t failures)
+{
+    char digits[sizeof "4294967295"];
+    uint8_t *line = find_count();
+    if (line == NULL && failures > 0) {
+        line = extend(&counts, HEAD + name_size + sizeof *line);
+        line[DIGITS] = ' ';
+        memcpy(line + HEAD, name, name_size);
+        line[HEAD + name_size] = '\n';
+    }
+    if (line != NULL) {
+        sprintf(digits, "%0*u", DIGITS, (unsigned)failures);
+        memcpy(line, digits, DIGITS);
+    }
+}
+
+/* What the file says of the name now; as it has no count, that is 0. */
 static void look_up(mschap_record *record)
 {
     size_t offset;
     uint32_t number;
-    read_accounts(1);
-    number = mschap_find_account(file, file_size, name, name_size, (uint32_t)time(NULL), MAX_AGE,
-                                 record, sizeof *record, &offset);
+    read_file(ACCOUNTS, 1, &accounts);
+    number = mschap_find_account(accounts.at, accounts.size, name, name_size,
+                                 (uint32_t)time(NULL), MAX_AGE, record, sizeof *record, &offset);
     if (number != MSCHAP_OK)
         die_of_file(number, offset);
 }
 
-/* What the lookup of the name in a Response finds, without the domain before its backslash. */
+/* What the lookup of the name in a Response finds, without the domain before its backslash, and how
+   often it has failed. */
 static void look_up_response(const uint8_t *packet, size_t size, mschap_record *record)
 {
-    name_size = mschap_account_length(packet, size);
-    memcpy(name, packet + mschap_account_offset(packet, size), name_size);
+    const uint8_t *line;
+    set_name(packet + mschap_account_offset(packet, size), mschap_account_length(packet, size));
     look_up(record);
+    line = find_count();
+    if (line != NULL
+        && mschap_set_failures(record, sizeof *record,
+                               (uint32_t)strtoul((const char *)line, NULL, 10)) != MSCHAP_OK)
+        die(COUNTS ": a count over 255");
 }
 
 /* Writes a changed record into the file. It is read again, since other accounts may have changed
    after the lookup; and if this one has, as by an administrator who reset the password, that stays,
-   and the peer is told nothing. An account that had expired has still: time only grows. */
-static void write_back(const mschap_record *found, const mschap_record *changed)
+   and the peer is told nothing. An account that had expired has still: time only grows. Neither
+   record has a failure: a change follows a valid Response. */
+static void write_back(const mschap_record *record, const mschap_record *changed)
 {
     mschap_record present;
     size_t offset;
     uint32_t number;
-    int lock = take_lock();
     look_up(&present);
-    if (memcmp(&present, found, sizeof present) != 0)
+    if (memcmp(&present, record, sizeof present) != 0)
         die("the account was changed after its Response: the new password is not stored");
-    number = mschap_write_account(file, file_size, name, name_size, changed, sizeof *changed,
-                                  (uint32_t)time(NULL), &offset);
+    number = mschap_write_account(accounts.at, accounts.size, name, name_size,
+                                  changed, sizeof *changed, (uint32_t)time(NULL), &offset);
     if (number != MSCHAP_OK)
         die_of_file(number, offset);
-    store(ACCOUNTS, file, file_size);
+    store(ACCOUNTS, accounts.at, accounts.size);
+}
+
+/* Stores what a step gives: after a Response its count alone, after an accepted change the record
+   with the new password. Returns whether the account is locked.
+   The counts are stored also where they are as they were, and where there is no such account: a
+   right guess at a locked account leaves its count, and the time is not to tell it. */
+static int keep(uint32_t awaited, const mschap_answer *answer, mschap_record *record)
+{
+    mschap_record after;
+    uint32_t failures = 0;
+    if (mschap_answer_repeated(answer, sizeof *answer))
+        return 0;
+    if (mschap_answer_record(answer, sizeof *answer, &after, sizeof after) == MSCHAP_OK) {
+        if (awaited == MSCHAP_AWAITS_CHANGE)
+            write_back(record, &after);
+        failures = mschap_record_failures(&after, sizeof after);
+        set_count(failures);
+        *record = after;
+    }
+    store(COUNTS, counts.at, counts.size);
+    return failures >= LIMIT;
+}
+
+/* Only the keeper of the accounts does it: no time passes that unlocks one. */
+static void unlock(const char *owner)
+{
+    int lock = take_lock();
+    set_name(owner, strlen(owner));
+    read_file(COUNTS, 0, &counts);
+    if (find_count() == NULL)
+        die("no account of that name has failed");
+    set_count(0);
+    store(COUNTS, counts.at, counts.size);
     close(lock);
 }
 
@@ -172,18 +276,18 @@ static void append_line(const char *owner)
 {
     static const char format[] = "%s%s:%lu:%s:%s:[U          ]:LCT-00000000:\n";
     static const char none[] = "XXXXXXXXXXXXXXXXXXXXXXXXXXXXXXXX";
-    const char *end = file_size > 0 && file[file_size - 1] != '\n' ? "\n" : "";
+    const int open = accounts.size > 0 && accounts.at[accounts.size - 1] != '\n';
+    const char *end = open ? "\n" : "";
     uint64_t lines, bad, disabled, expired, no_nt;
     unsigned long uid;
     int size;
-    mschap_count_accounts(file, file_size, LONG_AGO, MAX_AGE,
+    mschap_count_accounts(accounts.at, accounts.size, LONG_AGO, MAX_AGE,
                           &lines, &bad, &disabled, &expired, &no_nt);
     uid = FIRST_UID + (unsigned long)lines;
     size = snprintf(NULL, 0, format, end, owner, uid, none, none);
-    if (size < 0 || (file = realloc(file, file_size + (size_t)size + sizeof "")) == NULL)
-        die("no memory");
-    sprintf((char *)file + file_size, format, end, owner, uid, none, none);
-    file_size += (size_t)size;
+    if (size < 0)
+        die("a name that no line can have");
+    sprintf((char *)extend(&accounts, (size_t)size), format, end, owner, uid, none, none);
 }
 
 static void add_account(const char *owner, const char *text)
@@ -194,23 +298,27 @@ static void add_account(const char *owner, const char *text)
     size_t offset;
     uint32_t number;
     int lock = take_lock();
+    set_name(owner, strlen(owner));
     make_password(text, &password);
     if (mschap_nt_hash(&password, sizeof password, &hash, sizeof hash) != MSCHAP_OK
         || mschap_make_record(MSCHAP_FOUND | MSCHAP_HAS_NT_HASH, &hash, sizeof hash, NULL, 0,
                               &record, sizeof record) != MSCHAP_OK)
         die("no such account can be made");
-    read_accounts(0);
-    number = mschap_write_account(file, file_size, (const uint8_t *)owner, strlen(owner),
+    read_file(ACCOUNTS, 0, &accounts);
+    read_file(COUNTS, 0, &counts);
+    number = mschap_write_account(accounts.at, accounts.size, name, name_size,
                                   &record, sizeof record, LONG_AGO, &offset);
     if (number == MSCHAP_NO_ACCOUNT) {
         append_line(owner);
-        if (mschap_write_account(file, file_size, (const uint8_t *)owner, strlen(owner),
+        if (mschap_write_account(accounts.at, accounts.size, name, name_size,
                                  &record, sizeof record, LONG_AGO, &offset) != MSCHAP_OK)
             die("a name that no line can have");
     } else if (number != MSCHAP_OK) {
         die_of_file(number, offset);
     }
-    store(ACCOUNTS, file, file_size);
+    set_count(mschap_record_failures(&record, sizeof record)); /* 0, in a record newly made */
+    store(ACCOUNTS, accounts.at, accounts.size);
+    store(COUNTS, counts.at, counts.size);
     close(lock);
 }
 
@@ -226,10 +334,11 @@ static void open_conversation(mschap_conversation *talk, uint8_t *reply, size_t 
     draw(&identifier, sizeof identifier);
     do {
         draw(challenge, sizeof challenge);
-        /* Phones that answer by LM alone would need MSCHAP_TERMS | MSCHAP_LM_ALLOWED, and accounts
-           with an LM hash: those in a file of Samba may have one, those added here have none. */
-        number = mschap_open(identifier, MSCHAP_TERMS, challenge, sizeof challenge,
-                             list, sizeof list, talk, sizeof *talk, reply, reply_size);
+        /* Phones that answer by LM alone would need | MSCHAP_LM_ALLOWED, and accounts with an LM
+           hash: those in a file of Samba may have one, those added here have none. */
+        number = mschap_open(identifier, MSCHAP_TERMS | MSCHAP_LIMIT(LIMIT),
+                             challenge, sizeof challenge, list, sizeof list,
+                             talk, sizeof *talk, reply, reply_size);
     } while (number == MSCHAP_SPENT);
     if (number == MSCHAP_LIST_FULL)
         die("the list is full: change the passwords, and remove it");
@@ -243,38 +352,48 @@ static void open_conversation(mschap_conversation *talk, uint8_t *reply, size_t 
 int main(int argc, char **argv)
 {
     mschap_conversation talk;
-    mschap_record found, changed;
+    mschap_record record;
     mschap_answer answer;
     uint8_t packet[MSCHAP_CHANGE_PACKET], reply[MSCHAP_REPLY_SIZE];
-    uint32_t number, fault;
+    uint32_t awaited, number, fault;
     size_t size;
+    int lock, locked;
 
-    if ((argc != 2 && argc != 4) || chdir(argv[1]) != 0)
-        die("usage: authenticator FOLDER [NAME PASSWORD]");
-    if (argc == 4) {
+    if (argc < 2 || argc > 4 || chdir(argv[1]) != 0)
+        die("usage: authenticator FOLDER [NAME [PASSWORD]]");
+    if (argc == 4)
         add_account(argv[2], argv[3]);
+    if (argc == 3)
+        unlock(argv[2]);
+    if (argc > 2)
         return 0;
-    }
     open_conversation(&talk, reply, sizeof reply);
     send_packet(reply, sizeof reply);
     /* Every packet, as long as the link is up, also when nothing is awaited: a peer that missed the
        last reply sends its packet again, and gets the same reply again. */
     while ((size = receive_packet(packet, sizeof packet)) > 0) {
+        lock = take_lock();
+        read_file(COUNTS, 0, &counts);
         /* A change has no name: it is for the account that was looked up for the last Response. */
-        if (mschap_conversation_awaits(&talk, sizeof talk) == MSCHAP_AWAITS_RESPONSE)
-            look_up_response(packet, size, &found);
-        number = mschap_step(&talk, sizeof talk, packet, size, &found, sizeof found,
+        awaited = mschap_conversation_awaits(&talk, sizeof talk);
+        if (awaited == MSCHAP_AWAITS_RESPONSE)
+            look_up_response(packet, size, &record);
+        number = mschap_step(&talk, sizeof talk, packet, size, &record, sizeof record,
                              reply, sizeof reply, &answer, sizeof answer);
         if (number != MSCHAP_OK) {
+            close(lock);
             fprintf(stderr, "refused: %u\n", (unsigned)number);
             continue;
         }
-        /* A changed password is stored before the peer hears of it. */
-        if (mschap_answer_record(&answer, sizeof answer, &changed, sizeof changed) == MSCHAP_OK)
-            write_back(&found, &changed);
+        /* Count and password are stored before the peer hears of them. */
+        locked = keep(awaited, &answer, &record);
+        close(lock);
         send_packet(reply, sizeof reply);
         fprintf(stderr, "reason: %u%s\n", (unsigned)mschap_answer_reason(&answer, sizeof answer),
                 mschap_answer_repeated(&answer, sizeof answer) ? ", again" : "");
+        /* That it is locked is for the log alone; the count itself is a secret. */
+        if (locked)
+            fprintf(stderr, "the account is locked\n");
         /* What is wrong with a change is for the log alone: the peer is told no more than 709. */
         fault = mschap_answer_fault(&answer, sizeof answer);
         if (fault != MSCHAP_FAULT_NONE)

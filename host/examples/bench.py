@@ -6,12 +6,14 @@
 An authenticator challenges, and a peer answers with a mistyped password, then with the right one,
 which has expired. In the change its owner mistypes the old password, so that all is done again;
 then both talk with the new password. The peer misses the last reply of each conversation, and gets
-it again. At the end comes an old phone, which answers by LM alone: an authenticator that was not
-asked for LM turns it away, and one that was lets it in. Each packet is printed with what it means.
-LIBRARY is libmschap.so; without it, the one beside this script or in ../lib. Nothing but the
-standard library of Python 3 is needed.
+it again. Then somebody guesses, hangs up and calls back, until the account is locked: the right
+password fails too, until its keeper unlocks it. At the end comes an old phone, which answers by LM
+alone: an authenticator that was not asked for LM turns it away, and one that was lets it in. Each
+packet is printed with what it means. LIBRARY is libmschap.so; without it, the one beside this
+script or in ../lib. Nothing but the standard library of Python 3 is needed.
 
-Change it and see: try a password of your own, allow no retry (RETRIES), send other packets again.
+Change it and see: try a password of your own, allow no retry (RETRIES), set another limit (LIMIT),
+send other packets again.
 """
 import ctypes
 import os
@@ -24,6 +26,7 @@ MSCHAP_OK = 0
 MSCHAP_SUCCESS = 0
 MSCHAP_FAULT_NONE = 0
 MSCHAP_AWAITS_NOTHING = 0
+MSCHAP_AWAITS_CHANGE = 6
 MSCHAP_CALL_NONE = 0
 MSCHAP_CALL_RESPONSE = 1
 MSCHAP_CALL_CHANGE = 2
@@ -37,15 +40,16 @@ MSCHAP_HASH_SIZE = 16
 MSCHAP_CHALLENGE_SIZE = 8
 MSCHAP_RESPONSE_SIZE = 24
 MSCHAP_FILLER_SIZE = 512
-MSCHAP_RECORD_SIZE = 41
-MSCHAP_CONVERSATION_SIZE = 58
-MSCHAP_ANSWER_SIZE = 45
+MSCHAP_RECORD_SIZE = 42
+MSCHAP_CONVERSATION_SIZE = 60
+MSCHAP_ANSWER_SIZE = 46
 MSCHAP_PEER_SIZE = 21
 MSCHAP_PASSWORD_SIZE = 516
 MSCHAP_REPLY_SIZE = 17
 MSCHAP_CHANGE_PACKET = 1118
 
 RETRIES = 2
+LIMIT = 5  # invalid Responses in a row that lock an account, over all conversations
 NAME = 'DOM\\Jürgen'.encode()
 
 REASONS = {
@@ -160,7 +164,8 @@ def lm_hash_of(text):
 
 
 class Authenticator:
-    """It knows one account, and keeps the list of the challenges that it has issued."""
+    """It knows one account, whose record counts its failures, and keeps the list of the challenges
+    that it has issued."""
 
     def __init__(self):
         self.issued = room(4 + 8 * 300)  # MSCHAP_LIST_SIZE(300)
@@ -173,7 +178,8 @@ class Authenticator:
     def open(self, asks_for=0):
         self.talk = room(MSCHAP_CONVERSATION_SIZE)
         reply = room(MSCHAP_REPLY_SIZE)
-        terms = MSCHAP_TERMS | (RETRIES + 1) | asks_for  # MSCHAP_RETRIES(RETRIES)
+        # MSCHAP_LIMIT(LIMIT) and MSCHAP_RETRIES(RETRIES)
+        terms = MSCHAP_TERMS | LIMIT << 24 | (RETRIES + 1) | asks_for
         identifier = secrets.randbelow(256)
         challenge = secrets.token_bytes(MSCHAP_CHALLENGE_SIZE)
         must('open', identifier, terms, challenge, self.issued, self.talk, reply)
@@ -182,10 +188,13 @@ class Authenticator:
 
     def judge(self, packet):
         reply, answer = room(MSCHAP_REPLY_SIZE), room(MSCHAP_ANSWER_SIZE)
+        awaited = call('conversation_awaits', self.talk)
         number = call('step', self.talk, packet, self.record, reply, answer)
         if number != MSCHAP_OK:
             print(f'authenticator  refuses the packet with {number}: no reply, nothing has changed')
             return None
+        if call('answer_record', answer, self.record) == MSCHAP_OK:
+            self.stores(awaited)  # before the reply is sent
         show('authenticator', packet_in(reply))
         fault = call('answer_fault', answer)  # none in a repeat
         if fault != MSCHAP_FAULT_NONE:
@@ -193,11 +202,24 @@ class Authenticator:
         if call('answer_repeated', answer):
             print('authenticator  has judged nothing: this is its last reply again')
             return packet_in(reply)
-        if call('answer_record', answer, self.record) == MSCHAP_OK:
-            print('authenticator  stores the account with its new password')
         if call('conversation_awaits', self.talk) == MSCHAP_AWAITS_NOTHING:
             print(f'authenticator  is done: {REASONS[call("answer_reason", answer)]}')
         return packet_in(reply)
+
+
+    def stores(self, awaited):
+        """The record that a step gave takes the place of the one before. After a Response nothing
+        but its count is new. A real program keeps the count as secret as the hashes."""
+        if awaited == MSCHAP_AWAITS_CHANGE:
+            print('authenticator  stores the account with its new password')
+            return
+        failures = call('record_failures', self.record)
+        locked = ': the account is locked' if failures >= LIMIT else ''
+        print(f'authenticator  stores how often it has failed in a row, {failures}{locked}')
+
+    def unlock(self):
+        print('keeper         unlocks the account')
+        must('set_failures', self.record, 0)
 
 
 class Peer:
@@ -272,6 +294,15 @@ def main():
     second = converse(authenticator, ['Blau 🔑'], None, None)
     print('\n-- and with the old one, until there is no retry left')
     third = converse(authenticator, ['Grün 1'] * (RETRIES + 1), None, None)
+    print('\n-- somebody goes on guessing, and hangs up after each try')
+    failures = call('record_failures', authenticator.record)
+    guessed = [converse(authenticator, [f'Gelb {guess}'], None, None)
+               for guess in range(failures, LIMIT)]
+    print('\n-- and hits upon the right one, but the account is locked')
+    guessed.append(converse(authenticator, ['Blau 🔑'], None, None))
+    authenticator.unlock()
+    print('\n-- the same password, once the account is unlocked')
+    fourth = converse(authenticator, ['Blau 🔑'], None, None)
     print('\n-- an old phone with the right password, where nobody asked for LM')
     authenticator.knows(MSCHAP_HAS_LM_HASH, b'', lm_hash_of('GREEN 1'))
     unasked = old_phone(authenticator, 'Green 1', 0)
@@ -279,8 +310,8 @@ def main():
     asked = old_phone(authenticator, 'Green 1', MSCHAP_LM_ALLOWED)
     used = call('list_used', authenticator.issued)
     print(f'\nplaces used in the list of issued challenges: {used}')
-    let_in = [typo, first, second, third, unasked, asked]
-    sys.exit(0 if let_in == [False, True, True, False, False, True] else 1)
+    let_in = [typo, first, second, third, any(guessed), fourth, unasked, asked]
+    sys.exit(0 if let_in == [False, True, True, False, False, True, False, True] else 1)
 
 
 LIBRARY = load()
