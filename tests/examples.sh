@@ -476,7 +476,7 @@ for line in \
 done
 [ "$(grep -c '^peer *is in$' "$scratch/bench.log")" = 3 ] || fail "$script: not let in 3 times"
 # locked by the fifth failure, and for the right password
-[ "$(grep -c 'the account is locked$' "$scratch/bench.log")" = 2 ] \
+[ "$(grep -c 'in a row, 5: the account is locked$' "$scratch/bench.log")" = 2 ] \
     || fail "$script: the account is not locked for two Responses"
 # the phone that answers by LM alone: turned away, and let in where LM is asked for
 [ "$(grep '^old phone *is ' "$scratch/bench.log" | tr -s ' ' | tr '\n' ,)" \
