@@ -195,7 +195,8 @@
  *   with MSCHAP_BAD_ARGUMENT. Records, conversations and answers have a new layout since 0.7.0:
  *   those that were stored before are refused. Make such a record again of what is known of the
  *   account, and open such a conversation again. The others are as 0.2.0 stored them.
- *   Bytes are not signed: store values where nobody else writes.
+ *   Bytes are not signed: store values where nobody else writes. Records, answers, passwords and a
+ *   conversation that awaits a change hold secrets: store these where nobody else reads, too.
  *   Arguments that are exchanged by mistake are refused, or are no C: GCC 14 says so by default,
  *   and other compilers with -Werror=incompatible-pointer-types. Of these alone an exchange is not
  *   found, as they are numbers alike: now and max_age, and the five counts of accounts.

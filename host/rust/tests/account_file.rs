@@ -4,7 +4,8 @@
 
 use mschap::{count_accounts, find_account, write_account};
 use mschap::{sys, Account, Conversation, Counts, FileFault, Found, Issued, LmHash, NtHash};
-use mschap::{Password, Peer, Reason, Refusal, Terms, Times, CHANGE_PACKET, REPLY_SIZE};
+use mschap::{Password, Peer, Reason, Refusal, Terms, Times, Update, CHANGE_PACKET, REPLY_SIZE};
+use std::collections::HashMap;
 
 /// The good line of the list of rules. Its password is MyPw, its time 1000.
 const L1: &str = "bob:1001:75BA30198E6D1975AAD3B435B51404EE:\
@@ -19,7 +20,7 @@ const NT: NtHash = NtHash([
 const CLIENT_PASS: NtHash = NtHash([
     0x44, 0xEB, 0xBA, 0x8D, 0x53, 0x12, 0xB8, 0xD6, 0x11, 0x47, 0x44, 0x11, 0xF5, 0x69, 0x89, 0xAE,
 ]);
-/// What L1 says to one who does not ask about its age.
+/// What L1 says to one who does not ask about its age. The file has no count of failures: it is 0.
 const BOB: Account = Account {
     nt_hash: Some(NT),
     lm_hash: Some(LM),
@@ -27,6 +28,7 @@ const BOB: Account = Account {
     hours_denied: false,
     dialin_denied: false,
     expired: false,
+    failures: 0,
 };
 const NO_NT: Account = Account {
     nt_hash: None,
@@ -526,7 +528,7 @@ fn call(
     let challenge = [issued.used() as u8, 2, 3, 4, 5, 6, 7, 8];
     let terms = Terms {
         retries: Some(0),
-        ..Terms::default()
+        ..Terms::new(1)
     };
     let opening = Conversation::open(7, terms, &challenge, issued, &mut reply);
     let (mut talk, size) = opening.expect("a conversation");
@@ -546,7 +548,10 @@ fn call(
     let changed = talk.step(&packet[..size], None, &mut reply);
     let changed = changed.expect("an answer");
     assert_eq!(changed.reason, Reason::Success);
-    (answer.reason, changed.updated)
+    match changed.update {
+        Update::Changed(account) => (answer.reason, Some(account)),
+        other => panic!("{other:?} after an accepted change"),
+    }
 }
 
 #[test]
@@ -582,6 +587,121 @@ fn a_password_is_changed_in_the_file() {
         .replace("[U ", "[UD");
     let answer = at_1101(file.as_bytes(), ["clientPass", ""]);
     assert_eq!(answer, (Reason::AccountDisabled, None));
+}
+
+/// What a caller keeps beside the file.
+#[derive(Default)]
+struct Failures(HashMap<Vec<u8>, u8>);
+
+/// A Response by a password in a conversation of its own, as `mschap.h` says it under LOCKOUT: the
+/// account is looked up, its count set and, after the step, kept. Without counts it is neither.
+fn guess(
+    file: &[u8],
+    counts: Option<&mut Failures>,
+    (name, password): (&str, &str),
+    number: u16,
+) -> Reason {
+    let (mut reply, mut packet) = ([0; REPLY_SIZE], [0; CHANGE_PACKET]);
+    let [high, low] = number.to_be_bytes();
+    let challenge = [1, 2, 3, 4, 5, 6, high, low];
+    let mut issued = Issued::new(3);
+    let opening = Conversation::open(7, Terms::new(5), &challenge, &mut issued, &mut reply);
+    let (mut talk, size) = opening.expect("a conversation");
+    let mut peer = Peer::read_challenge(&reply[..size]).expect("a Challenge");
+    let password = Password::from_utf8(password).expect("a password");
+    let size = peer.write_response(&password, name.as_bytes(), &mut packet);
+    let packet = &packet[..size.expect("a Response")];
+
+    let name = mschap::account_of(packet);
+    let found = find_account(file, name, times(1000, 100)).expect("a good file");
+    let mut account = found.map(|found| found.account);
+    let kept = counts.as_ref().and_then(|counts| counts.0.get(name));
+    if let (Some(account), Some(kept)) = (&mut account, kept) {
+        account.failures = *kept;
+    }
+    let answer = talk.step(packet, account.as_ref(), &mut reply);
+    let answer = answer.expect("an answer");
+    match (answer.update, counts) {
+        (Update::Counted(account), Some(counts)) => {
+            counts.0.insert(name.to_vec(), account.failures);
+        }
+        (Update::Counted(_), None) | (Update::Nothing, _) => {}
+        (Update::Changed(_), _) => panic!("no change is awaited"),
+    }
+    answer.reason
+}
+
+/// A caller who looks the account up anew for each Response, and does no more, has no lockout; one
+/// who keeps the counts by name has, whatever domain the name comes with.
+#[test]
+fn the_count_is_kept_beside_the_file() {
+    let file = format!("ann{}\n{L1}\n", &L1[3..]);
+    let file = file.as_bytes();
+    let failed = Reason::AuthenticationFailure;
+    for number in 0..300 {
+        assert_eq!(guess(file, None, ("bob", "wrong"), number), failed);
+    }
+    assert_eq!(guess(file, None, ("bob", "MyPw"), 300), Reason::Success);
+
+    let mut counts = Failures::default();
+    let mut call = |name: &str, password: &str, number| {
+        let reason = guess(file, Some(&mut counts), (name, password), number);
+        (reason, counts.0.get(&b"bob"[..]).copied())
+    };
+    for (number, name) in ["bob", "DOM\\bob", "\\bob", "other\\bob"]
+        .into_iter()
+        .enumerate()
+    {
+        let number = number as u16;
+        assert_eq!(
+            call(name, "wrong", number),
+            (failed, Some(number as u8 + 1))
+        );
+    }
+    // one below the limit the owner gets in, and the count is 0 again
+    assert_eq!(call("bob", "MyPw", 4), (Reason::Success, Some(0)));
+    for number in 0..5 {
+        assert_eq!(call("bob", "wrong", 10 + number).0, failed);
+    }
+    for number in 0..300 {
+        assert_eq!(call("DOM\\bob", "MyPw", 20 + number), (failed, Some(5)));
+    }
+    // another account is not locked, and a name on no line has no count
+    assert_eq!(call("ann", "MyPw", 400).0, Reason::Success);
+    assert_eq!(call("nobody", "MyPw", 401).0, failed);
+    let mut names: Vec<&[u8]> = counts.0.keys().map(Vec::as_slice).collect();
+    names.sort();
+    assert_eq!(names, [&b"ann"[..], b"bob"]);
+    // its keeper unlocks it
+    counts.0.insert(b"bob".to_vec(), 0);
+    let reason = guess(file, Some(&mut counts), ("bob", "MyPw"), 402);
+    assert_eq!(reason, Reason::Success);
+}
+
+/// Why the account of a judged Response is not for the file: of it the hashes are written, which are
+/// there already, and the time, so that its password does not expire. Its count is not.
+#[test]
+fn a_counted_account_in_the_file() {
+    let mut file = L1.as_bytes().to_vec();
+    let at_1101 = times(1101, 100);
+    let found = |file: &[u8]| {
+        let found = find_account(file, b"bob", at_1101).expect("a good file");
+        found.expect("bob").account
+    };
+    let before = found(&file);
+    assert!(before.expired);
+    let counted = Account {
+        failures: 3,
+        ..before
+    };
+    let answer = write_account(&mut file, b"bob", &counted, 1101);
+    assert_eq!(answer, Ok(Some(0)));
+    assert_eq!(file, L1.replace("000003E8", "0000044D").as_bytes());
+    assert_eq!(
+        found(&file),
+        BOB,
+        "no longer expired, and the count is not there"
+    );
 }
 
 /// The record that a lookup writes is passed to a step as it is.

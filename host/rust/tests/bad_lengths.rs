@@ -93,14 +93,14 @@ fn passwords() {
 fn records() {
     let (nt, lm) = ([1; 16], [2; 16]);
     let (both, no_nt, no_lm) = (0x7f, 0x7d, 0x7b);
-    let mut record = [FILL; 41];
+    let mut record = [FILL; 42];
     for (flags, nt, lm) in [
         (both, &nt[..], &lm[..]),
         (no_nt, &[], &lm),
         (no_lm, &nt, &[]),
         (0x79, &[], &[]),
     ] {
-        bad_sizes(41, |record| sys::make_record(flags, nt, lm, record));
+        bad_sizes(42, |record| sys::make_record(flags, nt, lm, record));
         bad_sizes_of(nt, |nt| sys::make_record(flags, nt, lm, &mut record));
         bad_sizes_of(lm, |lm| sys::make_record(flags, nt, lm, &mut record));
         // other bits
@@ -109,7 +109,7 @@ fn records() {
             assert_eq!(number, sys::BAD_ARGUMENT, "bit {bit}");
         }
     }
-    assert_eq!(record, [FILL; 41]);
+    assert_eq!(record, [FILL; 42]);
 
     // all that can be made reads back
     for flags in 0..0x80 {
@@ -130,6 +130,30 @@ fn records() {
         let mut read = (FILL.into(), [FILL; 16], [FILL; 16]);
         let number = sys::read_record(&record, &mut read.0, &mut read.1, &mut read.2);
         assert_eq!((number, read), (sys::OK, parts));
+    }
+
+    // a count in place of each other one, and nothing else; none over 255
+    assert_eq!(sys::record_failures(&record), 0);
+    for before in [0, 1, 127, 128, 254, 255] {
+        for after in 0..=255 {
+            record[layout::FAILURES_AT] = before;
+            let mut expected = record;
+            expected[layout::FAILURES_AT] = after;
+            let number = sys::set_failures(&mut record, after.into());
+            assert_eq!((number, record), (sys::OK, expected));
+            assert_eq!(sys::record_failures(&record), after.into());
+        }
+    }
+    for over in [256, 257, 511, 512, 65_536, 1 << 24, sys::INVALID] {
+        let before = record;
+        let number = sys::set_failures(&mut record, over);
+        assert_eq!((number, record), (sys::BAD_ARGUMENT, before), "{over}");
+    }
+    bad_sizes_of(&record, |record| sys::set_failures(record, 5));
+    for size in others(42) {
+        let mut bytes = record.to_vec();
+        bytes.resize(size, 0);
+        assert_eq!(sys::record_failures(&bytes), sys::INVALID, "{size}");
     }
 
     let (mut flags, mut hash) = (FILL.into(), [FILL; 16]);
@@ -168,7 +192,7 @@ fn account_files() {
     ] {
         let (file, name) = (file.as_bytes(), name.as_bytes());
         let mut offset = usize::MAX;
-        bad_sizes(41, |record| {
+        bad_sizes(42, |record| {
             sys::find_account(file, name, 5, 5, record, &mut offset)
         });
         let mut after = file.to_vec();
@@ -199,7 +223,7 @@ fn account_files() {
 /// One opening with this answer, which is not 0: everything that was passed is unchanged.
 fn refused(list: &[u8], identifier: u32, terms: u32, size: usize, answer: u32) {
     let mut after = list.to_vec();
-    let mut conversation = [FILL; 58];
+    let mut conversation = [FILL; 60];
     let mut reply = vec![FILL; size];
     let number = sys::open(
         identifier,
@@ -214,7 +238,7 @@ fn refused(list: &[u8], identifier: u32, terms: u32, size: usize, answer: u32) {
     assert_eq!(after, list, "{what}");
     assert_eq!(
         (conversation, reply),
-        ([FILL; 58], vec![FILL; size]),
+        ([FILL; 60], vec![FILL; size]),
         "{what}"
     );
 }
@@ -224,15 +248,18 @@ fn list(places: usize, used: u16) -> Vec<u8> {
     layout::list(used, &vec![FILL; places * 8])
 }
 
-const TERMS: u32 = sys::TERMS | sys::LM_ALLOWED | sys::retries(2);
+const TERMS: u32 = sys::TERMS | sys::limit(5) | sys::LM_ALLOWED | sys::retries(2);
+/// Terms without retries or a choice about LM.
+const LIMITED: u32 = sys::TERMS | sys::limit(1);
 
 #[test]
 fn openings() {
     let (fresh, unfit) = (list(3, 0), list(3, 4));
-    // 100 comes before the refusals: of the retries, the reply and the list
+    // 100 comes before the refusals: of the limit, the retries, the reply and the list
     for (passed, terms, size) in [
         (&fresh, TERMS, 17),
         (&unfit, TERMS, 17),
+        (&unfit, LIMITED | sys::retries(8), 16),
         (&unfit, sys::TERMS | sys::retries(8), 16),
     ] {
         let mut after = passed.clone();
@@ -242,38 +269,58 @@ fn openings() {
             assert_eq!((&after, reply), (passed, vec![FILL; size]));
             number
         };
-        bad_sizes(8, |challenge| open(challenge, &mut [0; 58]));
-        bad_sizes(58, |conversation| open(&[0; 8], conversation));
+        bad_sizes(8, |challenge| open(challenge, &mut [0; 60]));
+        bad_sizes(60, |conversation| open(&[0; 8], conversation));
         for identifier in [256, 257, 0x107, 65_536, sys::TERMS | 7, u32::MAX] {
             refused(passed, identifier, terms, size, sys::BAD_ARGUMENT);
         }
         // what stands where the mark of terms does, and where the choice about LM does
-        for mark in (0..=0xff).chain([0x100, 0xffff]).filter(|mark| *mark != 1) {
-            refused(
-                passed,
-                7,
-                mark << 16 | terms & 0xffff,
-                size,
-                sys::BAD_ARGUMENT,
-            );
+        for mark in (0..=0xff).filter(|mark| *mark != 1) {
+            let terms = mark << 16 | terms & 0xff00_ffff;
+            refused(passed, 7, terms, size, sys::BAD_ARGUMENT);
         }
         for lm in 3..=0xff {
-            let terms = sys::TERMS | lm << 8 | terms & 0xff;
+            let terms = lm << 8 | terms & 0xffff_00ff;
             refused(passed, 7, terms, size, sys::BAD_ARGUMENT);
         }
     }
-    // a refusal leaves all alone too, and these two come before that of the list
+    // a refusal leaves all alone too, and these come before that of the list
     for passed in [&fresh, &unfit] {
         for (retries, size, refusal) in [(8, 0, 13), (253, 17, 13), (254, 17, 13), (7, 16, 2)] {
-            refused(passed, 7, sys::TERMS | sys::retries(retries), size, refusal);
+            refused(passed, 7, LIMITED | sys::retries(retries), size, refusal);
+            // no limit, which is looked at first: not joined, 0, or over 255
+            for limit in [0, sys::limit(0), sys::limit(256), sys::limit(u32::MAX)] {
+                let terms = sys::TERMS | limit | sys::retries(retries);
+                refused(passed, 7, terms, size, 18);
+            }
         }
-        refused(passed, 7, sys::TERMS, 0, 2);
+        refused(passed, 7, LIMITED, 0, 2);
+        refused(passed, 7, sys::TERMS, 0, 18);
+        refused(passed, 7, sys::TERMS | sys::LM_ALLOWED, 17, 18);
+    }
+    // every limit that there is
+    for limit in 1..=255 {
+        let (mut conversation, mut list) = ([FILL; 60], list(3, 0));
+        let terms = sys::TERMS | sys::limit(limit);
+        let (challenge, mut reply) = ([9; 8], [0; 17]);
+        let number = sys::open(
+            7,
+            terms,
+            &challenge,
+            &mut list,
+            &mut conversation,
+            &mut reply,
+        );
+        assert_eq!(number, sys::OK, "{limit}");
+        let opened = layout::to_conversation(&conversation).expect("a conversation");
+        assert_eq!(u32::from(opened.limit), limit);
+        assert_eq!(u32::from(conversation[layout::LIMIT_AT]), limit);
     }
     // every choice that there is: what the conversation is then
     for lm in [0, sys::LM_ALLOWED, sys::LM_REFUSED] {
         for retries in [None, Some(0), Some(2), Some(7)] {
-            let terms = sys::TERMS | lm | retries.map_or(0, sys::retries);
-            let mut conversation = [FILL; 58];
+            let terms = LIMITED | lm | retries.map_or(0, sys::retries);
+            let mut conversation = [FILL; 60];
             let mut list = list(8, 0);
             let number = sys::open(
                 255,
@@ -327,7 +374,7 @@ fn lists() {
             continue;
         }
         let mut after = bytes.clone();
-        let number = sys::open(7, TERMS, &[0; 8], &mut after, &mut [0; 58], &mut [0; 17]);
+        let number = sys::open(7, TERMS, &[0; 8], &mut after, &mut [0; 60], &mut [0; 17]);
         assert_eq!((number, sys::list_used(&after)), (sys::OK, 3));
         let (used, places) = layout::to_list(&after).expect("a list");
         assert_eq!(used, 3);
@@ -356,8 +403,8 @@ fn lists() {
 }
 
 /// A conversation that awaits a Response, and a Response for it.
-fn opened() -> ([u8; 58], Vec<u8>) {
-    let (mut conversation, mut reply, mut peer) = ([0; 58], [0; 17], [0; 21]);
+fn opened() -> ([u8; 60], Vec<u8>) {
+    let (mut conversation, mut reply, mut peer) = ([0; 60], [0; 17], [0; 21]);
     let mut list = list(3, 0);
     let number = sys::open(7, TERMS, &[0; 8], &mut list, &mut conversation, &mut reply);
     assert_eq!(number, sys::OK);
@@ -390,26 +437,25 @@ fn steps() {
         bytes.resize(size, 0);
         bytes
     };
-    for size in others(58) {
-        bad_step(&resized(&conversation, size), &nobody, 45);
+    for size in others(60) {
+        bad_step(&resized(&conversation, size), &nobody, 46);
     }
-    for size in others(41) {
-        bad_step(&conversation, &resized(&nobody, size), 45);
+    for size in others(42) {
+        bad_step(&conversation, &resized(&nobody, size), 46);
     }
-    for size in others(45) {
+    for size in others(46) {
         bad_step(&conversation, &nobody, size);
     }
     // the right buffers draw an answer: the account is not found
     let mut reply = [FILL; 17];
-    let mut answer = [FILL; 45];
+    let mut answer = [FILL; 46];
     let number = sys::step(&mut conversation, &packet, &nobody, &mut reply, &mut answer);
-    assert_eq!(
-        (number, answer),
-        (sys::OK, layout::plain_answer(false, 691))
-    );
+    // by what it tells: the bytes of a record that there is not have no effect
+    let plain = layout::to_answer(&layout::plain_answer(false, 691));
+    assert_eq!((number, layout::to_answer(&answer)), (sys::OK, plain));
     assert_eq!(&reply, b"\x04\x07\x00\x11E=691 R=1 V=2");
     // and the same packet again the same reply, and nothing else
-    let (mut same, mut again, mut repeated) = (conversation, [FILL; 17], [FILL; 45]);
+    let (mut same, mut again, mut repeated) = (conversation, [FILL; 17], [FILL; 46]);
     let number = sys::step(&mut same, &packet, &nobody, &mut again, &mut repeated);
     assert_eq!(
         (number, repeated),
@@ -417,10 +463,10 @@ fn steps() {
     );
     assert_eq!((same, again), (conversation, reply));
     // which wrong sizes do not get
-    for size in others(58) {
-        bad_step(&resized(&conversation, size), &nobody, 45);
+    for size in others(60) {
+        bad_step(&resized(&conversation, size), &nobody, 46);
     }
-    for size in others(45) {
+    for size in others(46) {
         bad_step(&conversation, &nobody, size);
     }
 
@@ -431,7 +477,7 @@ fn steps() {
         sys::conversation_retries,
     ];
     assert_eq!(told.map(|tell| tell(&conversation)), [2, 8, 1]);
-    for size in others(58) {
+    for size in others(60) {
         let bytes = resized(&conversation, size);
         assert_eq!(told.map(|tell| tell(&bytes)), [sys::INVALID; 3]);
     }
@@ -445,7 +491,7 @@ fn steps() {
     assert_eq!(told.map(|tell| tell(&answer)), [691, 0, 0]);
     assert_eq!(told.map(|tell| tell(&repeated)), [691, 1, 0]);
     assert_eq!(told.map(|tell| tell(&spoiled)), [709, 0, 6]);
-    for size in others(45) {
+    for size in others(46) {
         for answer in [&answer, &repeated, &spoiled] {
             let bytes = resized(answer, size);
             assert_eq!(told.map(|tell| tell(&bytes)), [sys::INVALID; 3]);
@@ -458,14 +504,14 @@ fn steps() {
         fault: 0,
         updated: Some(account),
     });
-    let mut record = [FILL; 41];
+    let mut record = [FILL; 42];
     for answer in [&answer, &updated] {
-        bad_sizes(41, |record| sys::answer_record(answer, record));
+        bad_sizes(42, |record| sys::answer_record(answer, record));
         bad_sizes_of(answer, |answer| sys::answer_record(answer, &mut record));
     }
     assert_eq!(sys::answer_record(&answer, &mut record), 102);
     assert_eq!(sys::answer_record(&repeated, &mut record), 102);
-    assert_eq!(record, [FILL; 41]);
+    assert_eq!(record, [FILL; 42]);
     assert_eq!(sys::answer_record(&updated, &mut record), sys::OK);
     assert_eq!(record, layout::record(Some(layout::account(&account))));
 }
@@ -539,7 +585,7 @@ fn null_with_no_bytes() {
     let (n, m) = (null(), null_mut());
     let mut hash = [0; 16];
     let mut same = [0; 16];
-    let mut buffer = [FILL; 58];
+    let mut buffer = [FILL; 60];
     let mut out = [FILL; 64];
     let mut password = [FILL; 516];
     let (conversation, packet) = opened();
@@ -575,27 +621,30 @@ fn null_with_no_bytes() {
         assert_eq!(mschap_des_decrypt(n, 0, m, 0), BAD);
         assert_eq!(mschap_challenge_response(n, 0, n, 0, m, 0), BAD);
 
-        let mut record = [FILL; 41];
+        let mut record = [FILL; 42];
         let r = record.as_mut_ptr();
         assert_eq!(mschap_make_record(0, n, 0, n, 0, m, 0), BAD);
-        assert_eq!(mschap_make_record(0, n, 0, n, 0, r, 41), sys::OK);
+        assert_eq!(mschap_make_record(0, n, 0, n, 0, r, 42), sys::OK);
         let mut flags = 9;
         let f: *mut u32 = &mut flags;
         assert_eq!(mschap_read_record(n, 0, f, m, 0, m, 0), BAD);
-        assert_eq!(mschap_read_record(r, 41, f, m, 0, m, 0), BAD);
+        assert_eq!(mschap_read_record(r, 42, f, m, 0, m, 0), BAD);
         assert_eq!(*f, 9);
+        assert_eq!(mschap_record_failures(n, 0), sys::INVALID);
+        assert_eq!(mschap_set_failures(m, 0, 0), BAD);
+        assert_eq!(mschap_record_failures(r, 42), 0);
 
         let mut at = 9;
         let o: *mut usize = &mut at;
         assert_eq!(mschap_find_account(n, 0, n, 0, 5, 5, m, 0, o), BAD);
         assert_eq!(mschap_write_account(m, 0, n, 0, n, 0, 5, o), BAD);
-        assert_eq!(mschap_write_account(m, 0, n, 0, r, 41, 5, o), 102);
+        assert_eq!(mschap_write_account(m, 0, n, 0, r, 42, 5, o), 102);
         assert_eq!(*o, 9);
-        assert_eq!(mschap_find_account(n, 0, n, 0, 5, 5, r, 41, o), sys::OK);
+        assert_eq!(mschap_find_account(n, 0, n, 0, 5, 5, r, 42, o), sys::OK);
         assert_eq!((*o, record), (0, layout::record(None)));
-        let (junk, found) = ([b'x'], layout::record(Some([0; 38])));
+        let (junk, found) = ([b'x'], layout::record(Some([0; 39])));
         let (j, r) = (junk.as_ptr(), found.as_ptr());
-        assert_eq!(mschap_write_account(m, 0, j, 1, r, 41, 5, o), 103);
+        assert_eq!(mschap_write_account(m, 0, j, 1, r, 42, 5, o), 103);
         let mut counts = [9; 5];
         let [a, b, c, d, e] = &mut counts;
         assert_eq!(mschap_count_accounts(n, 0, 5, 5, a, b, c, d, e), sys::OK);
@@ -609,18 +658,18 @@ fn null_with_no_bytes() {
         let (q, c, o) = (challenge.as_ptr(), buffer.as_mut_ptr(), out.as_mut_ptr());
         let full = list.as_mut_ptr();
         // no list, no reply, no place
-        assert_eq!(mschap_open(7, TERMS, q, 8, m, 0, c, 58, o, 17), BAD);
-        assert_eq!(mschap_open(7, TERMS, q, 8, full, 4, c, 58, m, 0), 2);
-        assert_eq!(mschap_open(7, TERMS, q, 8, full, 4, c, 58, o, 17), 17);
-        assert_eq!((buffer, out), ([FILL; 58], [FILL; 64]));
+        assert_eq!(mschap_open(7, TERMS, q, 8, m, 0, c, 60, o, 17), BAD);
+        assert_eq!(mschap_open(7, TERMS, q, 8, full, 4, c, 60, m, 0), 2);
+        assert_eq!(mschap_open(7, TERMS, q, 8, full, 4, c, 60, o, 17), 17);
+        assert_eq!((buffer, out), ([FILL; 60], [FILL; 64]));
 
         assert_eq!(mschap_step(m, 0, n, 0, n, 0, m, 0, m, 0), BAD);
         let (c, o) = (next.as_mut_ptr(), out.as_mut_ptr());
         let reply = buffer.as_mut_ptr();
-        assert_eq!(mschap_step(c, 58, n, 0, r, 41, reply, 17, o, 45), 3);
+        assert_eq!(mschap_step(c, 60, n, 0, r, 42, reply, 17, o, 46), 3);
         let packet = packet.as_ptr();
-        assert_eq!(mschap_step(c, 58, packet, 55, r, 41, m, 0, o, 45), 2);
-        assert_eq!((next, buffer, out), (conversation, [FILL; 58], [FILL; 64]));
+        assert_eq!(mschap_step(c, 60, packet, 55, r, 42, m, 0, o, 46), 2);
+        assert_eq!((next, buffer, out), (conversation, [FILL; 60], [FILL; 64]));
         assert_eq!(mschap_answer_reason(n, 0), sys::INVALID);
         assert_eq!(mschap_answer_repeated(n, 0), sys::INVALID);
         assert_eq!(mschap_answer_fault(n, 0), sys::INVALID);
@@ -644,7 +693,7 @@ fn null_with_no_bytes() {
         assert_eq!(mschap_read_challenge(n, 0, buffer.as_mut_ptr(), 21), 3);
         let p = peer.as_mut_ptr();
         assert_eq!(mschap_read_reply(p, 21, n, 0, a, b), 3);
-        assert_eq!((*a, *b, buffer), (9, 9, [FILL; 58]));
+        assert_eq!((*a, *b, buffer), (9, 9, [FILL; 60]));
         assert_eq!(mschap_write_response(m, 0, n, 0, n, 0, m, 0), BAD);
         assert_eq!(mschap_write_response(p, 21, n, 0, n, 0, m, 0), BAD);
         assert_eq!(mschap_write_response(p, 21, w, 516, n, 0, m, 0), 10);

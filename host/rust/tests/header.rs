@@ -108,6 +108,7 @@ fn numbers() {
         ("DOUBLED_NAME", Refusal::DoubledName.number()),
         ("SPENT", Refusal::Spent.number()),
         ("LIST_FULL", Refusal::ListFull.number()),
+        ("NO_LIMIT", Refusal::NoLimit.number()),
         ("LIST", Refusal::List.number()),
         ("BAD_ARGUMENT", Refusal::BadArgument.number()),
         ("MALFORMED", Refusal::Malformed.number()),
@@ -147,7 +148,7 @@ fn numbers() {
     assert_eq!(left, Vec::<String>::new(), "not compared");
 }
 
-/// The two macros with an argument, which C's preprocessor alone can evaluate: by their words.
+/// The three macros with an argument, which C's preprocessor alone can evaluate: by their words.
 #[test]
 fn macros() {
     assert!(HEADER.contains("#define MSCHAP_LIST_SIZE(places) (4 + 8 * (places)) "));
@@ -157,6 +158,12 @@ fn macros() {
     assert_eq!(
         [0, 7, 253, 254, 300].map(sys::retries),
         [1, 8, 254, 255, 255]
+    );
+    let words = "(n) ((uint32_t)(n) < 256u ? (uint32_t)(n) << 24 : 0u)\n";
+    assert!(HEADER.contains(&format!("#define MSCHAP_LIMIT{words}")));
+    assert_eq!(
+        [0, 1, 10, 255, 256, 266, u32::MAX].map(sys::limit),
+        [0, 1 << 24, 10 << 24, 255 << 24, 0, 0, 0]
     );
 }
 

@@ -12,7 +12,7 @@ fn challenge(first: u8) -> [u8; 8] {
 fn open(issued: &mut Issued, first: u8, retries: u8) -> Result<(), Refusal> {
     let terms = Terms {
         retries: Some(retries),
-        ..Terms::default()
+        ..Terms::new(1)
     };
     let mut reply = [0; REPLY_SIZE];
     let opening = Conversation::open(1, terms, &challenge(first), issued, &mut reply);
@@ -72,6 +72,28 @@ fn a_list_with_room_for_one_opening() {
     assert_eq!(open(&mut Issued::new(0), 1, 0), Err(Refusal::ListFull));
 }
 
+/// An opening with no limit is refused before all else, and spends nothing.
+#[test]
+fn no_limit() {
+    let mut issued = Issued::new(2);
+    for retries in [0, 1, 2, 7, 8, 255] {
+        for room in [0, REPLY_SIZE] {
+            let terms = Terms {
+                retries: Some(retries),
+                ..Terms::new(0)
+            };
+            let mut reply = vec![0xA5; room];
+            let opening = Conversation::open(1, terms, &challenge(1), &mut issued, &mut reply);
+            assert_eq!(opening, Err(Refusal::NoLimit), "{retries} retries, {room}");
+            assert_eq!(reply, vec![0xA5; room]);
+            holds(&issued, &[]);
+        }
+    }
+    assert_eq!(open(&mut issued, 1, 1), Ok(()));
+    holds(&issued, &[1, 24]);
+    assert_eq!(Refusal::NoLimit.number(), 18);
+}
+
 #[test]
 fn at_most_4096_places() {
     for places in [LIST_PLACES, LIST_PLACES + 1, usize::MAX] {
@@ -90,7 +112,7 @@ fn four_thousand_places_that_end_alike() {
     let mut reply = [0; REPLY_SIZE];
     let terms = Terms {
         retries: Some(7),
-        ..Terms::default()
+        ..Terms::new(255)
     };
     for number in 0..512u16 {
         let [high, low] = number.to_be_bytes();

@@ -7,7 +7,7 @@ mod layout;
 
 use layout::{Told, KINDS, LIST_HEAD};
 use mschap::sys;
-use mschap::{Refusal, Terms};
+use mschap::{Refusal, Terms, Update};
 use reference::authenticator::{self as their, Account, Conversation, Fault, Last, Phase, Reply};
 use reference::message::Call;
 use reference::peer::{self, Turn, Verdict};
@@ -17,7 +17,8 @@ const FILL: u8 = 0xA5;
 const CHALLENGE: [u8; 8] = [1, 2, 3, 4, 5, 6, 7, 8];
 const NEXT: [u8; 8] = [24, 2, 3, 4, 5, 6, 7, 8];
 const PASSWORD: &[u8] = b"P\0\xe4\0w\0";
-const TERMS: u32 = sys::TERMS | sys::LM_ALLOWED | sys::retries(1);
+const LIMIT: u8 = 5;
+const TERMS: u32 = sys::TERMS | sys::limit(LIMIT as u32) | sys::LM_ALLOWED | sys::retries(1);
 
 /// How often calls were answered and refused.
 #[derive(Default)]
@@ -64,8 +65,8 @@ fn spoiled(value: &[u8], mut check: impl FnMut(&[u8])) -> usize {
     }
     // of another kind, with this one's size and with that one's
     for kind in KINDS {
-        for size in [value.len(), 21, 41, 43, 44, 45, 52, 58, 516] {
-            for version in [0, 1, 2, 3, 255] {
+        for size in [value.len(), 21, 41, 42, 43, 44, 45, 46, 52, 58, 60, 516] {
+            for version in [0, 1, 2, 3, 4, 5, 255] {
                 let mut bytes = value.to_vec();
                 bytes.resize(size, 0);
                 bytes[..2].copy_from_slice(&[kind, version]);
@@ -88,6 +89,15 @@ fn account() -> Account {
         hours: false,
         no_dialin: false,
         expired: true,
+        failures: LIMIT - 2,
+    }
+}
+
+/// The same account, locked.
+fn locked() -> Account {
+    Account {
+        failures: LIMIT,
+        ..account()
     }
 }
 
@@ -97,6 +107,7 @@ fn conversation(phase: Phase) -> Conversation {
         challenge: CHALLENGE,
         retries: 2,
         lm: true,
+        limit: LIMIT,
         phase,
         last: None,
     }
@@ -150,13 +161,13 @@ fn packets() -> [Vec<u8>; 2] {
 
 /// A step with these bytes for conversation and record, against what they stand for.
 fn step(bytes: &[u8], record: &[u8], packet: &[u8], seen: &mut Seen) {
-    let (mut after, mut reply, mut answer) = (bytes.to_vec(), [FILL; 17], [FILL; 45]);
+    let (mut after, mut reply, mut answer) = (bytes.to_vec(), [FILL; 17], [FILL; 46]);
     let number = sys::step(&mut after, packet, record, &mut reply, &mut answer);
     let valid = layout::to_conversation(bytes).zip(layout::to_record(record));
     seen.note(valid.is_some());
     let Some((conversation, found)) = valid else {
         assert_eq!(number, sys::BAD_ARGUMENT, "{bytes:?} {record:?}");
-        let same = (bytes.to_vec(), [FILL; 17], [FILL; 45]);
+        let same = (bytes.to_vec(), [FILL; 17], [FILL; 46]);
         assert_eq!((after, reply, answer), same);
         return;
     };
@@ -186,13 +197,15 @@ fn step(bytes: &[u8], record: &[u8], packet: &[u8], seen: &mut Seen) {
         };
         assert_eq!(layout::to_answer(&answer), Some(expected));
     } else {
-        assert_eq!((after, answer), (bytes.to_vec(), [FILL; 45]));
+        assert_eq!((after, answer), (bytes.to_vec(), [FILL; 46]));
     }
 }
 
 #[test]
 fn conversations() {
-    let record = layout::record(Some(layout::account(&account())));
+    let records =
+        [account(), locked()].map(|account| layout::record(Some(layout::account(&account))));
+    let mut turns = 0;
     let mut seen = Seen::default();
     for value in conversations_kept() {
         spoiled(&layout::conversation(&value), |bytes| {
@@ -212,8 +225,9 @@ fn conversations() {
             assert_eq!(told, expected.unwrap_or([sys::INVALID; 3]), "{bytes:?}");
             let stored = mschap::Conversation::from_bytes(bytes);
             assert_eq!(stored.is_ok(), expected.is_some());
+            turns += 1;
             for packet in packets() {
-                step(bytes, &record, &packet, &mut seen);
+                step(bytes, &records[turns % 2], &packet, &mut seen);
             }
         });
     }
@@ -259,7 +273,7 @@ fn last_answers() {
 fn responded(account: &mschap::Account) -> (mschap::Conversation, Vec<u8>, Vec<u8>) {
     let (mut reply, mut packet) = ([FILL; 17], [FILL; 62]);
     let mut issued = mschap::Issued::new(3);
-    let terms = Terms::default();
+    let terms = Terms::new(LIMIT);
     let opening = mschap::Conversation::open(7, terms, &CHALLENGE, &mut issued, &mut reply);
     let (mut conversation, size) = opening.expect("a conversation");
     let mut peer = mschap::Peer::read_challenge(&reply[..size]).expect("a Challenge");
@@ -313,7 +327,7 @@ fn a_stored_conversation_repeats() {
         ] {
             let mut buffer = [FILL; 20];
             let answer = again.step(packet, found, &mut buffer).expect("a repeat");
-            assert_eq!((answer.repeated, answer.updated), (true, None));
+            assert_eq!((answer.repeated, answer.update), (true, Update::Nothing));
             assert_eq!(&buffer[..answer.size], expected);
             assert!(buffer[answer.size..].iter().all(|byte| *byte == FILL));
             assert_eq!(*again.as_bytes(), stored);
@@ -333,106 +347,139 @@ fn a_repeated_change_gives_no_record() {
     let mut bytes = layout::conversation(&conversation(Phase::Change(account())));
     let nobody = layout::record(None);
     let mut reply = [FILL; 17];
-    let mut answer = [FILL; 45];
+    let mut answer = [FILL; 46];
     let step = |bytes: &mut [u8], reply: &mut [u8], answer: &mut [u8]| {
         sys::step(bytes, &change, &nobody, reply, answer)
     };
     assert_eq!(step(&mut bytes, &mut reply, &mut answer), sys::OK);
     assert_eq!(reply[..4], [3, 7, 0, 4]);
-    let mut record = [FILL; 41];
+    let mut record = [FILL; 42];
     assert_eq!(sys::answer_record(&answer, &mut record), sys::OK);
+    assert_eq!(sys::record_failures(&record), 0);
     let after = bytes;
     for _ in 0..3 {
         let mut reply = [FILL; 17];
         assert_eq!(step(&mut bytes, &mut reply, &mut answer), sys::OK);
         assert_eq!((&reply[..4], reply[4]), (&[3, 7, 0, 4][..], FILL));
         assert_eq!(answer, layout::plain_answer(true, 0));
-        let mut record = [FILL; 41];
+        let mut record = [FILL; 42];
         assert_eq!(sys::answer_record(&answer, &mut record), 102);
-        assert_eq!((bytes, record), (after, [FILL; 41]));
+        assert_eq!((bytes, record), (after, [FILL; 42]));
     }
 }
 
-/// What 0.2.0 stored: every value had version 1. Conversations and answers have another layout now
-/// and are refused; the others are as they were.
-#[test]
-fn what_version_0_2_0_stored() {
-    let stored = |kind: u8, size: usize, front: &[u8]| {
-        let mut bytes = [&[kind, 1], front].concat();
-        bytes.resize(size, 0);
-        bytes
-    };
-    // it awaits a Response with identifier 7, LM is allowed and 2 retries are left
-    let conversation = stored(b'C', 52, &[2, 1, 7, 2, 1, 2, 3, 4, 5, 6, 7, 8]);
-    // Failure with the reason 691
-    let answer = stored(b'A', 43, &[2, 0xb3]);
-    for size in [52, 58] {
-        let mut bytes = conversation.clone();
-        bytes.resize(size, 0);
-        let stored = mschap::Conversation::from_bytes(&bytes);
-        assert_eq!(stored, Err(Refusal::BadArgument));
-        assert_eq!(sys::conversation_awaits(&bytes), sys::INVALID);
-    }
-    for size in [43, 44, 45] {
-        let mut bytes = answer.clone();
-        bytes.resize(size, 0);
-        assert_eq!(sys::answer_reason(&bytes), sys::INVALID);
-    }
-    // and as version 2 they are what they are taken for
-    let mut bytes = conversation;
-    bytes.resize(58, 0);
-    bytes[1] = 2;
-    assert_eq!(sys::conversation_awaits(&bytes), 2);
+/// A value of a kind and a version, with bytes 0 behind its front.
+fn stored(kind: u8, version: u8, size: usize, front: &[u8]) -> Vec<u8> {
+    let mut bytes = [&[kind, version], front].concat();
+    bytes.resize(size, 0);
+    bytes
+}
 
-    let record = stored(b'R', 41, &[1, 1, 9, 9, 9]);
-    let account = mschap::Account::from_bytes(&record).expect("a record");
-    let hash = account.and_then(|account| account.nt_hash);
+/// Records, conversations and answers as each version stored them that had another layout, in their
+/// own size and in each later one: they are refused, and by nothing but their version.
+#[test]
+fn what_earlier_versions_stored() {
+    // a found account with an NT hash
+    let record = [1, 1, 9, 9, 9];
+    // it awaits a Response with identifier 7, LM is allowed and 2 retries are left
+    let conversation = [2, 1, 7, 2, 1, 2, 3, 4, 5, 6, 7, 8];
+    // a Failure with the reason 691, in front of which 0.3.0 put that it is no repeat
+    let first = [2, 0xb3];
+    let answer = [0, 2, 0xb3];
+    for (kind, version, sizes, front) in [
+        // 0.2.0 to 0.6.0
+        (b'R', 1, &[41, 42][..], &record[..]),
+        (b'C', 1, &[52, 58, 60], &conversation),
+        (b'C', 2, &[58, 60], &conversation),
+        (b'A', 1, &[43, 44, 45, 46], &first),
+        (b'A', 2, &[44, 45, 46], &answer),
+        (b'A', 3, &[45, 46], &answer),
+    ] {
+        for size in sizes {
+            refuses(kind, &stored(kind, version, *size, front));
+        }
+    }
+    // and as this version they are what they are taken for
+    let bytes = stored(b'R', 2, 42, &record);
+    assert_eq!(sys::record_failures(&bytes), 0);
+    let bytes = stored(b'C', 3, 60, &conversation);
+    assert_eq!(sys::conversation_awaits(&bytes), 2);
+    assert_eq!(sys::conversation_identifier(&bytes), 2);
+    let bytes = stored(b'A', 4, 46, &answer);
+    assert_eq!(sys::answer_reason(&bytes), 691);
+}
+
+/// A value is refused by each function that takes one of its kind, and stays as it is.
+fn refuses(kind: u8, bytes: &[u8]) {
+    let [response, _] = packets();
+    let (nobody, mut reply, mut answer) = (layout::record(None), [FILL; 17], [FILL; 46]);
+    let talk = layout::conversation(&conversation(Phase::Response));
+    let mut record = [FILL; 42];
+    let (mut flags, mut nt, mut lm) = (9, [FILL; 16], [FILL; 16]);
+    match kind {
+        b'R' => {
+            let refused = Err(Refusal::BadArgument);
+            assert_eq!(mschap::Account::from_bytes(bytes), refused);
+            let number = sys::read_record(bytes, &mut flags, &mut nt, &mut lm);
+            assert_eq!(number, sys::BAD_ARGUMENT);
+            assert_eq!(sys::record_failures(bytes), sys::INVALID);
+            let mut same = bytes.to_vec();
+            assert_eq!(sys::set_failures(&mut same, 0), sys::BAD_ARGUMENT);
+            let mut talk = talk;
+            let number = sys::step(&mut talk, &response, bytes, &mut reply, &mut answer);
+            assert_eq!((number, &same[..]), (sys::BAD_ARGUMENT, bytes));
+            let number = sys::write_account(&mut [], b"bob", bytes, 5, &mut 0);
+            assert_eq!(number, sys::BAD_ARGUMENT);
+        }
+        b'C' => {
+            let refused = Err(Refusal::BadArgument);
+            assert_eq!(mschap::Conversation::from_bytes(bytes), refused);
+            let told = [
+                sys::conversation_awaits,
+                sys::conversation_identifier,
+                sys::conversation_retries,
+            ];
+            assert_eq!(told.map(|tell| tell(bytes)), [sys::INVALID; 3]);
+            let mut same = bytes.to_vec();
+            let number = sys::step(&mut same, &response, &nobody, &mut reply, &mut answer);
+            assert_eq!((number, &same[..]), (sys::BAD_ARGUMENT, bytes));
+        }
+        _ => {
+            let told = [sys::answer_reason, sys::answer_repeated, sys::answer_fault];
+            assert_eq!(told.map(|tell| tell(bytes)), [sys::INVALID; 3]);
+            let number = sys::answer_record(bytes, &mut record);
+            assert_eq!(number, sys::BAD_ARGUMENT);
+        }
+    }
     assert_eq!(
-        hash.map(|hash| hash.0[..4].to_vec()),
-        Some(vec![9, 9, 9, 0])
+        (reply, answer, record),
+        ([FILL; 17], [FILL; 46], [FILL; 42])
     );
-    assert!(mschap::Peer::from_bytes(&stored(b'P', 21, &[1, 7])).is_ok());
-    let password = mschap::Password::from_bytes(&stored(b'W', 516, &[0, 2, b'a', 0]));
+    assert_eq!((flags, nt, lm), (9, [FILL; 16], [FILL; 16]));
+}
+
+/// The other kinds are as 0.2.0 stored them.
+#[test]
+fn what_has_the_same_layout_since_0_2_0() {
+    assert!(mschap::Peer::from_bytes(&stored(b'P', 1, 21, &[1, 7])).is_ok());
+    let password = mschap::Password::from_bytes(&stored(b'W', 1, 516, &[0, 2, b'a', 0]));
     let text = password.and_then(|password| password.to_text());
     assert_eq!(text.as_deref(), Ok("a"));
-    let list = mschap::Issued::from_bytes(&stored(b'L', 28, &[0, 2]));
+    let list = mschap::Issued::from_bytes(&stored(b'L', 1, 28, &[0, 2]));
     assert_eq!(list.map(|list| list.used()), Ok(2));
-}
-
-/// What 0.3.0 stored: answers have another layout now and are refused, in its size and in this one;
-/// conversations are as they were.
-#[test]
-fn what_version_0_3_0_stored() {
-    // a Failure with the reason 691, no repeat, no record
-    for reason in [691_u16, 709] {
-        let mut stored = [&[b'A', 2, 0][..], &reason.to_be_bytes(), &[0; 39]].concat();
-        assert_eq!(stored.len(), 44);
-        for _ in 0..2 {
-            let told = [sys::answer_reason, sys::answer_repeated, sys::answer_fault];
-            assert_eq!(told.map(|tell| tell(&stored)), [sys::INVALID; 3]);
-            let mut record = [FILL; 41];
-            let number = sys::answer_record(&stored, &mut record);
-            assert_eq!((number, record), (sys::BAD_ARGUMENT, [FILL; 41]));
-            // in the size of an answer of this version, but by its own version still another's
-            stored.push(0);
-        }
-        stored.pop();
-        // and as version 3 it is what it is taken for
-        stored[1] = 3;
-        assert_eq!(sys::answer_reason(&stored), reason.into());
-        assert_eq!(sys::answer_fault(&stored), 0);
-    }
-    let mut conversation = [0; 58];
-    conversation[..6].copy_from_slice(&[b'C', 2, 2, 1, 7, 2]);
-    assert!(mschap::Conversation::from_bytes(&conversation).is_ok());
 }
 
 #[test]
 fn records() {
     let mut seen = Seen::default();
     let awaiting = [Phase::Response, Phase::Change(account())].map(conversation);
-    for found in [Some(layout::account(&account())), None] {
+    for found in [
+        Some(layout::account(&account())),
+        Some(layout::account(&locked())),
+        None,
+    ] {
         spoiled(&layout::record(found), |bytes| {
+            failures(bytes);
             let mut read = (FILL.into(), [FILL; 16], [FILL; 16]);
             let number = sys::read_record(bytes, &mut read.0, &mut read.1, &mut read.2);
             match layout::record_parts(bytes) {
@@ -457,6 +504,25 @@ fn records() {
         });
     }
     assert!(seen.answered > 10_000 && seen.refused > 5_000);
+}
+
+/// These bytes for the record whose count is told and set: no other byte of it changes.
+fn failures(bytes: &[u8]) {
+    let count = layout::to_record(bytes).map(|_| bytes[layout::FAILURES_AT]);
+    let told = count.map_or(sys::INVALID, u32::from);
+    assert_eq!(sys::record_failures(bytes), told, "{bytes:?}");
+    for failures in [0, 1, 77, 255, 256, 0x101, sys::INVALID] {
+        let (mut after, mut expected) = (bytes.to_vec(), bytes.to_vec());
+        let number = sys::set_failures(&mut after, failures);
+        match (count, u8::try_from(failures)) {
+            (Some(_), Ok(failures)) => {
+                expected[layout::FAILURES_AT] = failures;
+                assert_eq!(number, sys::OK, "{bytes:?}");
+            }
+            _ => assert_eq!(number, sys::BAD_ARGUMENT, "{bytes:?}"),
+        }
+        assert_eq!(after, expected);
+    }
 }
 
 /// These bytes for the record that is written into an account file.
@@ -497,6 +563,7 @@ fn answers() {
     };
     for answer in [
         told(false, 0, 0, Some(account())),
+        told(false, 691, 0, Some(locked())),
         told(false, 691, 0, None),
         told(true, 0, 0, None),
         told(false, 709, 5, None),
@@ -513,7 +580,7 @@ fn answers() {
             if let (Some(number), true) = (bytes.get(5), fault != sys::INVALID) {
                 faults[usize::from(*number)] += 1;
             }
-            let mut record = [FILL; 41];
+            let mut record = [FILL; 42];
             let number = sys::answer_record(bytes, &mut record);
             match value.map(|told| told.updated) {
                 Some(Some(updated)) => {
@@ -524,7 +591,7 @@ fn answers() {
                 }
                 other => {
                     let expected = other.map_or(sys::BAD_ARGUMENT, |_| 102);
-                    assert_eq!((number, record), (expected, [FILL; 41]), "{bytes:?}");
+                    assert_eq!((number, record), (expected, [FILL; 42]), "{bytes:?}");
                 }
             }
         });
@@ -747,7 +814,7 @@ fn lists() {
     let spent = layout::list(2, &[&places[..8], &CHALLENGE, &places[16..]].concat());
     for list in [layout::list(2, &places), empty, spent] {
         spoiled(&list, |bytes| {
-            let (mut after, mut conversation, mut reply) = (bytes.to_vec(), [FILL; 58], [FILL; 17]);
+            let (mut after, mut conversation, mut reply) = (bytes.to_vec(), [FILL; 60], [FILL; 17]);
             let number = sys::open(
                 7,
                 TERMS,
@@ -767,7 +834,7 @@ fn lists() {
             assert_eq!(mschap::Issued::from_bytes(bytes).is_ok(), sound.is_some());
 
             let Some((used, places)) = value else {
-                let same = (bytes.to_vec(), [FILL; 58], [FILL; 17]);
+                let same = (bytes.to_vec(), [FILL; 60], [FILL; 17]);
                 assert_eq!(number, sys::BAD_ARGUMENT, "{bytes:?}");
                 assert_eq!((after, conversation, reply), same);
                 return;
@@ -785,7 +852,15 @@ fn lists() {
             let mut their_reply = [FILL; 17];
             let retries = Some(1);
             let lm = Some(true);
-            let opening = their::open(7, &CHALLENGE, retries, lm, &mut passed, &mut their_reply);
+            let opening = their::open(
+                7,
+                &CHALLENGE,
+                retries,
+                lm,
+                LIMIT,
+                &mut passed,
+                &mut their_reply,
+            );
             let used = passed.used;
             assert_eq!(number, opening.refusal.into(), "{bytes:?}");
             assert_eq!(reply, their_reply);
@@ -793,7 +868,7 @@ fn lists() {
                 assert_eq!(conversation, layout::conversation(&opening.conversation));
                 assert_eq!(after, layout::list(used as u16, &places));
             } else {
-                assert_eq!((&after[..], conversation), (bytes, [FILL; 58]));
+                assert_eq!((&after[..], conversation), (bytes, [FILL; 60]));
                 assert_eq!(after[LIST_HEAD..], places);
             }
         });
@@ -804,7 +879,7 @@ fn lists() {
 /// Each kind was spoiled in each place to each value.
 #[test]
 fn all_that_is_spoiled() {
-    for size in [21, 41, 45, 58, 516] {
+    for size in [21, 42, 46, 60, 516] {
         let mut places = vec![0; size];
         let count = spoiled(&vec![0; size], |bytes| {
             if bytes.len() == size {

@@ -4,7 +4,7 @@
 use crate::layout;
 use crate::random::Random;
 use mschap::{sys, Awaited, Call, Challenge, Conversation, Issued, LmHash, NtHash, Password, Peer};
-use mschap::{Reading, Refusal, Terms};
+use mschap::{Reading, Refusal, Terms, Update};
 use reference::authenticator::{self as their, Fault, Phase};
 use reference::issued;
 use reference::message;
@@ -33,6 +33,7 @@ pub fn our_account(account: &their::Account) -> mschap::Account {
         hours_denied: account.hours,
         dialin_denied: account.no_dialin,
         expired: account.expired,
+        failures: account.failures,
     }
 }
 
@@ -44,6 +45,7 @@ pub fn their_account(account: &mschap::Account) -> their::Account {
         hours: account.hours_denied,
         no_dialin: account.dialin_denied,
         expired: account.expired,
+        failures: account.failures,
     }
 }
 
@@ -71,7 +73,7 @@ pub fn our_conversation(theirs: &their::Conversation, random: &mut Random) -> Co
         Phase::Change(kept) => account_bytes(kept, random),
         _ => {
             let mut drawn = random.array::<{ layout::ACCOUNT_SIZE }>();
-            for flag in [0, 17, 34, 35, 36, 37] {
+            for flag in layout::ACCOUNT_FLAGS {
                 drawn[flag] &= 1;
             }
             drawn
@@ -126,7 +128,7 @@ pub fn terms_number(terms: &Terms) -> u32 {
     let lm = lm[terms
         .lm_allowed
         .map_or(0, |allowed| 2 - usize::from(allowed))];
-    sys::TERMS | retries | lm
+    sys::TERMS | sys::limit(terms.limit.into()) | retries | lm
 }
 
 impl Passed {
@@ -193,8 +195,20 @@ impl Passed {
             challenge,
             terms,
         } = opening;
-        let (retries, lm) = (terms.retries, terms.lm_allowed);
-        let opened = their::open(*id, challenge, retries, lm, &mut passed, reply);
+        let Terms {
+            limit,
+            retries,
+            lm_allowed,
+        } = *terms;
+        let opened = their::open(
+            *id,
+            challenge,
+            retries,
+            lm_allowed,
+            limit,
+            &mut passed,
+            reply,
+        );
         self.used = passed.used as u16;
         opened
     }
@@ -225,7 +239,15 @@ pub struct Outcome {
     /// The number of what is wrong with a change; 0 is none.
     pub fault: u8,
     pub written: usize,
-    pub changed: Option<their::Account>,
+    /// The record that is handed out, after a judged Response or an accepted change.
+    pub handed: Option<their::Account>,
+}
+
+impl Outcome {
+    /// Whether the packet was judged.
+    pub fn is_judged(&self) -> bool {
+        self.refusal == 0 && !self.repeated
+    }
 }
 
 impl Boxes {
@@ -239,6 +261,7 @@ impl Boxes {
         their_reply: &mut [u8],
     ) -> Outcome {
         let before = self.ours;
+        let awaited = before.awaited();
         let passed = our_reply.to_vec();
         let ours = self
             .ours
@@ -261,8 +284,15 @@ impl Boxes {
                 let fault = u32::from(Fault::number(theirs.fault));
                 assert_eq!(judged.fault.number(), fault, "the fault");
                 assert!(fault == 0 || reason == 709, "a fault beside {reason}");
-                let updated = judged.updated.as_ref().map(their_account);
-                assert_eq!(updated, theirs.record, "the record");
+                let handed = judged.update.account().map(their_account);
+                assert_eq!(handed, theirs.record, "the record");
+                // by what the conversation awaited: not by the packet, nor by the record
+                let kind = match judged.update {
+                    Update::Nothing => None,
+                    Update::Counted(_) => Some(Awaited::Response),
+                    Update::Changed(_) => Some(Awaited::Change),
+                };
+                assert_eq!(kind, handed.map(|_| awaited), "the kind of record");
             }
             Err(_) => {
                 assert_eq!(self.ours, before, "a refusal changes nothing");
@@ -275,7 +305,7 @@ impl Boxes {
             repeated: theirs.repeated,
             fault: Fault::number(theirs.fault),
             written: theirs.written,
-            changed: theirs.record,
+            handed: theirs.record,
         }
     }
 }

@@ -65,9 +65,12 @@ fn faulty(random: &mut Random, seen: &mut Seen) {
     let written = peer::write_change(&turn, &old, &new, &filler, &mut packet);
     assert_eq!(written.refusal, 0);
 
+    let limit = packets::limit(random);
+    // Its count has no part in a change. No box keeps a record with another count than 0; this one
+    // may have any.
     let mut kept = Account {
         nt: hashes::nt_hash(&old).ok(),
-        ..packets::account(random)
+        ..packets::account(random, limit)
     };
     let length = length(random, new.len());
     set_length(&mut packet, new.len(), length);
@@ -99,6 +102,7 @@ fn faulty(random: &mut Random, seen: &mut Seen) {
         challenge: turn.challenge,
         retries: random.below(8) as u8,
         lm: random.chance(50),
+        limit,
         phase: Phase::Change(kept),
         last: None,
     };
@@ -115,11 +119,19 @@ fn faulty(random: &mut Random, seen: &mut Seen) {
         assert_eq!(outcome.repeated, repeated);
         let told = if repeated { 0 } else { fault };
         assert_eq!(outcome.fault, told, "{wrong:?}");
+        let failures = outcome.handed.map(|account| account.failures);
+        let is_accepted = fault == 0 && !repeated;
+        assert_eq!(failures, is_accepted.then_some(0), "the count of a change");
         if fault != 0 {
             assert_eq!(&reply[4..], b"E=709 R=0 V=2", "the same for each");
         }
     }
     seen.note(format!("fault {fault}"));
+    seen.note(format!(
+        "count {}, accepted {}",
+        packets::level(kept.failures, limit),
+        fault == 0
+    ));
     if wrong.iter().filter(|holds| **holds).count() > 1 {
         seen.note(format!("fault {fault} of several"));
     }
@@ -133,5 +145,10 @@ fn faults_agree() {
     }
     for fault in 1..=5 {
         seen.at_least(500, &format!("fault {fault} of several"));
+    }
+    for level in packets::LEVELS {
+        for accepted in [false, true] {
+            seen.at_least(300, &format!("count {level}, accepted {accepted}"));
+        }
     }
 }

@@ -43,6 +43,8 @@ fn find(random: &mut Random, file: &[u8], name: &[u8], times: Times, seen: &mut 
             let expected = layout::record(Some(layout::account(&account)));
             assert_eq!(record, expected, "the record");
             let account = our_account(&account);
+            assert_eq!(account.failures, 0, "no count in a file");
+            assert_eq!(sys::record_failures(&record), 0);
             let expected = mschap::Found {
                 account,
                 offset: at,
@@ -85,7 +87,8 @@ fn find(random: &mut Random, file: &[u8], name: &[u8], times: Times, seen: &mut 
     }
 }
 
-/// One write in both, of a record with any flags: of it nothing is written but its hashes.
+/// One write in both, of a record with any flags and any count: of it nothing is written but its
+/// hashes.
 fn write(random: &mut Random, file: &mut Vec<u8>, name: &[u8], now: u32, seen: &mut Seen) {
     let account = Account {
         nt: random.chance(70).then(|| random.array()),
@@ -94,6 +97,7 @@ fn write(random: &mut Random, file: &mut Vec<u8>, name: &[u8], now: u32, seen: &
         hours: random.chance(50),
         no_dialin: random.chance(50),
         expired: random.chance(50),
+        failures: random.octet(),
     };
     let before = file.clone();
     let mut theirs = file.clone();

@@ -4,6 +4,7 @@
 
 use crate::both::{terms_number, their_conversation, Opening, Passed};
 use crate::layout;
+use crate::packets;
 use crate::random::Random;
 use crate::run::{run, Seen};
 use mschap::{sys, Challenge, Conversation, Terms};
@@ -74,6 +75,10 @@ fn drawn(random: &mut Random) -> Opening {
         id: random.octet(),
         challenge,
         terms: Terms {
+            limit: match random.below(40) {
+                0 => 0,
+                _ => packets::limit(random),
+            },
             retries,
             lm_allowed: random.pick(&[Some(false), Some(true), None]),
         },
@@ -268,8 +273,10 @@ fn opening(random: &mut Random, seen: &mut Seen, places: usize) {
     let mut theirs = passed.clone();
     let number = open(random, &opening, size, &mut passed, &mut theirs);
 
-    let retries = opening.terms.retries;
-    let answer = if retries.is_some_and(|retries| retries > 7) {
+    let Terms { limit, retries, .. } = opening.terms;
+    let answer = if limit == 0 {
+        18
+    } else if retries.is_some_and(|retries| retries > 7) {
         13
     } else if size < 17 {
         2
@@ -307,7 +314,7 @@ fn opening(random: &mut Random, seen: &mut Seen, places: usize) {
 
 /// What must have been met, whatever the number of places.
 fn expect(seen: &Seen) {
-    for number in [0, 13, 2, 24, 16, 17] {
+    for number in [0, 18, 13, 2, 24, 16, 17] {
         seen.expect(&[&format!("answer {number}")]);
     }
     for spoiled in ["bytes over", "bytes missing", "used: one over", "used: any"] {
@@ -358,9 +365,13 @@ fn lists_agree() {
         seen.expect(&[&format!("accepted, retries {retries:?}")]);
     }
     for spoiled in ["bytes over", "used: one over"] {
-        for number in [13, 2] {
+        for number in [18, 13, 2] {
             seen.expect(&[&format!("{spoiled}: {number}")]);
         }
+    }
+    // the limit is looked at before all else
+    for what in ["8 retries: 18", "a reply of 16: 18", "spent: first: 18"] {
+        seen.expect(&[what]);
     }
 }
 
@@ -392,6 +403,7 @@ fn boxes(random: &mut Random, seen: &mut Seen, places: usize) {
             [random.octet(), 2, 3, 4, 5, 6, octet, random.below(16) as u8]
         },
         terms: Terms {
+            limit: packets::limit(random),
             retries: Some(retries),
             lm_allowed: Some(true),
         },

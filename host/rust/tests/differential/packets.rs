@@ -36,8 +36,57 @@ pub fn password(random: &mut Random) -> Vec<u8> {
     random.octets(characters * 2)
 }
 
-pub fn account(random: &mut Random) -> Account {
+/// A limit, often a small one or one of the highest.
+pub fn limit(random: &mut Random) -> u8 {
+    match random.below(4) {
+        0 => random.between(1, 255) as u8,
+        1 => random.pick(&[1, 2, 253, 254, 255]),
+        _ => random.between(1, 8) as u8,
+    }
+}
+
+/// A count of failures, often one next to the limit.
+pub fn failures(random: &mut Random, limit: u8) -> u8 {
+    match random.below(12) {
+        0..=3 => 0,
+        4 => 1,
+        5 => limit.saturating_sub(2),
+        6 | 7 => limit.saturating_sub(1),
+        8 => limit,
+        9 => limit.saturating_add(1),
+        10 => random.pick(&[254, 255]),
+        _ => random.octet(),
+    }
+}
+
+/// The words for a count, by which a test tells that it met it.
+pub fn level(failures: u8, limit: u8) -> &'static str {
+    match failures {
+        255 => "255",
+        254 => "254",
+        0 => "0",
+        _ if failures > limit => "over the limit",
+        _ if failures == limit => "the limit",
+        _ if failures == limit - 1 => "one below the limit",
+        _ => "below the limit",
+    }
+}
+
+/// All of them.
+pub const LEVELS: [&str; 7] = [
+    "0",
+    "below the limit",
+    "one below the limit",
+    "the limit",
+    "over the limit",
+    "254",
+    "255",
+];
+
+/// An account, for a conversation with this limit.
+pub fn account(random: &mut Random, limit: u8) -> Account {
     Account {
+        failures: failures(random, limit),
         nt: random.chance(85).then(|| random.array()),
         lm: random.chance(50).then(|| random.array()),
         disabled: random.chance(8),

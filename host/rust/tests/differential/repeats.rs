@@ -138,7 +138,7 @@ pub fn some(
         let Some((packet, size, refused)) = drawn(random, kind, boxes, answered) else {
             continue;
         };
-        let another = packets::account(random);
+        let another = packets::account(random, boxes.theirs.limit);
         let record = random.pick(&[None, record, Some(&another)]);
         let passed = random.octets(size);
         let (mut ours, mut theirs) = (passed.clone(), passed.clone());
@@ -146,7 +146,7 @@ pub fn some(
         let outcome = boxes.step(&packet, record, &mut ours, &mut theirs);
         seen.note(format!("{}, {}", KINDS[kind], time(boxes)));
         assert_eq!(boxes.ours, before, "the conversation stays");
-        assert_eq!(outcome.changed, None, "no record");
+        assert_eq!(outcome.handed, None, "no record, and so no count");
         assert_eq!(outcome.fault, 0, "no fault, of a repeated 709 neither");
         assert_eq!(outcome.refusal, refused, "{}", KINDS[kind]);
         assert_eq!(outcome.repeated, refused == 0, "{}", KINDS[kind]);

@@ -92,14 +92,15 @@ fn read_among(
     call
 }
 
-/// Opens in both, with any choice about LM, or none.
+/// Opens in both, with any choice about LM, or none, and any limit.
 fn open(random: &mut Random) -> (Boxes, Peers) {
     let lm = random.chance(80).then(|| random.chance(70));
-    open_with(random, lm)
+    let limit = packets::limit(random);
+    open_with(random, lm, limit)
 }
 
 /// Opens in both, with the same bytes in both buffers, and a list with room for the one opening.
-pub fn open_with(random: &mut Random, lm: Option<bool>) -> (Boxes, Peers) {
+pub fn open_with(random: &mut Random, lm: Option<bool>, limit: u8) -> (Boxes, Peers) {
     let id = random.octet();
     let challenge = random.array();
     let retries = random.chance(80).then(|| random.below(8) as u8);
@@ -110,6 +111,7 @@ pub fn open_with(random: &mut Random, lm: Option<bool>) -> (Boxes, Peers) {
     let mut issued = Issued::new(places);
     let mut passed = Passed::empty(places);
     let terms = Terms {
+        limit,
         retries,
         lm_allowed: lm,
     };
@@ -156,7 +158,8 @@ struct User {
     found: bool,
 }
 
-fn user(random: &mut Random) -> User {
+/// A user of a conversation with this limit.
+fn user(random: &mut Random, limit: u8) -> User {
     let password = packets::password(random);
     let size = random.below(15);
     let lm_password = random.octets(size);
@@ -171,6 +174,10 @@ fn user(random: &mut Random) -> User {
         hours: random.chance(5),
         no_dialin: random.chance(5),
         expired: random.chance(45),
+        failures: match random.chance(50) {
+            true => packets::failures(random, limit),
+            false => 0,
+        },
     };
     User {
         password,
@@ -214,9 +221,11 @@ fn noise(random: &mut Random, next: &[u8]) -> Vec<u8> {
 }
 
 fn series(random: &mut Random, seen: &mut Seen) {
-    let user = user(random);
-    let record = user.found.then_some(&user.account);
     let (mut boxes, mut peers) = open(random);
+    let limit = boxes.theirs.limit;
+    let user = user(random, limit);
+    // the record that was handed out last is passed with the next packet
+    let mut record = user.found.then_some(user.account);
     let retries = boxes.theirs.retries;
     let name = {
         let size = random.pick(&[1, 4, 9, 20, 256]);
@@ -255,8 +264,9 @@ fn series(random: &mut Random, seen: &mut Seen) {
             let noise = noise(random, &packet);
             let mut our_reply = packets::buffer(random);
             let mut their_reply = our_reply.clone();
-            let outcome = boxes.step(&noise, record, &mut our_reply, &mut their_reply);
+            let outcome = boxes.step(&noise, record.as_ref(), &mut our_reply, &mut their_reply);
             seen.note(format!("noise answered {}", outcome.refusal));
+            record = outcome.handed.or(record);
             if outcome.refusal == 0 && !outcome.repeated {
                 judged.push(Answered {
                     packet: noise,
@@ -265,7 +275,7 @@ fn series(random: &mut Random, seen: &mut Seen) {
                 });
             }
         }
-        repeats::some(random, &mut boxes, record, &judged, seen);
+        repeats::some(random, &mut boxes, record.as_ref(), &judged, seen);
         if random.chance(20) {
             let more = random.between(1, 30);
             packet.extend(random.octets(more));
@@ -273,7 +283,8 @@ fn series(random: &mut Random, seen: &mut Seen) {
         let size = random.between(17, 30);
         let mut our_reply = random.octets(size);
         let mut their_reply = our_reply.clone();
-        let outcome = boxes.step(&packet, record, &mut our_reply, &mut their_reply);
+        let failures = record.map(|account| account.failures);
+        let outcome = boxes.step(&packet, record.as_ref(), &mut our_reply, &mut their_reply);
         if outcome.refusal != 0 || outcome.repeated {
             // Noise was judged in its place: the peer has no reply to read.
             seen.note("overtaken by noise");
@@ -283,7 +294,15 @@ fn series(random: &mut Random, seen: &mut Seen) {
         if outcome.fault != 0 {
             seen.note(format!("fault {}", outcome.fault));
         }
-        accepted = outcome.changed;
+        accepted = outcome.handed.filter(|_| changing);
+        record = outcome.handed.or(record);
+        if let (Some(failures), false) = (failures, changing) {
+            seen.note(format!("count {}", packets::level(failures, limit)));
+            assert!(
+                failures < limit || outcome.reason == 691,
+                "a locked account"
+            );
+        }
         judged.push(Answered {
             packet: packet.clone(),
             reply: our_reply[..outcome.written].to_vec(),
@@ -294,9 +313,9 @@ fn series(random: &mut Random, seen: &mut Seen) {
             let size = random.between(17, 30);
             our_reply = random.octets(size);
             their_reply = our_reply.clone();
-            let again = boxes.step(&packet, record, &mut our_reply, &mut their_reply);
+            let again = boxes.step(&packet, record.as_ref(), &mut our_reply, &mut their_reply);
             assert!(again.repeated && again.written == outcome.written);
-            assert_eq!(again.changed, None);
+            assert_eq!(again.handed, None);
             seen.note("missed, and sent again");
         }
         let (ours, theirs) = (
@@ -312,7 +331,7 @@ fn series(random: &mut Random, seen: &mut Seen) {
             _ => break,
         }
     }
-    repeats::some(random, &mut boxes, record, &judged, seen);
+    repeats::some(random, &mut boxes, record.as_ref(), &judged, seen);
     let judged = judged.len();
     assert!(
         judged <= usize::from(retries) + 2,
@@ -327,7 +346,8 @@ fn series(random: &mut Random, seen: &mut Seen) {
     }
 }
 
-/// The record that was handed out lets the new password in at the first Response.
+/// The record that was handed out lets the new password in at the first Response, whatever the limit
+/// is: its count is 0.
 fn later(random: &mut Random, account: &Account, password: &[u8]) {
     let (mut boxes, mut peers) = open(random);
     let packet = response(&mut peers, password, b"DOM\\User", random);
@@ -335,6 +355,7 @@ fn later(random: &mut Random, account: &Account, password: &[u8]) {
     let mut their_reply = our_reply.clone();
     let outcome = boxes.step(&packet, Some(account), &mut our_reply, &mut their_reply);
     assert_eq!((outcome.refusal, outcome.reason), (0, 0));
+    assert_eq!(outcome.handed.as_ref(), Some(account), "no failure");
     let written = outcome.written;
     let call = read(&mut peers, &our_reply[..written], &their_reply[..written]);
     assert_eq!(call, None);
@@ -358,10 +379,13 @@ fn series_agree() {
     seen.at_least(10_000, "missed, and sent again");
     seen.expect(&["stray read", "stray refused 3", "stray refused 5"]);
     seen.expect(&["stray refused 11", "stray refused behind the reply"]);
+    for level in packets::LEVELS {
+        seen.at_least(5_000, &format!("count {level}"));
+    }
 }
 
-/// Openings over one list, with retries over the limit, buffers that are too small, challenges that
-/// were issued before and too few places. Now and then the list is stored and restored.
+/// Openings over one list, with no limit, retries over 7, buffers that are too small, challenges
+/// that were issued before and too few places. Now and then the list is stored and restored.
 #[test]
 fn openings_agree() {
     let seen = run("openings", 100_000, |random, seen| {
@@ -386,7 +410,7 @@ fn openings_agree() {
             }
         }
     });
-    for refusal in [0, 2, 13, 16, 17] {
+    for refusal in [0, 2, 13, 16, 17, 18] {
         seen.expect(&[&format!("opening {refusal}")]);
     }
     seen.expect(&["restored"]);
@@ -409,7 +433,12 @@ fn opening(
     let lm = random.pick(&[None, Some(false), Some(true)]);
     let mut ours = packets::buffer(random);
     let mut theirs = ours.clone();
+    let limit = match random.below(10) {
+        0 => 0,
+        _ => packets::limit(random),
+    };
     let terms = Terms {
+        limit,
         retries,
         lm_allowed: lm,
     };
@@ -426,8 +455,10 @@ fn opening(
         Ok((conversation, written)) => {
             assert_eq!((0, written), (opening.refusal, opening.written));
             assert_eq!(their_conversation(&conversation), opening.conversation);
+            assert_eq!(opening.conversation.limit, limit);
         }
         Err(refusal) => assert_eq!(refusal, opening.refusal),
     }
+    assert_eq!(opening.refusal == 18, limit == 0, "checked first");
     seen.note(format!("opening {}", opening.refusal));
 }

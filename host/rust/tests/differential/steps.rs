@@ -1,6 +1,6 @@
 //! Single steps of drawn conversations with right, wrong, damaged and random packets.
 
-use crate::both::{account_bytes, our_conversation, their_conversation, Boxes};
+use crate::both::{account_bytes, our_conversation, their_conversation, Boxes, Outcome};
 use crate::layout;
 use crate::packets;
 use crate::random::Random;
@@ -57,12 +57,14 @@ fn last(random: &mut Random, id: u8, packet: &[u8]) -> Option<Last> {
 }
 
 fn step(random: &mut Random, seen: &mut Seen) {
-    let account = packets::account(random);
+    let limit = packets::limit(random);
+    let account = packets::account(random, limit);
     let mut conversation = Conversation {
         id: random.octet(),
         challenge: random.array(),
         retries: random.below(8) as u8,
         lm: random.chance(60),
+        limit,
         phase: Phase::Response,
         last: None,
     };
@@ -103,12 +105,14 @@ fn step(random: &mut Random, seen: &mut Seen) {
         let ended = conversation.phase == Phase::Ended;
         seen.note(format!("repeated, ended {ended}"));
     }
+    let awaits_change = matches!(conversation.phase, Phase::Change(_));
     seen.note(match (outcome.refusal, outcome.reason) {
         (0, reason) if outcome.repeated => format!("repeated {reason}"),
-        (0, 0) if outcome.changed.is_some() => "judged: changed".to_string(),
+        (0, 0) if awaits_change => "judged: changed".to_string(),
         (0, reason) => format!("judged {reason}"),
         (refusal, _) => format!("refused {refusal}"),
     });
+    handed(&conversation, record, &outcome, seen);
 
     if outcome.fault != 0 {
         seen.note(format!("fault {}", outcome.fault));
@@ -134,12 +138,13 @@ fn step(random: &mut Random, seen: &mut Seen) {
                 repeated: outcome.repeated,
                 reason: outcome.reason,
                 fault: outcome.fault,
-                updated: outcome.changed,
+                updated: outcome.handed,
             };
             assert_eq!(layout::to_answer(&answer), Some(expected));
             assert_eq!(sys::answer_reason(&answer), outcome.reason.into());
             assert_eq!(sys::answer_repeated(&answer), outcome.repeated.into());
             assert_eq!(sys::answer_fault(&answer), outcome.fault.into());
+            given(random, &answer, outcome.handed, awaits_change, raw);
             if outcome.repeated {
                 assert_eq!(&bytes, before.as_bytes(), "a repeat changes nothing");
             }
@@ -148,6 +153,82 @@ fn step(random: &mut Random, seen: &mut Seen) {
             assert_eq!(answer, garbage, "a refusal hands out nothing");
         }
     }
+}
+
+/// The record that an answer has: after a Response the one that was passed, with the bytes beside a
+/// flag that is not set too, but for its count; after a change the new one.
+fn given(
+    random: &mut Random,
+    answer: &[u8],
+    handed: Option<Account>,
+    changed: bool,
+    mut passed: [u8; sys::RECORD_SIZE],
+) {
+    let garbage: [u8; sys::RECORD_SIZE] = random.array();
+    let mut record = garbage;
+    let number = sys::answer_record(answer, &mut record);
+    let Some(account) = handed else {
+        assert_eq!((number, record), (102, garbage), "no record");
+        return;
+    };
+    if changed {
+        passed = layout::record(Some(layout::account(&account)));
+    }
+    passed[layout::FAILURES_AT] = account.failures;
+    assert_eq!((number, record), (sys::OK, passed), "the record");
+    assert_eq!(sys::record_failures(&record), account.failures.into());
+    let failures = random.octet();
+    assert_eq!(sys::set_failures(&mut record, failures.into()), sys::OK);
+    passed[layout::FAILURES_AT] = failures;
+    assert_eq!(record, passed, "another count, and nothing else");
+}
+
+/// What is handed out, by the rule and not by either implementation: after a judged Response the
+/// record that was passed, with another count alone.
+fn handed(
+    conversation: &Conversation,
+    record: Option<&Account>,
+    outcome: &Outcome,
+    seen: &mut Seen,
+) {
+    let Conversation { limit, phase, .. } = *conversation;
+    if !outcome.is_judged() {
+        assert_eq!(outcome.handed, None, "no record unless it is judged");
+        return;
+    }
+    if let Phase::Change(_) = phase {
+        let failures = outcome.handed.map(|account| account.failures);
+        assert_eq!(failures, (outcome.reason == 0).then_some(0));
+        return;
+    }
+    let Some(passed) = record else {
+        assert_eq!((outcome.reason, outcome.handed), (691, None));
+        return;
+    };
+    let handed = outcome.handed.expect("a record for each judged Response");
+    let counted = Account {
+        failures: handed.failures,
+        ..*passed
+    };
+    assert_eq!(handed, counted, "its count alone");
+    let locked = passed.failures >= limit;
+    let moved = match (handed.failures, passed.failures) {
+        (0, before) if !locked && (before > 0 || outcome.reason != 691) => "set to 0",
+        (255, 255) => "at 255",
+        (after, before) if after == before => "left",
+        (after, before) => {
+            assert_eq!(after, before + 1, "one more");
+            "one more"
+        }
+    };
+    match (moved, locked) {
+        ("set to 0", _) => assert_ne!(outcome.reason, 691),
+        ("left", _) => assert!(locked, "a right one at a locked account"),
+        _ => assert_eq!(outcome.reason, 691),
+    }
+    assert!(!locked || outcome.reason == 691, "a locked account");
+    let level = packets::level(passed.failures, limit);
+    seen.note(format!("count {level}, locked {locked}: {moved}"));
 }
 
 #[test]
@@ -166,5 +247,19 @@ fn steps_agree() {
     }
     for ended in [false, true] {
         seen.at_least(1_000, &format!("repeated, ended {ended}"));
+    }
+    for (level, locked, all) in [
+        ("0", false, &["set to 0", "one more"][..]),
+        ("below the limit", false, &["set to 0", "one more"]),
+        ("one below the limit", false, &["set to 0", "one more"]),
+        ("the limit", true, &["left", "one more"]),
+        ("over the limit", true, &["left", "one more"]),
+        ("254", false, &["set to 0", "one more"]),
+        ("254", true, &["left", "one more"]),
+        ("255", true, &["at 255"]),
+    ] {
+        for moved in all {
+            seen.at_least(100, &format!("count {level}, locked {locked}: {moved}"));
+        }
     }
 }
