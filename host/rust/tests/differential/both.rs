@@ -251,6 +251,14 @@ impl Outcome {
 }
 
 impl Boxes {
+    /// The same conversation once more.
+    pub fn copy(&self) -> Boxes {
+        Boxes {
+            ours: self.ours,
+            theirs: self.theirs,
+        }
+    }
+
     /// One step in both, each with its own buffer of the same bytes. Answer, next conversation,
     /// handed-out record and the whole buffers must agree.
     pub fn step(

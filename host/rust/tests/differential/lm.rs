@@ -109,10 +109,7 @@ fn conversation(random: &mut Random, seen: &mut Seen) {
         (false, _) => 691,
     };
     // where it is not valid, the answer is that of an unknown account, octet for octet
-    let mut unknown = Boxes {
-        ours: boxes.ours,
-        theirs: boxes.theirs,
-    };
+    let mut unknown = boxes.copy();
     let (of_nobody, their_octets, none) = reply(&mut unknown, &packet, None);
     let (answer, octets, handed) = reply(&mut boxes, &packet, Some(&account));
     assert_eq!(answer, expected, "{said}, flag {flag}, {which}, {right:?}");

@@ -9,6 +9,7 @@ mod functions;
 mod layout;
 mod lists;
 mod lm;
+mod lockout;
 mod packets;
 mod random;
 mod readers;

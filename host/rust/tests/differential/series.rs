@@ -13,7 +13,7 @@ use reference::peer::Verdict;
 use reference::{hashes, packet};
 
 /// The Response of both peers.
-fn response(peers: &mut Peers, password: &[u8], name: &[u8], random: &mut Random) -> Vec<u8> {
+pub fn response(peers: &mut Peers, password: &[u8], name: &[u8], random: &mut Random) -> Vec<u8> {
     let least = 54 + name.len();
     if random.chance(20) {
         // with too little room nothing is sent
@@ -28,7 +28,7 @@ fn response(peers: &mut Peers, password: &[u8], name: &[u8], random: &mut Random
 }
 
 /// The change of both peers.
-fn change(peers: &mut Peers, old: &[u8], new: &[u8], random: &mut Random) -> Vec<u8> {
+pub fn change(peers: &mut Peers, old: &[u8], new: &[u8], random: &mut Random) -> Vec<u8> {
     let filler: [u8; sys::FILLER_SIZE] = random.array();
     let mut out = vec![0; sys::CHANGE_PACKET];
     let written = peers.write_change(old, new, &filler, &mut out);
@@ -38,7 +38,7 @@ fn change(peers: &mut Peers, old: &[u8], new: &[u8], random: &mut Random) -> Vec
 
 /// Each peer reads what the other implementation's box wrote. Gives what it calls for; none after
 /// Success.
-fn read(peers: &mut Peers, our_reply: &[u8], their_reply: &[u8]) -> Option<Call> {
+pub fn read(peers: &mut Peers, our_reply: &[u8], their_reply: &[u8]) -> Option<Call> {
     match peers.read_reply(their_reply, our_reply) {
         Ok(Verdict::Failure(fields)) => Some(fields.call()),
         verdict => {
@@ -189,14 +189,19 @@ fn user(random: &mut Random, limit: u8) -> User {
 
 /// A Response by LM, which neither peer writes: by hand, from the hashes of both, and sent in place
 /// of one that they wrote.
-fn lm_response(peers: &mut Peers, password: &[u8], name: &[u8], random: &mut Random) -> Vec<u8> {
+pub fn lm_response(
+    peers: &mut Peers,
+    password: &[u8],
+    name: &[u8],
+    flag: u8,
+    random: &mut Random,
+) -> Vec<u8> {
     let hash = hashes::lm_hash(password).expect("a password");
     let challenge = peers.turn().challenge;
     response(peers, b"", name, random);
     let lm = hashes::challenge_response(&hash, &challenge);
     let ours = LmHash::of(password).and_then(|h| mschap::challenge_response(&h.0, &challenge));
     assert_eq!(ours, Ok(lm));
-    let flag = random.chance(30).into();
     packet::response(peers.last(), &lm, &random.array(), flag, name)
 }
 
@@ -252,7 +257,8 @@ fn series(random: &mut Random, seen: &mut Seen) {
             if random.chance(wrong) {
                 password = random.octets(9);
             }
-            lm_response(&mut peers, &password, &name, random)
+            let flag = random.chance(30).into();
+            lm_response(&mut peers, &password, &name, flag, random)
         } else {
             let mut password = user.password.clone();
             if random.chance(wrong) {
