@@ -455,8 +455,8 @@ fn the_limit_is_the_conversations() {
     assert_eq!(answer.reason, Reason::Success);
 }
 
-/// What `mschap.h` warns of: two steps that are passed the same copy count one failure; and one whose
-/// record is not kept counts none.
+/// What `mschap.h` warns of: two steps that are passed the same copy count one failure. One after
+/// the other, with the record that was handed out last, they count two.
 #[test]
 fn two_steps_with_one_copy() {
     let account = counted(0);

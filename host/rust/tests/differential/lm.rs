@@ -80,8 +80,8 @@ fn conversation(random: &mut Random, seen: &mut Seen) {
         failures: packets::failures(random, limit),
         ..Account::default()
     };
-    // invalid tries, as long as a retry is left: what the opening said is still in force after them,
-    // and each of them counts, though it be by LM where LM is off
+    // invalid tries, as long as a retry is left: what the opening said is still in force after
+    // them, and each of them counts, though it be by LM where LM is off
     for _ in 0..random.below(usize::from(boxes.theirs.retries) + 1) {
         let packet = response(random, &boxes.theirs, [nt, lm], [false; 2], flag);
         let (reason, _, handed) = reply(&mut boxes, &packet, Some(&account));

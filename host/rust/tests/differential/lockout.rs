@@ -339,8 +339,8 @@ fn call(random: &mut Random, limit: u8, owner: &mut Owner, tally: &mut Tally, se
     seen.note("hung up");
 }
 
-/// A run of conversations with one account and one limit. Now and then its keeper unlocks it, or its
-/// password grows old.
+/// A run of conversations with one account and one limit. Now and then its keeper unlocks it, or
+/// its password grows old.
 fn conversations(random: &mut Random, seen: &mut Seen) {
     let limit = random.pick(&[1, 1, 2, 2, 3, 3, 4, 5, 6, 8, 10, 12, 20, 254, 255]);
     let mut owner = Owner::new(random);

@@ -352,8 +352,8 @@ fn series(random: &mut Random, seen: &mut Seen) {
     }
 }
 
-/// The record that was handed out lets the new password in at the first Response, whatever the limit
-/// is: its count is 0.
+/// The record that was handed out lets the new password in at the first Response, whatever the
+/// limit is: its count is 0.
 fn later(random: &mut Random, account: &Account, password: &[u8]) {
     let (mut boxes, mut peers) = open(random);
     let packet = response(&mut peers, password, b"DOM\\User", random);
