@@ -678,8 +678,8 @@ fn the_count_is_kept_beside_the_file() {
     assert_eq!(reason, Reason::Success);
 }
 
-/// Why the account of a judged Response is not for the file: its hashes are written, which are there
-/// already, and the time, so that its password does not expire; and its count is not.
+/// Why the account of a judged Response is not for the file: its hashes are written, which stand
+/// there already, and the time, so that its password does not expire; and its count is not.
 #[test]
 fn a_counted_account_in_the_file() {
     let mut file = L1.as_bytes().to_vec();
