@@ -217,7 +217,7 @@ fn handed(
         (255, 255) => "at 255",
         (after, before) if after == before => "left",
         (after, before) => {
-            assert_eq!(after, before + 1, "one more");
+            assert_eq!(Some(after), before.checked_add(1), "one more");
             "one more"
         }
     };
