@@ -1,12 +1,16 @@
 #!/bin/sh
-# The archive of `mschap` as others link it: it has no writable data, the header's quick start and
-# the benchmark compile, and every function of the header answers bad lengths and null pointers as
-# it should, under valgrind where that is installed. Run in the repository, once `rt staticlib
-# mschap` has written the archive.
+# The archive of `mschap` as others link it: it has no writable data, the header's quick start does
+# what it should, the benchmark compiles, and every function of the header answers bad lengths and
+# null pointers as it should, under valgrind where that is installed. Run in the repository, once
+# `rt staticlib mschap` has written the archive.
 set -eu
 archive=target/staticlib/libmschap.a
 header=host/include/mschap.h
 lengths=target/host-bad-lengths
+run=
+if command -v valgrind > /dev/null; then
+    run='valgrind --quiet --error-exitcode=1'
+fi
 
 if nm "$archive" | grep -E ' [BbCDdGgSs] '; then
     echo 'host: the archive has writable data'
@@ -46,7 +50,9 @@ END
 [ "$(grep -c mschap_ "$quick")" -ge 15 ] || { echo 'host: no quick start in the header'; exit 1; }
 ${CC:-cc} -std=c99 -Wall -Wextra -Werror -pedantic -D_DEFAULT_SOURCE -Wno-unused-result \
     -I host/include -c "$quick" -o "$quick.o"
-echo 'host: the quick start compiles'
+${CC:-cc} -std=c99 -Wall -Wextra -Werror -pedantic -I host/include host/quick_start.c "$quick.o" \
+    "$archive" -o target/host-quick-start
+$run target/host-quick-start
 
 # make test does not run the benchmark, but it follows the header.
 ${CC:-cc} -std=c11 -O2 -Wall -Wextra -Werror -pedantic -I host/include host/bench.c "$archive" \
@@ -61,8 +67,4 @@ for name in $(sed -nE 's/^(uint32_t|size_t) (mschap_[a-z0-9_]+)\(.*/\2/p' "$head
 done
 ${CC:-cc} -Wall -Wextra -Werror -std=c99 -pedantic -I host/include host/bad_lengths.c "$archive" \
     -o "$lengths"
-run=
-if command -v valgrind > /dev/null; then
-    run='valgrind --quiet --error-exitcode=1'
-fi
 $run "$lengths"

@@ -38,7 +38,7 @@
  *                     || mschap_write_account(file, file_size, name, name_size, &after,
  *                                             sizeof after, time(NULL), &offset) != MSCHAP_OK))
  *                 hang_up();                              // and note why
- *             record = after;     // where a change is awaited now, with the count 0, as again has
+ *             record = after;             // before a change its count is 0, as that of again
  *             keep_count(name, name_size, mschap_record_failures(&after, sizeof after));
  *         }
  *         store_and_unlock(file, file_size);              // and the counts: before the reply
