@@ -214,10 +214,11 @@
  *   and which challenges were issued is in the list that the caller passes. So calls on different
  *   buffers may be made at the same time, and a conversation or a peer may be stored and continued
  *   later. Do not continue a conversation from two copies: each would take an answer to the same
- *   challenge. Store the conversation that a step leaves, and the record that it gives, before its
- *   reply is sent: after a restart, a conversation that was stored before the step would judge the
- *   packet again, and not repeat the reply. Secrets that pass through are left on the stack; the
- *   library does not wipe them.
+ *   challenge. Before the reply of a step is sent, store the record that it gives, and then the
+ *   conversation that it leaves. After a crash between the two the packet is judged again; in the
+ *   other order its reply would be repeated, and a failure or a new password be lost, since a repeat
+ *   gives no record. Secrets that pass through are left on the stack; the library does not wipe
+ *   them.
  *
  * STACK
  *   Provide MSCHAP_STACK_SIZE bytes of stack for any call, whatever its input is. That is at least
@@ -444,10 +445,11 @@ uint32_t mschap_lm_hash(const uint8_t *password, size_t password_size,
 
 /* ---- records: what the lookup of a name found */
 
-/* Makes a record of flags (MSCHAP_FOUND and so on, joined by |) and hashes, with the count of
-   failures 0. A hash is passed if and only if its flag says so; else pass NULL and 0. A name that
-   is not known has the record of no flags:
-       mschap_make_record(0, NULL, 0, NULL, 0, &record, sizeof record)
+/* Makes a record of flags (MSCHAP_FOUND and so on, joined by |) and hashes. A hash is passed if
+   and only if its flag says so; else pass NULL and 0. A name that is not known has the record of
+   no flags: mschap_make_record(0, NULL, 0, NULL, 0, &record, sizeof record).
+   Its count of failures is 0. So if a record is made again of what was read of it, with another
+   flag for instance, set its count again too, unless the account is to be unlocked.
    Returns MSCHAP_OK; MSCHAP_BAD_ARGUMENT for another bit in flags, a hash that is not
    MSCHAP_HASH_SIZE bytes, one without its flag or a flag without its hash, or unless record is
    MSCHAP_RECORD_SIZE bytes.
