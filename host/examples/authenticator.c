@@ -1,9 +1,9 @@
 /*
  * An authenticator: it talks to one peer (peer.c) over standard input and output, and says on
  * standard error what happens. What has to outlast it is in files of a folder: `issued`, the list
- * of issued challenges; `smbpasswd`, the accounts in the layout of Samba's smbpasswd(5); and
- * `failures`, which has no place there: how many Responses in a row have failed for an account. So
- * a guesser who hangs up and calls back is stopped, however often this program is started.
+ * of issued challenges; `smbpasswd`, the accounts in the layout of Samba's smbpasswd(5); and, as
+ * that has no place for it, `failures`: how many Responses in a row have failed for an account. So
+ * a guesser who hangs up and calls back is stopped, though this program is started for each call.
  *
  *     authenticator FOLDER NAME PASSWORD    gives an account a password of long ago, which must be
  *                                           changed (unless its line has the flag X), and unlocks
@@ -257,7 +257,7 @@ static int keep(uint32_t awaited, const mschap_answer *answer, mschap_record *re
     return failures >= LIMIT;
 }
 
-/* Only the keeper of the accounts does it: no time passes that unlocks one. */
+/* For the keeper of the accounts: nothing else unlocks one but a new password. */
 static void unlock(const char *owner)
 {
     int lock = take_lock();
@@ -276,8 +276,8 @@ static void append_line(const char *owner)
 {
     static const char format[] = "%s%s:%lu:%s:%s:[U          ]:LCT-00000000:\n";
     static const char none[] = "XXXXXXXXXXXXXXXXXXXXXXXXXXXXXXXX";
-    const int open = accounts.size > 0 && accounts.at[accounts.size - 1] != '\n';
-    const char *end = open ? "\n" : "";
+    const int is_ended = accounts.size == 0 || accounts.at[accounts.size - 1] == '\n';
+    const char *end = is_ended ? "" : "\n";
     uint64_t lines, bad, disabled, expired, no_nt;
     unsigned long uid;
     int size;

@@ -216,7 +216,7 @@
  *   later. Do not continue a conversation from two copies: each would take an answer to the same
  *   challenge. Before the reply of a step is sent, store the record that it gives, and then the
  *   conversation that it leaves. After a crash between the two the packet is judged again; in the
- *   other order its reply would be repeated, and a failure or a new password be lost, since a repeat
+ *   other order its reply would be repeated, and a failure or a new password lost, since a repeat
  *   gives no record. Secrets that pass through are left on the stack; the library does not wipe
  *   them.
  *
