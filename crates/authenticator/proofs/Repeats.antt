@@ -34,7 +34,7 @@ pub record Keeps (last : LastAnswer) (p reply : List ℕ) : Type 0 where
   pub id : last .id ≡ octet 1 p
   pub drawn : replyPacket (last .id) (last .reply) ≡ reply
 
-all-three : (s t u : Bool) → (s && (t && u)) ≡ true → (s ≡ true) × (t ≡ true) × (u ≡ true)
+pub all-three : (s t u : Bool) → (s && (t && u)) ≡ true → (s ≡ true) × (t ≡ true) × (u ≡ true)
 all-three true true true e = (e, e, e)
 all-three true true false e = absurd (false≢true e)
 all-three true false u e = absurd (false≢true e)

@@ -8,13 +8,15 @@ use mathlib.Core.Option.{Option, none, some}
 use mathlib.Core.Path.{_≡_, refl, sym, ap, ap₂, _∙_}
 use Prim.Native.Nat.{ℕ}
 use native.Mathlib.Omega.{arith}
-use borrow.Author.Tests.{ne-eqb}
+use borrow.Author.Tests.{eq-eqb, ne-eqb}
 use lib.Dec.{eqb}
 use lib.ListN.{length}
 use Rattle.packets.specs.Frame.{octet, writtenOver}
 use Rattle.packets.specs.Codes.{responseCode}
 use Rattle.packets.specs.Response.{readResponse}
-use Rattle.verify.specs.Response.{countedLookup}
+use Rattle.accounts.specs.Account.{found, lookupOf}
+use Rattle.accounts.specs.declared.Lookup.{Lookup}
+use Rattle.verify.specs.Response.{counted, countedLookup}
 use Rattle.authenticator.specs.Conversation.{noAnswer, awaitedCode}
 use Rattle.authenticator.specs.Admit.{isRepeat, refusalFor, stepRefusal}
 use Rattle.authenticator.specs.Judge.{judgeResponse, judgeIn, judge}
@@ -35,6 +37,7 @@ use Rattle.authenticator.specs.declared.LastAnswer.{LastAnswer}
 use Rattle.authenticator.specs.declared.Phase.{Phase}
 use Rattle.authenticator.specs.declared.Phase.the-variants.{Response, Change, Ended}
 use Rattle.authenticator.proofs.Admitted.{Passes, passes, repeat-seen}
+use Rattle.authenticator.proofs.Terms.{step-keeps-terms}
 use Rattle.authenticator.proofs.Steps as steps
 use Rattle.authenticator.proofs.Steps.{
   Case,
@@ -226,6 +229,27 @@ module _ (p : BoxState) (s : StepInput) (kept : Tracks p) where
           ∙ ap (λ (ph : Phase). judgeIn ph c (s .packet) (s .account) .updated)
           (response-phase (c .phase) (sym (h .code) ∙ code))
 
+  -- of a record that was found, and of none
+  hands-out-found : isJudged stepOn p s ≡ true → octet 0 (s .packet) ≡ responseCode
+      → (s .account .found ≡ true → stepOn c s .answer .updated
+      ≡ found (counted (c .terms) (c .challenge) (s .account .account)
+      (readResponse (s .packet))))
+      × (s .account .found ≡ false → stepOn c s .answer .updated .found ≡ false)
+  hands-out-found y code = (
+    λ f. hands-out y code
+        ∙ ap (λ (t : Bool). lookupOf t (counted (c .terms) (c .challenge) (s .account .account)
+        (readResponse (s .packet)))) f,
+    λ f. ap (λ (l : Lookup). l .found) (hands-out y code) ∙ f,
+  )
+
+  -- what the rules neither refuse nor take for a repeat
+  takes-all : ruledRefusal p s ≡ 0 → isRepeatAt p s ≡ false → isJudged stepOn p s ≡ true
+  takes-all z r =
+      judged-exactly
+      ∙ ap₂ (λ (t u : Bool). t && not u)
+      (eq-eqb (stepRefusal c (s .packet) (s .buffer)) 0 (sym ruled-refusal ∙ z))
+      (sym repeat-at ∙ r)
+
   pub step-claim : StepClaim stepOn p s
   step-claim =
       record {
@@ -233,7 +257,9 @@ module _ (p : BoxState) (s : StepInput) (kept : Tracks p) where
         sameReply = same-reply;
         saysRefused = drew-exactly c s;
         saysRepeated = repeats-step c (s .packet) (s .account) (s .buffer) ∙ sym repeat-at;
-        handsOut = hands-out;
+        takes = takes-all;
+        handsOut = hands-out-found;
+        keepsTerms = step-keeps-terms c s;
       }
     where
       which : Seen p s → judged stepOn p s ≡ 0

@@ -56,7 +56,7 @@ spends o = challengesFrom (suc (retriesOf (o .retries))) (o .challenge)
 abbrev pub tooManyRetries : Opening → Bool
 tooManyRetries o = ltb mostRetries (retriesOf (o .retries))
 
--- "18, limit 0, checked first at opening": no limit is what silence means
+-- "18, limit 0, checked first at opening"
 abbrev pub noLimit : Opening → Bool
 noLimit o = eqb (o .limit) 0
 

@@ -14,9 +14,10 @@ use Rattle.packets.specs.Frame.{octet, badFrame, writtenOver}
 use Rattle.packets.specs.Codes.{responseCode}
 use Rattle.packets.specs.Reply.{badReplyBuffer}
 use Rattle.packets.specs.Response.{readResponse}
-use Rattle.verify.specs.Response.{countedLookup}
+use Rattle.verify.specs.Response.{counted}
 use Rattle.authenticator.specs.Admit.{carries, refusalFor}
 use Rattle.authenticator.specs.Step.{Outcome, step, refusalIn, isRepeated}
+use Rattle.accounts.specs.Account.{found}
 use Rattle.accounts.specs.declared.Lookup.{Lookup}
 use Rattle.authenticator.specs.declared.Conversation.{Conversation}
 
@@ -120,9 +121,11 @@ module _ (box : Box) where
   -- leaves the conversation too and hands out no record. So does a repeat: "the conversation stays
   -- as it was, and no record is handed out". A repeat "draws the same reply octets", whatever else
   -- is in it, and the octets of the buffer behind them stay. The box calls a step what it is:
-  -- refused exactly where no reply is drawn, and repeated exactly where it is a repeat. And "the box
-  -- hands out the record after every judged Response where there is one", as it was passed but for
-  -- its count.
+  -- refused exactly where no reply is drawn, and repeated exactly where it is a repeat. What the
+  -- rules neither refuse nor take for a repeat is judged: a refusal is "given exactly when" its rule
+  -- says. "The box hands out the record after every judged Response where there is one", as it was
+  -- passed but for its count, and that by the rule; where there was none it hands out none. And what
+  -- the opening fixed stays.
   pub record StepClaim (p : BoxState) (s : StepInput) : Type 0 where
     pub leaves : judged p s ≡ 0
         → (nextAfter (p .conversation) s ≡ p .conversation)
@@ -133,7 +136,11 @@ module _ (box : Box) where
     pub saysRefused : eqb (refusalAt (p .conversation) s) 0
         ≡ drewReply (box (p .conversation) s) (s .buffer)
     pub saysRepeated : isRepeated (box (p .conversation) s .answer .kind) ≡ isRepeatAt p s
+    pub takes : ruledRefusal p s ≡ 0 → isRepeatAt p s ≡ false → isJudged p s ≡ true
     pub handsOut : isJudged p s ≡ true → octet 0 (s .packet) ≡ responseCode
-        → box (p .conversation) s .answer .updated
-        ≡ countedLookup (p .conversation .terms) (p .conversation .challenge) (s .account)
-        (readResponse (s .packet))
+        → (s .account .found ≡ true → box (p .conversation) s .answer .updated
+        ≡ found (counted (p .conversation .terms) (p .conversation .challenge) (s .account .account)
+        (readResponse (s .packet))))
+        × (s .account .found ≡ false
+        → box (p .conversation) s .answer .updated .found ≡ false)
+    pub keepsTerms : nextAfter (p .conversation) s .terms ≡ p .conversation .terms

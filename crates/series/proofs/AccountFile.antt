@@ -4,18 +4,16 @@
 use mathlib.Core.Bool.{Bool, false}
 use mathlib.Core.List.{List, _++_}
 use mathlib.Core.Path.{_≡_, refl, sym, ap, ap₂, _∙_, subst}
-use Prim.Native.Nat.{ℕ, zero, suc, _≤_, _<_, _^_}
+use Prim.Native.Nat.{ℕ, zero, suc, _<_, _^_}
 use native.Mathlib.Omega.{arith}
-use lib.ListN.{length, getD, replicate}
+use lib.ListN.{getD, replicate}
 use Rattle.credentials.specs.Credentials.{ntHashOf}
 use Rattle.credentials.proofs.Laws.{length-nt, octets-nt}
-use Rattle.accounts.specs.Account.{noHash, hashOf, accountWith, blankAccount, found, changed, Rightful}
+use Rattle.accounts.specs.Account.{noHash, hashOf, accountWith, found, changed, withFailures, Rightful}
 use Rattle.accounts.specs.declared.Account.{Account}
 use Rattle.accounts.specs.declared.Lookup.{Lookup}
-use Rattle.authenticator.specs.Opening.{Opening, retriesOf, opened}
 use Rattle.authenticator.specs.Steps.{stepOn}
 use Rattle.authenticator.proofs.Judged.{changed-rightful}
-use Rattle.authenticator.proofs.Openings.{opened-first}
 use Rattle.smbpasswd.specs.Line.{letterD, letterX, field}
 use Rattle.smbpasswd.specs.Record.{hasFlag, isExpired, accountIn}
 use Rattle.smbpasswd.specs.File.{placeOf, lineAt, lookupAt, findIn}
@@ -24,16 +22,13 @@ use Rattle.smbpasswd.specs.declared.Found.{Found}
 use Rattle.smbpasswd.specs.declared.Place.the-variants.{Line}
 use Rattle.smbpasswd.proofs.ChangedLine.{IsHash}
 use Rattle.smbpasswd.proofs.ReadBack.{read-back, others-same}
-use Rattle.series.specs.Course.{collect}
 use Rattle.series.specs.Series.{invalid, right, passwordChange, Step, ours, other}
-use Rattle.series.specs.Series.{PacketKind, packetKinds, plan, SeriesState, start, exchange}
+use Rattle.series.specs.Series.{PacketKind, packetKinds, SeriesState, start, exchange}
 use Rattle.series.specs.Series.{next, judgedAt, Allowed, LetsIn}
 use Rattle.series.specs.Boxes.{ourBox}
 use Rattle.series.specs.Writers.{ourWriter}
 use Rattle.series.specs.AccountFile.{ourFileWriter, aged, again, KeptAt, KeptInFile}
 use Rattle.series.proofs.Invariant.{Invariant, whole}
-use Rattle.series.proofs.Faithful.{opened-faithful}
-use Rattle.series.proofs.Ready.{FitIn, fit-plan, opened-in-step}
 use Rattle.series.proofs.Demand3.{Ready, law, change-updated, lets-in, ready-first}
 
 -- ---- the record that is found again
@@ -46,10 +41,10 @@ pub record FromLine (a : Account) (l : List ℕ) : Type 0 where
   pub dialin : a .«dialin_denied» ≡ false
 
 from-line : (now maxAge : ℕ) (name file : List ℕ) (a : Account) (at : ℕ)
-    → findIn now maxAge name file .lookup ≡ found a → placeOf name file ≡ Line at → FromLine a (lineAt at file)
+    → findIn now maxAge name file .lookup ≡ found (withFailures 0 a) → placeOf name file ≡ Line at → FromLine a (lineAt at file)
 unfolding findIn accountIn
 from-line now maxAge name file a at e p =
-    let there : accountIn now maxAge (lineAt at file) ≡ a =
+    let there : accountIn now maxAge (lineAt at file) ≡ withFailures 0 a =
     ap (λ (x : Lookup). x .account) (sym (ap (lookupAt now maxAge file) p) ∙ e) in
     record {
       disabled = sym (ap (λ (x : Account). x .disabled) there);
@@ -88,7 +83,7 @@ module _ (name file : List ℕ) (a : Account) (new : List ℕ) (at changedAt lat
 
 -- ---- along a series
 
-module _ (name file : List ℕ) (now maxAge : ℕ) (a : Account) (e : findIn now maxAge name file .lookup ≡ found a) (g : Rightful a) (limit : ℕ) where
+module _ (name file : List ℕ) (now maxAge : ℕ) (a : Account) (e : findIn now maxAge name file .lookup ≡ found (withFailures 0 a)) (g : Rightful a) (limit : ℕ) where
   kept-at : (due : List PacketKind) (p : SeriesState) (m : Step) → Ready a limit (packetKinds m ++ due) p → Allowed stepOn ourWriter a p m
       → KeptAt stepOn ourWriter ourFileWriter name file p m
   kept-at due p (other s) r h = tt

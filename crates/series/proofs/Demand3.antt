@@ -1,6 +1,6 @@
 -- Demand 3: the rightful user always gets in.
 -- Assumes nothing.
-use mathlib.Core.Bool.{Bool, true, false, cond, _&&_}
+use mathlib.Core.Bool.{Bool, true, false, cond}
 use mathlib.Core.List.{List, [], _∷_, _++_}
 use mathlib.Core.Path.{_≡_, refl, sym, ap, ap₂, _∙_, subst}
 use Prim.Native.Nat.{ℕ, _+_, _≤_, _<_}
@@ -10,13 +10,12 @@ use Rattle.credentials.specs.Credentials.{ntHashOf}
 use Rattle.message.specs.Reasons.{authenticationFailure, passwordExpired}
 use Rattle.packets.specs.Response.{readResponse}
 use Rattle.packets.specs.declared.Response.{Response}
-use Rattle.verify.specs.Response.{counted, countedLookup}
+use Rattle.verify.specs.Response.{foundValid, counted, countedLookup}
 use Rattle.verify.specs.declared.Terms.{Terms}
-use Rattle.verify.proofs.Counting.{counted-invalid}
+use Rattle.verify.proofs.Counting.{judged-below, counted-invalid}
 use Rattle.packets.specs.Reply.{successPacket}
 use Rattle.authenticator.specs.Encode.{replyPacket}
 use Rattle.accounts.specs.Account.{blankAccount, found, changed, withFailures, Rightful}
-use Rattle.authenticator.specs.Judge.{validIn}
 use Rattle.authenticator.specs.Opening.{Opening, retriesOf, opened}
 use Rattle.authenticator.specs.Step.{Outcome, judgedAs, step}
 use Rattle.authenticator.specs.Steps.{StepInput, stepOn, BoxState, unanswered, nextAfter, judged}
@@ -117,11 +116,6 @@ use Rattle.series.proofs.Ready.{
   right-fit,
 }
 
--- no record, or one for which the try is invalid
-not-valid : (f v : Bool) → (f ≡ true → v ≡ false) → (f && v) ≡ false
-not-valid true v h = h refl
-not-valid false v h = refl
-
 -- ---- our peer's packets, within the limits
 
 module _ (p : SeriesState) (i : Faithful (p .box)) (h : InStep (p .box .conversation)
@@ -156,8 +150,8 @@ module _ (p : SeriesState) (i : Faithful (p .box)) (h : InStep (p .box .conversa
         countedLookup (p .box .conversation .terms) (p .box .conversation .challenge) passed
         (readResponse x)
 
-    invalid-exchanged : (passed .found && validIn (p .box .conversation) (passed .account)
-        (readResponse (reaching (p .account) wrote l .packet))) ≡ false
+    invalid-exchanged : foundValid (p .box .conversation .terms) (p .box .conversation .challenge)
+        passed (readResponse (reaching (p .account) wrote l .packet)) ≡ false
         → 0 < p .box .conversation .retries
         → Exchanged p wrote l (tryAgain (p .box .conversation)
         (countedIn (reaching (p .account) wrote l .packet)))
@@ -169,7 +163,7 @@ module _ (p : SeriesState) (i : Faithful (p .box)) (h : InStep (p .box .conversa
         (ap (λ (y : List ℕ). step c y passed (l .buffer)) try-left
         ∙ invalid-taken c turn h (i .fresh) ph password name (l .packetPadding)
         (l .buffer) (kept .not2) try-name passed
-        (ap (λ (y : List ℕ). passed .found && validIn c (passed .account) (readResponse y))
+        (ap (λ (y : List ℕ). foundValid (c .terms) (c .challenge) passed (readResponse y))
         (sym try-left) ∙ v) pos
         ∙ ap (λ (y : List ℕ). judgedAs c (tryAgain c (countedIn y)) (l .buffer)) (sym try-left))
 
@@ -296,15 +290,17 @@ stored-handed b o d e =
 -- after an invalid try it is as it was, or counts one more
 stored-invalid : (a : Account) (limit : ℕ) (due : List PacketKind) (b : Account) (q : Passed)
     (o : Outcome) (c : Conversation) (f : Response)
-    → Counts a limit (Invalid ∷ due) b
-    → (passedWith b q .found ≡ true → validIn c (passedWith b q .account) f ≡ false)
+    → c .terms .limit ≡ limit → Counts a limit (Invalid ∷ due) b
+    → foundValid (c .terms) (c .challenge) (passedWith b q) f ≡ false
     → o .answer .updated ≡ countedLookup (c .terms) (c .challenge) (passedWith b q) f
     → FitRecord a limit due (storedAfter b q o)
-stored-invalid a limit due b own o c f h v e =
+stored-invalid a limit due b own o c f lim h v e =
+    let below : b .failures < c .terms .limit = omega (arith, lim, h .below) in
     fit-counted a limit due b (storedAfter b own o) h
     (stored-handed b o (counted (c .terms) (c .challenge) b f) e
-    ∙ counted-invalid (c .terms) (c .challenge) b f (v refl))
-stored-invalid a limit due b (another l) o c f h v e = fit-another a limit due b h
+    ∙ counted-invalid (c .terms) (c .challenge) b f
+    (sym (judged-below (c .terms) (c .challenge) b f below) ∙ v))
+stored-invalid a limit due b (another l) o c f lim h v e = fit-another a limit due b h
 
 -- what the right password hands out
 right-handed : (x : Bool) (c : Conversation) (a : Account)
@@ -356,8 +352,7 @@ module _ (a : Account) (g : Rightful a) (limit : ℕ) where
     ),
   )
   law due p (ours (invalid password name) l) ((f, i, lim), t, n) h =
-      let x = invalid-exchanged p t i password name l (h .0) (f .0)
-      (not-valid (passedWith (p .account) (l .account) .found) _ (h .1)) (f .1) in (
+      let x = invalid-exchanged p t i password name l (h .0) (f .0) (h .1) (f .1) in (
         (
           subst (λ (n : ℕ). DrawsFailure (exchange stepOn ourWriter p (invalid password name) l) n
               authenticationFailure 1) (i .id) (x .draws),
@@ -373,8 +368,8 @@ module _ (a : Account) (g : Rightful a) (limit : ℕ) where
         )
             (stored-invalid a limit due (p .account) (l .account)
             (exchange stepOn ourWriter p (invalid password name) l .outcome) (p .box .conversation)
-            (readResponse (exchange stepOn ourWriter p (invalid password name) l .input .packet)) n
-            (h .1) (x .handed)),
+            (readResponse (exchange stepOn ourWriter p (invalid password name) l .input .packet))
+            lim n (h .1) (x .handed)),
       )
   law due p (ours (right password name) l) ((f, i, lim), t, n) h =
       let b = now p in

@@ -1,5 +1,6 @@
--- Runs of sample guesses, for each a new call: with a box that counts by a rule, where each guess is
--- turned away. They meet the premises of the claim about guessing, with our box too.
+-- Runs of sample guesses, for each a new call, where each guess is turned away: with a box that
+-- locks and counts in some way. They meet the premises of the claim about guessing, with our box
+-- too.
 -- Assumes nothing.
 use mathlib.Core.Bool.{Bool, true, false, cond, not, _&&_, false≢true}
 use mathlib.Core.List.{List, [], _∷_}
@@ -7,7 +8,7 @@ use mathlib.Core.Logic.{inl}
 use mathlib.Core.Path.{_≡_, refl, sym, ap, ap₂, _∙_, subst}
 use Prim.Native.Nat.{ℕ, _<_}
 use native.Mathlib.Omega.{arith}
-use borrow.Author.Tests.{eq-eqb}
+use borrow.Author.Tests.{eq-eqb, not-true}
 use lib.Dec.{leb}
 use lib.ListN.{length, replicate}
 use Rattle.message.specs.Reasons.{authenticationFailure, noReason}
@@ -21,7 +22,7 @@ use Rattle.authenticator.specs.Judge.{replyFor}
 use Rattle.authenticator.specs.Encode.{replyPacket}
 use Rattle.authenticator.specs.Opening.{opened}
 use Rattle.authenticator.specs.Step.{Outcome}
-use Rattle.authenticator.specs.Steps.{StepInput, stepOn, Box, replyOf, BoxState, unanswered}
+use Rattle.authenticator.specs.Steps.{StepInput, Box, replyOf, BoxState, unanswered}
 use Rattle.authenticator.specs.Steps.{isJudged}
 use Rattle.authenticator.specs.declared.Reply.the-variants.{Failure}
 use Rattle.authenticator.specs.declared.Retries.the-variants.{Count}
@@ -31,7 +32,7 @@ use Rattle.series.specs.Series.{own}
 use Rattle.series.specs.Boxes.{CountRule, ourBox}
 use Rattle.series.specs.LmOptIn.{IsAuthenticationFailure}
 use Rattle.series.specs.Guesses.{
-  Sent,
+  LinePacket,
   Event,
   opens,
   sends,
@@ -46,6 +47,7 @@ use Rattle.series.specs.Guesses.{
   OfLimit,
   IsTurnedAway,
   NotReset,
+  LockedOut,
 }
 use Rattle.series.proofs.Sample.{openingOf, opens-limited}
 use Rattle.series.proofs.SampleGuesses.{
@@ -55,7 +57,6 @@ use Rattle.series.proofs.SampleGuesses.{
   counting,
   first,
   guess,
-  counts,
   Guessed,
   by-ours,
 }
@@ -67,25 +68,25 @@ use Rattle.series.proofs.LmOptIn.{failure-either}
 abbrev call : ℕ → Event
 call limit = opens 0 (openingOf (Count 0) limit)
 
-abbrev pub sent : Bool → Sent
+abbrev pub sent : Bool → LinePacket
 sent v = record { line = 0; packet = packetSaying v; account = own; buffer = replicate 17 0 }
 
 abbrev pub calls : ℕ → List Bool → List Event
 calls limit [] = call limit ∷ []
 calls limit (v ∷ vs) = call limit ∷ sends (sent v) ∷ calls limit vs
 
-abbrev pub countAfter : CountRule → ℕ → ℕ → List Bool → ℕ
-countAfter rule limit n [] = n
-countAfter rule limit n (v ∷ vs) = countAfter rule limit (rule (leb limit n) v n) vs
+abbrev pub countAfter : CountRule → (ℕ → Bool) → ℕ → List Bool → ℕ
+countAfter rule lock n [] = n
+countAfter rule lock n (v ∷ vs) = countAfter rule lock (rule (lock n) v n) vs
 
 -- each guess is turned away: it is invalid, or the account is locked
-abbrev pub allAway : CountRule → ℕ → ℕ → List Bool → Bool
-allAway rule limit n [] = true
-allAway rule limit n (v ∷ vs) =
-    not (counts limit n v) && allAway rule limit (rule (leb limit n) v n) vs
+abbrev pub allFail : CountRule → (ℕ → Bool) → ℕ → List Bool → Bool
+allFail rule lock n [] = true
+allFail rule lock n (v ∷ vs) =
+    not (not (lock n) && v) && allFail rule lock (rule (lock n) v n) vs
 
-module _ (box : Box) (rule : CountRule) (limit : ℕ) (facts : Guessed box rule limit)
-    (pos : 0 < limit) where
+module _ (box : Box) (rule : CountRule) (lock : ℕ → Bool) (limit : ℕ)
+    (facts : Guessed box rule lock limit) (pos : 0 < limit) where
   -- ---- a call and a guess
 
   module _ (p : RunState) (n : ℕ) (same : p .account ≡ counting n)
@@ -115,27 +116,23 @@ module _ (box : Box) (rule : CountRule) (limit : ℕ) (facts : Guessed box rule 
 
     pub reply-so : replyOf (outcomeOf box p (sent v))
         ≡ replyPacket 255
-        (replyFor (first limit n v) (cond (counts limit n v) noReason authenticationFailure))
+        (replyFor (first limit n v) (cond (not (lock n) && v) noReason authenticationFailure))
     reply-so = ap replyOf outcome-so ∙ facts .reply n v
 
-    turned-away : not (counts limit n v) ≡ true
+    turned-away : not (not (lock n) && v) ≡ true
         → IsTurnedAway (octet 1 (packetSaying v)) (replyOf (outcomeOf box p (sent v)))
     turned-away e = inl (subst (λ (r : List ℕ). IsAuthenticationFailure
         (octet 1 (packetSaying v)) r) (sym reply-failed)
         (subst (λ (i : ℕ). IsAuthenticationFailure i (replyPacket 255 (Failure
         authenticationFailure false))) (sym (said-id v)) (failure-either 255 false)))
       where
-        no : (t : Bool) → not t ≡ true → t ≡ false
-        no true z = absurd (false≢true z)
-        no false z = refl
-
         reply-failed : replyOf (outcomeOf box p (sent v))
             ≡ replyPacket 255 (Failure authenticationFailure false)
         reply-failed = reply-so
             ∙ ap (λ (t : Bool). replyPacket 255 (replyFor (first limit n v)
-            (cond t noReason authenticationFailure))) (no (counts limit n v) e)
+            (cond t noReason authenticationFailure))) (not-true (not (lock n) && v) e)
 
-    stored-so : runNext box p (sends (sent v)) .account ≡ counting (rule (leb limit n) v n)
+    stored-so : runNext box p (sends (sent v)) .account ≡ counting (rule (lock n) v n)
     stored-so =
         ap (λ (u : Lookup). cond (u .found) (u .account) (p .account))
         (ap (λ (x : Outcome). x .answer .updated) outcome-so ∙ facts .handed n v)
@@ -146,12 +143,12 @@ module _ (box : Box) (rule : CountRule) (limit : ℕ) (facts : Guessed box rule 
     pub ofLimit : Along (runNext box) (OfLimit box limit) p (calls limit vs)
     pub notReset : Along (runNext box) (NotReset box) p (calls limit vs)
     pub many : total (runNext box) (guesses box) p (calls limit vs) ≡ length vs
-    pub counted : end (runNext box) p (calls limit vs) .account ≡ counting (countAfter rule limit n vs)
+    pub counted : end (runNext box) p (calls limit vs) .account ≡ counting (countAfter rule lock n vs)
     pub onLine : end (runNext box) p (calls limit vs) .lines 0
         ≡ unanswered (opened (openingOf (Count 0) limit) .conversation)
 
   pub ran : (p : RunState) (n : ℕ) (vs : List Bool) → p .account ≡ counting n
-      → allAway rule limit n vs ≡ true → Ran p n vs
+      → allFail rule lock n vs ≡ true → Ran p n vs
   ran p n [] same away =
       record {
         ofLimit = (refl, tt);
@@ -162,8 +159,8 @@ module _ (box : Box) (rule : CountRule) (limit : ℕ) (facts : Guessed box rule 
       }
   ran p n (v ∷ vs) same away =
       let q = runNext box p (call limit) in
-      let both = two (not (counts limit n v)) (allAway rule limit (rule (leb limit n) v n) vs) away in
-      let rest = ran (runNext box q (sends (sent v))) (rule (leb limit n) v n) vs
+      let both = two (not (not (lock n) && v)) (allFail rule lock (rule (lock n) v n) vs) away in
+      let rest = ran (runNext box q (sends (sent v))) (rule (lock n) v n) vs
       (stored-so q n same refl v) (both .1) in
       let one = ap (λ (t : Bool). cond {A = ℕ} t 1 0) (is-guess q n same refl v) in
       record {
@@ -185,9 +182,9 @@ module _ (box : Box) (rule : CountRule) (limit : ℕ) (facts : Guessed box rule 
 abbrev wrongTwice : List Bool
 wrongTwice = false ∷ false ∷ []
 
-pub met : Ran ourBox failuresAfter 2 (by-ours 2) (omega arith) (firstState (counting 0)) 0 wrongTwice
+pub met : Ran ourBox failuresAfter (leb 2) 2 (by-ours 2) (omega arith) (firstState (counting 0)) 0 wrongTwice
 unfolding failuresAfter
-met = ran ourBox failuresAfter 2 (by-ours 2) (omega arith) (firstState (counting 0)) 0 wrongTwice
+met = ran ourBox failuresAfter (leb 2) 2 (by-ours 2) (omega arith) (firstState (counting 0)) 0 wrongTwice
     refl refl
 
 -- so the right password is judged, and draws 691
@@ -195,11 +192,10 @@ abbrev called : RunState
 called = end (runNext ourBox) (firstState (counting 0)) (calls 2 wrongTwice)
 
 pub stopped : (isGuess ourBox called (sent true) ≡ true)
-    × IsAuthenticationFailure (octet 1 (packetSaying true))
-    (replyOf (outcomeOf ourBox called (sent true)))
+    × LockedOut ourBox called (sent true)
 stopped =
-    let g = is-guess ourBox failuresAfter 2 (by-ours 2) (omega arith) called
-    (countAfter failuresAfter 2 0 wrongTwice) (met .counted) (met .onLine) true in (
+    let g = is-guess ourBox failuresAfter (leb 2) 2 (by-ours 2) (omega arith) called
+    (countAfter failuresAfter (leb 2) 0 wrongTwice) (met .counted) (met .onLine) true in (
       g,
       guess-limit 2 (omega arith) (counting 0) [] (calls 2 wrongTwice) (met .ofLimit)
           (met .notReset) (omega (arith, met .many)) (sent true) g,

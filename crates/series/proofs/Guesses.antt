@@ -1,11 +1,11 @@
 -- Our box stops guessing across conversations: along any run of them, once `limit` guesses were
 -- turned away since the last reset, the account is locked and stays so.
 -- Assumes nothing.
-use mathlib.Core.Bool.{Bool, true, false, cond, _&&_, and-false, true≢false, false≢true}
+use mathlib.Core.Bool.{Bool, true, false, cond, _&&_, true≢false, false≢true}
 use mathlib.Core.List.{List, [], _∷_, _++_}
 use mathlib.Core.Logic.{_⊎_, inl, inr}
 use mathlib.Core.Path.{_≡_, refl, sym, ap, ap₂, _∙_, subst}
-use Prim.Native.Nat.{ℕ, suc, _+_, _≤_, _<_}
+use Prim.Native.Nat.{ℕ, _+_, _≤_, _<_}
 use native.Mathlib.Omega.{arith}
 use borrow.Author.Tests.{eqb-true, eq-eqb, ne-eqb, ltb-true, ltb-false}
 use lib.Dec.{eqb, ltb}
@@ -24,9 +24,9 @@ use Rattle.verify.specs.Change.{checkedChange}
 use Rattle.verify.specs.declared.CheckedChange.{CheckedChange}
 use Rattle.verify.specs.declared.Terms.{Terms}
 use Rattle.verify.proofs.Counting.{one-more, never-falls, counted-failed, judged-at-limit}
-use Rattle.verify.proofs.Reasons.{three-digits, response-not-changing, reason-invalid}
+use Rattle.verify.proofs.Reasons.{three-digits, response-not-changing}
 use Rattle.authenticator.specs.Conversation.{awaitedCode, isEnded, noAnswer, closed}
-use Rattle.authenticator.specs.Judge.{reasonOf, mayRetry, replyFor, judgeResponse, judgeChange}
+use Rattle.authenticator.specs.Judge.{reasonOf, replyFor, judgeResponse, judgeChange}
 use Rattle.authenticator.specs.Judge.{judgeIn, judge}
 use Rattle.authenticator.specs.Encode.{replyPacket}
 use Rattle.authenticator.specs.Opening.{Opening, opened}
@@ -42,6 +42,7 @@ use Rattle.authenticator.specs.declared.Reply.the-variants.{Failure}
 use Rattle.authenticator.proofs.Admitted.{Passes}
 use Rattle.authenticator.proofs.Judgements.{chosen}
 use Rattle.authenticator.proofs.Openings.{opened-either}
+use Rattle.authenticator.proofs.Repeats.{all-three}
 use Rattle.authenticator.proofs.Replies.{reason-of-reply, judge-fitting, reply-tells}
 use Rattle.authenticator.proofs.Seen.{Tracks, Seen, unjudged, judgedNow, seen, tracks-next}
 use Rattle.authenticator.proofs.Seen.{unanswered-tracks, step-claim, response-phase}
@@ -52,26 +53,26 @@ use Rattle.series.specs.Series.{Passed, own, another, passedWith, stored
 use Rattle.series.specs.Boxes.{ourBox}
 use Rattle.series.specs.LmOptIn.{IsAuthenticationFailure}
 use Rattle.series.specs.Guesses.{
-  Sent,
+  LinePacket,
   Event,
   opens,
   sends,
-  keeps,
+  stores,
   RunState,
   firstState,
   inputOf,
   isOwn,
   IsTurnedAway,
-  outcomeOf,
   runNext,
   isGuess,
   guesses,
   OfLimit,
   NotReset,
+  LockedOut,
   GuessLimit,
 }
-use Rattle.series.proofs.Invariant.{along-behind}
-use Rattle.series.proofs.LmOptIn.{failure-either}
+use Rattle.series.proofs.Invariant.{end-behind, along-before, along-behind}
+use Rattle.series.proofs.LmOptIn.{as-unknown, turned-away}
 
 -- ---- a packet that is judged
 
@@ -119,15 +120,6 @@ module _ (c : Conversation) (s : StepInput) (ok : Passes c (s .packet) (s .buffe
         which (inl e) = sym same ∙ e
         which (inr e) = absurd (response-not-changing (c .terms) (c .challenge)
             (readResponse (s .packet)) (s .account) (sym same ∙ e))
-
-    -- and where the reason is 691, so is the reply
-    turned : reason ≡ authenticationFailure
-        → IsAuthenticationFailure (octet 1 (s .packet)) (replyOf (stepOn c s))
-    turned e =
-        subst (λ (id : ℕ). IsAuthenticationFailure id (replyOf (stepOn c s))) (sym (ok .id))
-        (subst (IsAuthenticationFailure (c .id))
-        (sym (reply-drawn ∙ ap (replyPacket (c .id)) (reply-for ∙ ap (replyFor c) e)))
-        (failure-either (c .id) (mayRetry c authenticationFailure)))
 
   -- a change that is turned away hands out no record
   unchanged : c .phase ≡ Change → IsTurnedAway (octet 1 (s .packet)) (replyOf (stepOn c s))
@@ -214,7 +206,7 @@ module _ (limit : ℕ) (few : limit ≤ mostFailures) where
   ok-next p (sends s) l h j =
       on-line (eqb j (s .line)) _ _ (ok-stepped (p .lines (s .line)) (inputOf p s) (h (s .line)))
       (h j)
-  ok-next p (keeps a) l h j = h j
+  ok-next p (stores a) l h j = h j
 
   ok-end : (p : RunState) (es : List Event) → Along (runNext stepOn) (OfLimit stepOn limit) p es
       → RunOk p → RunOk (end (runNext stepOn) p es)
@@ -290,7 +282,7 @@ module _ (limit : ℕ) (few : limit ≤ mostFailures) where
             let lim : c .terms .limit ≡ limit = h .limited (ok .live) in
             let handed : stored ≡ counted (c .terms) (c .challenge) a f =
             ap (λ (u : Lookup). cond (u .found) (u .account) a)
-            (step-claim b input (h .tracks) .handsOut y code) in
+            (step-claim b input (h .tracks) .handsOut y code .0 refl) in
             one-counted n guess a stored one
             (subst (λ (d : Account). (d .failures ≡ oneMore (a .failures))
             ⊎ ((limit ≤ a .failures) × (a .failures ≤ d .failures))) (sym handed)
@@ -351,7 +343,11 @@ module _ (limit : ℕ) (few : limit ≤ mostFailures) where
   counted-next p (sends s) n h r k =
       sent-counted (p .lines (s .line)) (h (s .line)) (s .packet) (s .buffer) (p .account)
       (s .account) n r k
-  counted-next p (keeps a) n h r k = absurd r
+  counted-next p (stores a) n h r k = higher k
+    where
+      higher : Counted n (p .account) → Counted (n + 0) a
+      higher (inl x) = inl (omega (arith, x, r))
+      higher (inr x) = inr (omega (arith, x, r))
 
   counted-end : (p : RunState) (es : List Event) (n : ℕ) → RunOk p
       → Along (runNext stepOn) (OfLimit stepOn limit) p es
@@ -380,67 +376,50 @@ module _ (limit : ℕ) (few : limit ≤ mostFailures) where
   own-is own e = refl
   own-is (another l) e = absurd (false≢true e)
 
-  both : (t u v : Bool) → (t && (u && v)) ≡ true → (t ≡ true) × (u ≡ true) × (v ≡ true)
-  both true true true e = (refl, refl, refl)
-  both true true false e = absurd (false≢true e)
-  both true false v e = absurd (false≢true e)
-  both false u v e = absurd (false≢true e)
-
-  locked-out : (p : RunState) → RunOk p → limit ≤ p .account .failures → (s : Sent)
-      → isGuess stepOn p s ≡ true
-      → IsAuthenticationFailure (octet 1 (s .packet)) (replyOf (outcomeOf stepOn p s))
+  locked-out : (p : RunState) → RunOk p → limit ≤ p .account .failures → (s : LinePacket)
+      → isGuess stepOn p s ≡ true → LockedOut stepOn p s
   locked-out p h full s g =
       let b = p .lines (s .line) in
-      let facts = both (isJudged stepOn b (inputOf p s))
+      let facts = all-three (isJudged stepOn b (inputOf p s))
       (eqb (octet 0 (s .packet)) responseCode) (isOwn (s .account)) g in
-      which b (h (s .line)) (facts .0) (eqb-true (octet 0 (s .packet)) responseCode (facts .1))
+      which (facts .0) (eqb-true (octet 0 (s .packet)) responseCode (facts .1))
       (ap (passedWith (p .account)) (own-is (s .account) (facts .2)))
       (seen b (inputOf p s) (h (s .line) .tracks))
     where
-      which : (b : BoxState) → LineOk b → isJudged stepOn b (inputOf p s) ≡ true
+      which : isJudged stepOn (p .lines (s .line)) (inputOf p s) ≡ true
           → octet 0 (s .packet) ≡ responseCode
           → passedWith (p .account) (s .account) ≡ found (p .account)
-          → Seen b (inputOf p s)
-          → IsAuthenticationFailure (octet 1 (s .packet))
-          (replyOf (stepOn (b .conversation) (inputOf p s)))
-      which b ok y code mine (unjudged z e u) = absurd (true≢false (sym y ∙ z))
-      which b ok y code mine (judgedNow _ h e) =
-          let c = b .conversation in
-          let ph = response-phase (c .phase) (sym (h .code) ∙ code) in
-          let invalid = judged-at-limit (c .terms) (c .challenge) (p .account)
-          (readResponse (s .packet)) (omega (arith, ok .limited (h .live), full)) in
-          turned c (inputOf p s) h e ph
-          (reason-invalid (c .terms) (c .challenge) (readResponse (s .packet))
-          (passedWith (p .account) (s .account))
-          (ap (λ (l : Lookup). foundValid (c .terms) (c .challenge) l (readResponse (s .packet)))
-          mine ∙ invalid))
+          → Seen (p .lines (s .line)) (inputOf p s) → LockedOut stepOn p s
+      which y code mine (unjudged z e u) = absurd (true≢false (sym y ∙ z))
+      which y code mine (judgedNow _ k e) =
+          let c = p .lines (s .line) .conversation in
+          let invalid = ap (λ (l : Lookup). foundValid (c .terms) (c .challenge) l
+          (readResponse (s .packet))) mine
+          ∙ judged-at-limit (c .terms) (c .challenge) (p .account) (readResponse (s .packet))
+          (omega (arith, h (s .line) .limited (k .live), full)) in (
+            subst (λ (id : ℕ). IsAuthenticationFailure id (replyOf (stepOn c (inputOf p s))))
+                (sym (k .id))
+                (turned-away c (inputOf p s) invalid
+                (response-phase (c .phase) (sym (k .code) ∙ code)) k),
+            as-unknown c (inputOf p s) invalid,
+          )
 
 -- ---- the claim
-
--- a course in two parts
-end-both : (p : RunState) (es fs : List Event)
-    → end (runNext stepOn) p (es ++ fs) ≡ end (runNext stepOn) (end (runNext stepOn) p es) fs
-end-both p [] fs = refl
-end-both p (e ∷ es) fs = end-both (runNext stepOn p e) es fs
-
-along-before : (P : RunState → Event → Type 0) (p : RunState) (es fs : List Event)
-    → Along (runNext stepOn) P p (es ++ fs) → Along (runNext stepOn) P p es
-along-before P p [] fs h = tt
-along-before P p (e ∷ es) fs h = (h .0, along-before P (runNext stepOn p e) es fs (h .1))
 
 pub guess-limit : GuessLimit ourBox
 guess-limit limit few a before since all quiet many s g =
     let p = end (runNext stepOn) (firstState a) before in
     let ok = ok-end limit few (firstState a) before
-    (along-before (OfLimit stepOn limit) (firstState a) before since all) (ok-first limit few a) in
+    (along-before (runNext stepOn) (OfLimit stepOn limit) (firstState a) before since all)
+    (ok-first limit few a) in
     let rest = along-behind (runNext stepOn) (OfLimit stepOn limit) (firstState a) before since all
     in
-    let same = end-both (firstState a) before since in
     let last = ok-end limit few p since rest ok in
     let count = full (total (runNext stepOn) (guesses stepOn) p since)
-    (end (runNext stepOn) p since .account) (counted-end limit few p since 0 ok rest quiet (inl (omega arith))) many in
-    subst (λ (q : RunState). isGuess stepOn q s ≡ true
-    → IsAuthenticationFailure (octet 1 (s .packet)) (replyOf (outcomeOf stepOn q s))) (sym same)
+    (end (runNext stepOn) p since .account)
+    (counted-end limit few p since 0 ok rest quiet (inl (omega arith))) many in
+    subst (λ (q : RunState). isGuess stepOn q s ≡ true → LockedOut stepOn q s)
+    (sym (end-behind (runNext stepOn) (firstState a) before since))
     (locked-out limit few (end (runNext stepOn) p since) last count s) g
   where
     full : (n : ℕ) (b : Account) → Counted limit few (0 + n) b → limit ≤ n → limit ≤ b .failures

@@ -39,6 +39,18 @@ within next f rest I keep h s i (m ∷ ms) =
     let l = within next f rest I keep h (next s m) (keep s m i) ms in
     omega (arith, h s m i)
 
+-- a course in two parts
+pub end-behind : {S M : Type 0} (next : S → M → S) (s : S) (ms ns : List M)
+    → end next s (ms ++ ns) ≡ end next (end next s ms) ns
+end-behind next s [] ns = refl
+end-behind next s (m ∷ ms) ns = end-behind next (next s m) ms ns
+
+-- what holds along a course holds along its first steps
+pub along-before : {S M : Type 0} (next : S → M → S) (P : S → M → Type 0) (s : S) (ms ns : List M)
+    → Along next P s (ms ++ ns) → Along next P s ms
+along-before next P s [] ns h = tt
+along-before next P s (m ∷ ms) ns h = (h .0, along-before next P (next s m) ms ns (h .1))
+
 -- what holds along a course holds along what is behind some of its steps
 pub along-behind : {S M : Type 0} (next : S → M → S) (P : S → M → Type 0) (s : S) (ms ns : List M)
     → Along next P s (ms ++ ns) → Along next P (end next s ms) ns

@@ -58,7 +58,7 @@ use Rattle.series.proofs.OneList.{opens-where-it-may}
 -- ---- off
 
 -- where LM is not allowed, a Response by LM is invalid
-not-by-lm : (c : Conversation) (s : StepInput) → c .terms .lm ≡ false → isByLm s ≡ true
+pub not-by-lm : (c : Conversation) (s : StepInput) → c .terms .lm ≡ false → isByLm s ≡ true
     → foundValid (c .terms) (c .challenge) (s .account) (readResponse (s .packet)) ≡ false
 unfolding valid
 not-by-lm c s off by =
@@ -71,11 +71,11 @@ not-by-lm c s off by =
     ∙ ap (λ (t : Bool). s .account .found && t) (and-false (not (isLocked (c .terms) a)))
     ∙ and-false (s .account .found)
 
--- so it is answered as if there were no record, but that its record is handed out
-as-unknown : (c : Conversation) (s : StepInput) → c .terms .lm ≡ false → isByLm s ≡ true
+-- what is judged invalid is answered as if there were no record, but that its record is handed out
+pub as-unknown : (c : Conversation) (s : StepInput)
+    → foundValid (c .terms) (c .challenge) (s .account) (readResponse (s .packet)) ≡ false
     → withoutRecord (stepOn c s) ≡ withoutRecord (stepOn c (withNoRecord s))
-as-unknown c s off by = same-invalid c (s .packet) (s .buffer) (s .account) notFound
-    (not-by-lm c s off by) refl
+as-unknown c s v = same-invalid c (s .packet) (s .buffer) (s .account) notFound v refl
 
 -- and that is 691
 unknown-reply : (c : Conversation) (p : List ℕ)
@@ -89,12 +89,13 @@ pub failure-either : (id : ℕ) (retry : Bool)
 failure-either id true = inl refl
 failure-either id false = inr refl
 
-pub turned-away : (c : Conversation) (s : StepInput) → c .terms .lm ≡ false → isByLm s ≡ true
+pub turned-away : (c : Conversation) (s : StepInput)
+    → foundValid (c .terms) (c .challenge) (s .account) (readResponse (s .packet)) ≡ false
     → c .phase ≡ Response → Passes c (s .packet) (s .buffer)
     → IsAuthenticationFailure (c .id) (replyOf (stepOn c s))
 unfolding judge
-turned-away c s off by ph ok =
-    let reply = ap replyOf (as-unknown c s off by)
+turned-away c s v ph ok =
+    let reply = ap replyOf (as-unknown c s v)
     ∙ ap replyOf (judged-step c (s .packet) notFound (s .buffer) ok)
     ∙ reply-of c (judge c (s .packet) notFound) (s .buffer) (ok .readable .room)
     ∙ ap (λ (x : Phase). replyPacket (c .id) (judgeIn x c (s .packet) notFound .reply)) ph
@@ -141,9 +142,9 @@ off-here p s i code by now = which (seen p s (i .tracks))
     which (judgedNow y ok e) = (
       subst (λ (id : ℕ). IsAuthenticationFailure id (replyOf (stepOn (p .conversation) s)))
           (sym (ok .id))
-          (turned-away (p .conversation) s (i .off) by
+          (turned-away (p .conversation) s (not-by-lm (p .conversation) s (i .off) by)
           (response-phase (p .conversation .phase) (sym (ok .code) ∙ code)) ok),
-      as-unknown (p .conversation) s (i .off) by,
+      as-unknown (p .conversation) s (not-by-lm (p .conversation) s (i .off) by),
     )
 
 -- ---- on

@@ -1,7 +1,7 @@
 -- A sample of what demand 3 speaks of: openings, a record, our peer's packets and what is passed
 -- with them. They meet the premises with any box and writer.
 -- Assumes nothing.
-use mathlib.Core.Bool.{Bool, false, false≢true}
+use mathlib.Core.Bool.{Bool, false}
 use mathlib.Core.List.{List, [], _∷_}
 use mathlib.Core.Path.{_≡_, refl}
 use Prim.Native.Nat.{ℕ, _≤_, _<_}
@@ -155,8 +155,7 @@ module _ (box : Box) (writer : Writer) (p : SeriesState) where
   pub bad-allowed : (a : Account) → Allowed box writer a p (badTry (another notFound))
   bad-allowed a = (
     try-within bad (line 60 (another notFound)) refl (omega arith) (omega arith),
-    λ e. absurd
-        (false≢true e),
+    refl,
   )
 
   pub right-allowed : (expired : Bool) → Allowed box writer (account expired) p rightTry

@@ -1,10 +1,10 @@
 -- Sample guesses: in the first conversation of an opening with no retries and any limit, a Response
 -- by the right password, or one by LM, which is off there, so that it is invalid; with the sample's
--- record and any count; with our box, and with one that judges as ours does and counts by any rule.
+-- record and any count; with our box, and with boxes that count or lock otherwise.
 -- Assumes nothing.
 use mathlib.Core.Bool.{Bool, true, false, cond, not, _&&_}
 use mathlib.Core.List.{List, [], _++_}
-use mathlib.Core.Path.{_≡_, refl, sym, ap, ap₂, _∙_}
+use mathlib.Core.Path.{_≡_, refl, ap, ap₂, _∙_}
 use Prim.Native.Nat.{ℕ, _<_}
 use native.Mathlib.Omega.{arith}
 use borrow.Author.Tests.{eq-eqb}
@@ -20,7 +20,6 @@ use Rattle.packets.specs.declared.Response.{Response}
 use Rattle.packets.proofs.ReadBack.{ResponseBack, response-back}
 use Rattle.accounts.specs.Account.{found, withFailures}
 use Rattle.accounts.specs.declared.Account.{Account}
-use Rattle.accounts.specs.declared.Lookup.{Lookup}
 use Rattle.verify.specs.Lockout.{failuresAfter}
 use Rattle.verify.specs.Response.{valid, firstReason, responseReason}
 use Rattle.authenticator.specs.Judge.{validIn, replyFor, judgeResponse, judge}
@@ -37,7 +36,8 @@ use Rattle.authenticator.proofs.Steps.{judged-step, reply-of, drew-judged}
 use Rattle.peer.specs.Write.{responseFields, responseFor}
 use Rattle.peer.specs.declared.Turn.{Turn}
 use Rattle.peer.proofs.Found.{response-found}
-use Rattle.series.specs.Boxes.{judgesHere, judging, CountRule, countedBy, countsBy}
+use Rattle.series.specs.Boxes.{judgesHere, Judge, judging, CountRule, countedBy, countsBy}
+use Rattle.series.specs.Boxes.{limitedTo}
 use Rattle.series.specs.Writers.{lmFields}
 use Rattle.series.proofs.Sample.{challenge, openingOf, old, user, account}
 use Rattle.series.proofs.Sent.{seen-new}
@@ -100,7 +100,7 @@ module _ (limit n : ℕ) (v : Bool) where
   said-valid false = simp (ap (λ (f : Response). f .flag) (back false .fields))
 
   -- judged valid below the limit alone
-  abbrev pub counts : Bool
+  abbrev counts : Bool
   counts = not (leb limit n) && v
 
   reason : responseReason (first .terms) (first .challenge) (found (counting n))
@@ -121,6 +121,11 @@ module _ (limit n : ℕ) (v : Bool) where
   judges : judgesHere first guess ≡ true
   judges = ap (λ (o : Outcome). eqb (refusalIn (o .answer .kind)) 0
       && not (isRepeated (o .answer .kind))) took
+
+  judging-took : (j : Judge) → judging j first guess ≡ judgedAs first (j first guess) (replicate 17 0)
+  judging-took j =
+      ap (λ (t : Bool). cond t (judgedAs first (j first guess) (replicate 17 0))
+      (stepOn first guess)) judges
 
   -- a box that judges it, by whatever judgement
   module _ (box : Box) (d : Judgement)
@@ -146,20 +151,21 @@ module _ (limit n : ℕ) (v : Bool) where
       ap (λ (w : Bool). found (withFailures (rule (leb limit n) w n) (account false)))
       (said-valid v)
 
--- What comes of a guess with a box that counts by a rule: it is judged, by what is seen; it draws
--- Success below the limit, where it is valid, and else 691; and the record is handed out as the
--- rule counts.
-pub record Guessed (box : Box) (rule : CountRule) (limit : ℕ) : Type 0 where
+-- What comes of a guess with a box that locks a record by its count and counts by a rule: it is
+-- judged, by what is seen; it draws Success where it is valid and the record not locked, and else
+-- 691; and the record is handed out as the rule counts.
+pub record Guessed (box : Box) (rule : CountRule) (lock : ℕ → Bool) (limit : ℕ) : Type 0 where
   pub judged : (n : ℕ) (v : Bool)
       → isJudged box (unanswered (first limit n v)) (guess limit n v) ≡ true
   pub reply : (n : ℕ) (v : Bool) → replyOf (box (first limit n v) (guess limit n v))
       ≡ replyPacket 255
-      (replyFor (first limit n v) (cond (counts limit n v) noReason authenticationFailure))
+      (replyFor (first limit n v) (cond (not (lock n) && v) noReason authenticationFailure))
   pub handed : (n : ℕ) (v : Bool) → box (first limit n v) (guess limit n v) .answer .updated
-      ≡ found (withFailures (rule (leb limit n) v n) (account false))
+      ≡ found (withFailures (rule (lock n) v n) (account false))
 
 -- a box that judges as ours does and counts by any rule
-pub by-rule : (rule : CountRule) (limit : ℕ) → Guessed (judging (countsBy rule)) rule limit
+pub by-rule : (rule : CountRule) (limit : ℕ)
+    → Guessed (judging (countsBy rule)) rule (leb limit) limit
 by-rule rule limit =
     record {
       judged = λ n v. judged-so limit n v box (d n v) (box-took n v);
@@ -180,12 +186,10 @@ by-rule rule limit =
 
     box-took : (n : ℕ) (v : Bool) → box (first limit n v) (guess limit n v)
         ≡ judgedAs (first limit n v) (d n v) (replicate 17 0)
-    box-took n v =
-        ap (λ (t : Bool). cond t (judgedAs (first limit n v) (d n v) (replicate 17 0))
-        (stepOn (first limit n v) (guess limit n v))) (judges limit n v)
+    box-took n v = judging-took limit n v (countsBy rule)
 
 -- and ours
-pub by-ours : (limit : ℕ) → Guessed stepOn failuresAfter limit
+pub by-ours : (limit : ℕ) → Guessed stepOn failuresAfter (leb limit) limit
 unfolding judge judgeResponse
 by-ours limit =
     record {
@@ -198,3 +202,26 @@ by-ours limit =
   where
     d : ℕ → Bool → Judgement
     d n v = judge (first limit n v) (packetSaying v) (found (counting n))
+
+-- one that counts as ours does and locks by another limit
+pub by-limit : (other : ℕ → ℕ) (limit : ℕ)
+    → Guessed (judging (limitedTo other)) failuresAfter (leb (other limit)) limit
+unfolding judge judgeResponse
+by-limit other limit =
+    record {
+      judged = λ n v. judged-so limit n v box (d n v) (box-took n v);
+      reply = λ n v. reply-so limit n v box (d n v) (box-took n v)
+          ∙ ap (replyPacket 255) (reply-drawn (other limit) n v);
+      handed = λ n v. ap (λ (o : Outcome). o .answer .updated) (box-took n v)
+          ∙ rule-counted (other limit) n v failuresAfter;
+    }
+  where
+    box : Box
+    box = judging (limitedTo other)
+
+    d : ℕ → Bool → Judgement
+    d n v = limitedTo other (first limit n v) (guess limit n v)
+
+    box-took : (n : ℕ) (v : Bool) → box (first limit n v) (guess limit n v)
+        ≡ judgedAs (first limit n v) (d n v) (replicate 17 0)
+    box-took n v = judging-took limit n v (limitedTo other)

@@ -1,6 +1,6 @@
 -- The steps that take our peer's packets, each as the outcome that it is equal to.
 -- Assumes nothing.
-use mathlib.Core.Bool.{Bool, true, false, cond, not, _&&_}
+use mathlib.Core.Bool.{Bool, true, false, cond, _&&_}
 use mathlib.Core.List.{List, _++_}
 use mathlib.Core.Option.{some}
 use mathlib.Core.Path.{_≡_, refl, sym, ap, ap₂, _∙_}
@@ -13,8 +13,7 @@ use Rattle.credentials.specs.Credentials.{ntHashOf, responseOf, oldUnderNew}
 use Rattle.packets.specs.Response.{readResponse}
 use Rattle.packets.specs.Change.{readChange}
 use Rattle.accounts.specs.Account.{found, withFailures, Rightful}
-use Rattle.verify.specs.Lockout.{isLocked}
-use Rattle.verify.specs.Response.{answers, valid, countedLookup}
+use Rattle.verify.specs.Response.{answers, valid, foundValid, countedLookup}
 use Rattle.authenticator.specs.Judge.{validIn, newHashIn}
 use Rattle.authenticator.specs.Conversation.{awaitedCode, isEnded}
 use Rattle.authenticator.specs.Admit.{bodyRefusal}
@@ -50,12 +49,6 @@ use Rattle.peer.proofs.Found.{response-flag, change-flags, response-found, chan
 pub record InStep (c : Conversation) (t : Turn) : Type 0 where
   pub id : c .id ≡ t .id
   pub challenge : c .challenge ≡ t .challenge
-
--- what is invalid is judged invalid, locked or not
-not-judged-valid : (f l v : Bool) → (f && v) ≡ false → (f && (not l && v)) ≡ false
-not-judged-valid true true v e = refl
-not-judged-valid true false v e = e
-not-judged-valid false l v e = refl
 
 valid-nt : (s t u v : Bool) → s ≡ true → t ≡ true → u ≡ true → cond (s && t) u v ≡ true
 valid-nt s t u v p q r = rw (p, q, r)
@@ -106,13 +99,11 @@ module _ (c : Conversation) (t : Turn) (h : InStep c t) (fresh : Fresh c) (ph : 
   try-passes = response-passes c fresh ph room try-found (h .id) (omega arith)
 
   -- the record is handed out as it is counted
-  pub invalid-taken : (l : Lookup) → (l .found && validIn c (l .account) (readResponse try)) ≡ false
-      → 0 < c .retries
+  pub invalid-taken : (l : Lookup)
+      → foundValid (c .terms) (c .challenge) l (readResponse try) ≡ false → 0 < c .retries
       → step c try l b
       ≡ judgedAs c (tryAgain c (countedLookup (c .terms) (c .challenge) l (readResponse try))) b
-  invalid-taken l v pos =
-      invalid-law c try b try-passes l ph
-      (not-judged-valid (l .found) (isLocked (c .terms) (l .account)) _ v) pos
+  invalid-taken l v pos = invalid-law c try b try-passes l ph v pos
 
   -- below the limit
   module _ (a : Account) (g : Rightful a) (below : a .failures < c .terms .limit)

@@ -1,6 +1,6 @@
 -- Demand 3 holds of no box that judges as ours does and counts by another rule: of all rules, the
 -- request's alone hands out the record that it should. Four of them by name: from the first record
--- every time, wrapping at 255, cleared by the right password at the limit, never.
+-- every time, wrapping at 255, cleared by the right password at the limit, not at all.
 -- Assumes nothing.
 use mathlib.Core.Bool.{Bool, true, false, cond, false≢true}
 use mathlib.Core.List.{[], _∷_}
@@ -18,7 +18,7 @@ use Rattle.authenticator.specs.declared.Retries.the-variants.{Count}
 use Rattle.authenticator.proofs.Openings.{opened-first}
 use Rattle.series.specs.Series.{Demand3}
 use Rattle.series.specs.Boxes.{judging, CountRule, countsBy, fromFirst, wrapping, clearing}
-use Rattle.series.specs.Boxes.{never}
+use Rattle.series.specs.Boxes.{notCounting}
 use Rattle.series.specs.Writers.{ourWriter}
 use Rattle.series.proofs.Sample.{openingOf, opens-limited}
 use Rattle.series.proofs.SampleGuesses.{guess, said-code, said-valid, by-rule}
@@ -49,7 +49,7 @@ one-rule rule locked v n pos other h =
     (h (openingOf (Count 0) limit) opens refl .2 (s ∷ []) .1 .0) in
     let handed = ap (λ (l : Lookup). l .account .failures)
     (sym (by-rule rule limit .handed n v)
-    ∙ claim .handsOut (by-rule rule limit .judged n v) (said-code v)) in
+    ∙ claim .handsOut (by-rule rule limit .judged n v) (said-code v) .0 refl) in
     let ours = ap₂ (λ (t w : Bool). failuresAfter t w n) (locked-so locked n)
     (said-valid limit n v v) in
     other (ap (λ (t : Bool). rule t v n) (sym (locked-so locked n)) ∙ handed ∙ ours)
@@ -69,6 +69,6 @@ pub not-clearing : Demand3 (judging (countsBy clearing)) ourWriter → ⊥
 unfolding failuresAfter
 not-clearing = one-rule clearing true true 1 (λ e. omega arith) (λ e. omega (arith, e))
 
-pub not-never : Demand3 (judging (countsBy never)) ourWriter → ⊥
+pub not-without-count : Demand3 (judging (countsBy notCounting)) ourWriter → ⊥
 unfolding failuresAfter
-not-never = one-rule never false false 0 (λ e. absurd (false≢true e)) (λ e. omega (arith, e))
+not-without-count = one-rule notCounting false false 0 (λ e. absurd (false≢true e)) (λ e. omega (arith, e))

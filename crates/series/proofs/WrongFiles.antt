@@ -50,13 +50,13 @@ account = accountWith (hashOf oldHash) (hashOf (replicate 16 1)) false false fal
 abbrev flagsAndTime : List ℕ
 flagsAndTime = 91 ∷ 85 ∷ (replicate 10 32 ++ 93 ∷ colon ∷ (timeText 1 ++ colon ∷ 10 ∷ []))
 
-abbrev neighbour : List ℕ
-neighbour = 118 ∷ []
+abbrev otherName : List ℕ
+otherName = 118 ∷ []
 
 abbrev pub file : List ℕ
 file =
     user ++ colon ∷ (49 ∷ colon ∷ (hashText (hashOf (replicate 16 1)) ++ colon ∷ (hashText (hashOf oldHash) ++ colon ∷ flagsAndTime)))
-    ++ neighbour ++ colon ∷ (50 ∷ colon ∷ (hashText noHash ++ colon ∷ (hashText noHash ++ colon ∷ flagsAndTime)))
+    ++ otherName ++ colon ∷ (50 ∷ colon ∷ (hashText noHash ++ colon ∷ (hashText noHash ++ colon ∷ flagsAndTime)))
 
 pub in-file : findIn 1000 0 user file .lookup ≡ found account
 unfolding findIn placeOf lines isAccount accountIn agrees digitOf hexOf
@@ -119,7 +119,7 @@ kept = series writtenIn kept-in-file .1 .0
 -- ---- wrong ways
 
 module _ (write : FileWriter) (claim : KeptInFile ourBox ourWriter write) where
-  -- changed at one time and looked up at neighbour, what is found is what was handed out, expired or
+  -- changed at one time and looked up at another, what is found is what was handed out, expired or
   -- not
   must-keep : (changedAt later : ℕ) → changedAt < 2 ^ 32
       → again write user file handedOut changedAt later 0 ≡ aged (isExpired later 0 false changedAt) handedOut
@@ -129,11 +129,11 @@ module _ (write : FileWriter) (claim : KeptInFile ourBox ourWriter write) where
       ap (λ (u : Lookup). again write user file u t later 0) (sym handed-out) ∙ back ∙ ap (aged (isExpired later 0 false t)) handed-out
 
   -- and the other account is still found
-  must-keep-others : findIn 1000 0 neighbour (write user (handedOut .account) 1000 file) ≡ findIn 1000 0 neighbour file
+  must-keep-others : findIn 1000 0 otherName (write user (handedOut .account) 1000 file) ≡ findIn 1000 0 otherName file
   unfolding agrees
   must-keep-others =
-      ap (λ (u : Lookup). findIn 1000 0 neighbour (write user (u .account) 1000 file)) (sym handed-out)
-      ∙ series write claim .1 .0 0 1000 1000 0 on-line (omega arith) .2 neighbour refl
+      ap (λ (u : Lookup). findIn 1000 0 otherName (write user (u .account) 1000 file)) (sym handed-out)
+      ∙ series write claim .1 .0 0 1000 1000 0 on-line (omega arith) .2 otherName refl
 
 abbrev isOld : Lookup → Bool
 isOld l = l .account .expired
@@ -168,8 +168,8 @@ not-keeping-lm claim =
     true≢false (sym still-lm ∙ ap (λ (l : Lookup). l .account .lm .present) (must-keep keepingLm claim 1000 1000 (omega arith)))
 
 -- loses the others: v is not found any more
-lost : (findIn 1000 0 neighbour (losingOthers user (handedOut .account) 1000 file) .lookup .found ≡ false)
-    × (findIn 1000 0 neighbour file .lookup .found ≡ true)
+lost : (findIn 1000 0 otherName (losingOthers user (handedOut .account) 1000 file) .lookup .found ≡ false)
+    × (findIn 1000 0 otherName file .lookup .found ≡ true)
 unfolding changedLine findIn placeOf lines isAccount accountIn agrees digitOf hexOf
 lost = (refl, refl)
 

@@ -39,7 +39,7 @@ use Rattle.authenticator.proofs.Steps.{number-step, repeated-step, drew-exactly
 use Rattle.series.specs.Boxes.{withLm}
 use Rattle.series.specs.Openers.{refusesSilent, takesLm, opensAnswered}
 use Rattle.series.specs.LmOptIn.{isByLm, IsAuthenticationFailure, LmPeer, LmOptIn}
-use Rattle.series.proofs.LmOptIn.{turned-away, peer-passes, peer-in}
+use Rattle.series.proofs.LmOptIn.{not-by-lm, turned-away, peer-passes, peer-in}
 use Rattle.series.proofs.OneList.{opens-where-it-may}
 use Rattle.series.proofs.Sample.{user}
 use Rattle.series.proofs.Sent.{seen-new}
@@ -114,7 +114,8 @@ module _ (l : LmChoice) where
 
   turned : code (first false) ≡ 4
   turned = failed 7 (replyOf (stepOn (first false) sent))
-      (turned-away (first false) sent refl by-lm refl (sent-passes false))
+      (turned-away (first false) sent (not-by-lm (first false) sent refl by-lm) refl
+      (sent-passes false))
 
   -- it is judged, as it is seen
   sent-judged : (allowed : Bool) → isJudged stepOn (unanswered (first allowed)) sent ≡ true

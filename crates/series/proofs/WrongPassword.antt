@@ -1,7 +1,7 @@
 -- The sample's wrong password, "bad", is invalid for the sample's record, by computing both
 -- responses: so our peer's invalid try may be passed the rightful account's own record, and count.
 -- Assumes nothing.
-use mathlib.Core.Bool.{Bool, false, cond, _&&_}
+use mathlib.Core.Bool.{Bool, false, cond, not, _&&_, and-false}
 use mathlib.Core.List.{List, _∷_, [], _++_}
 use mathlib.Core.Path.{_≡_, refl, ap, ap₂, _∙_}
 use Prim.Native.Nat.{ℕ}
@@ -18,6 +18,7 @@ use Rattle.credentials.specs.Credentials.{ntHashOf, responseOf}
 use Rattle.packets.specs.Response.{readResponse}
 use Rattle.accounts.specs.declared.Account.{Account}
 use Rattle.accounts.specs.declared.Hash.{Hash}
+use Rattle.verify.specs.Lockout.{isLocked}
 use Rattle.verify.specs.Response.{answers, valid}
 use Rattle.authenticator.specs.Judge.{validIn}
 use Rattle.authenticator.specs.Steps.{Box}
@@ -35,8 +36,8 @@ unfolding agrees ntHashOf md4Of digestOf hashBlocks runBlocks padded zeros block
     boxes s1 s2 s3 s4 s5 s6 s7 s8 pc1 pc2 shifts over
 differs = refl
 
--- at a place where box and peer have the sample's challenge, and the record has the right password's
--- hash, whatever its count
+-- at a place where box and peer have the sample's challenge, and the record has the right
+-- password's hash, whatever its count
 module _ (box : Box) (p : SeriesState) (here : p .box .conversation .challenge ≡ challenge)
     (there : p .peer .turn .challenge ≡ challenge) (hash : p .account .nt ≡ account false .nt) where
   abbrev sent : List ℕ
@@ -63,4 +64,8 @@ module _ (box : Box) (p : SeriesState) (here : p .box .conversation .challenge �
       ∙ differs
 
   pub own-allowed : (a : Account) → Allowed box ourWriter a p (badTry own)
-  own-allowed a = (try-within bad (line 60 own) refl (omega arith) (omega arith), λ e. wrong)
+  own-allowed a = (
+    try-within bad (line 60 own) refl (omega arith) (omega arith),
+    ap (λ (v : Bool). not (isLocked (p .box .conversation .terms) (p .account)) && v) wrong
+        ∙ and-false (not (isLocked (p .box .conversation .terms) (p .account))),
+  )

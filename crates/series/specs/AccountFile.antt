@@ -9,7 +9,7 @@ use mathlib.Core.Path.{_≡_}
 use Prim.Native.Nat.{ℕ, _+_, _≤_, _<_, _^_}
 use lib.ListN.{length}
 use Rattle.octets.specs.Parts.{agrees}
-use Rattle.accounts.specs.Account.{accountWith, lookupOf, found, Rightful}
+use Rattle.accounts.specs.Account.{accountWith, lookupOf, found, withFailures, Rightful}
 use Rattle.accounts.specs.declared.Account.{Account}
 use Rattle.accounts.specs.declared.Lookup.{Lookup}
 use Rattle.authenticator.specs.Opening.{Opening, retriesOf, opened}
@@ -113,12 +113,13 @@ module _ (box : Box) (writer : Writer) (write : FileWriter) (name file : List �
       (exchange box writer p (passwordChange old new filler) l) new
   KeptAt p (other s) = Unit {0}
 
--- Whatever file the box's record was found in, at whatever time and for whatever maximum age: along
--- every series of demand 3 with that record, each change is kept by the file.
+-- Whatever file the box's record was found in, at whatever time and for whatever maximum age, and
+-- whatever count it was given then, for which a file has no place: along every series of demand 3
+-- with that record, each change is kept by the file.
 abbrev pub KeptInFile : Box → Writer → FileWriter → Type 0
 KeptInFile box writer write =
     (name file : List ℕ) (now maxAge : ℕ) (a : Account)
-    → findIn now maxAge name file .lookup ≡ found a
+    → findIn now maxAge name file .lookup ≡ found (withFailures 0 a)
     → (o : Opening) → opened o .refusal ≡ 0 → length (o .challenge) ≡ 8
     → (k : ℕ) (behind : List ℕ) (ms : List Step)
     → Rightful a → k ≤ retriesOf (o .retries) → a .failures + k < o .limit

@@ -37,6 +37,9 @@ repeatsHere c s = isRepeated (stepOn c s .answer .kind)
 abbrev pub judgesHere : Conversation → StepInput → Bool
 judgesHere c s = eqb (refusalAt stepOn c s) 0 && not (repeatsHere c s)
 
+abbrev pub isChange : Conversation → StepInput → Bool
+isChange c s = eqb (octet 0 (s .packet)) changeCode
+
 -- what a judged packet draws, and a box that refuses and repeats what ours does and judges the rest
 -- so
 abbrev pub Judge : Type 0
@@ -49,9 +52,11 @@ judging d c s = cond (judgesHere c s) (judgedAs c (d c s) (s .buffer)) (stepOn c
 abbrev pub findsNone : Judge
 findsNone c s = judge c (s .packet) notFound
 
--- accepts always
+-- accepts always, and hands the record out as after a valid Response
 abbrev pub accepts : Judge
-accepts c s = judgementFor c (s .account) noReason
+accepts c s =
+    judgementFor c
+    (lookupOf (s .account .found) (withFailures 0 (s .account .account))) noReason
 
 -- the change does nothing to the record: the kept one is handed out
 abbrev pub leavesRecord : Judge
@@ -61,7 +66,7 @@ leavesRecord c s =
       reply = d .reply;
       fault = d .fault;
       next = d .next;
-      updated = cond (d .updated .found) (found (c .kept)) notFound;
+      updated = cond (isChange c s && d .updated .found) (found (c .kept)) (d .updated);
     }
 
 -- judges the first Response of a conversation that was opened with r retries, and pretends on
@@ -140,9 +145,49 @@ wrapping locked v n = cond v (cond locked n 0) (suc n % 256)
 abbrev pub clearing : CountRule
 clearing locked v n = cond v 0 (oneMore n)
 
--- never: the record is handed out as it was passed
-abbrev pub never : CountRule
-never locked v n = n
+-- not at all: the record is handed out as it was passed
+abbrev pub notCounting : CountRule
+notCounting locked v n = n
+
+-- ---- boxes that count as ours does, and lock otherwise
+
+abbrev pub withLimit : ℕ → Conversation → Conversation
+withLimit limit c =
+    record {
+      terms = record { lm = c .terms .lm; limit = limit };
+      id = c .id;
+      challenge = c .challenge;
+      retries = c .retries;
+      phase = c .phase;
+      kept = c .kept;
+      last = c .last;
+    }
+
+-- by another limit than the opening's, which it keeps: one more is locked over the limit only, and
+-- 256 is never locked
+abbrev pub limitedTo : (ℕ → ℕ) → Judge
+limitedTo other c s =
+    let d = judge (withLimit (other (c .terms .limit)) c) (s .packet) (s .account) in
+    record {
+      reply = d .reply;
+      fault = d .fault;
+      next = withLimit (c .terms .limit) (d .next);
+      updated = d .updated;
+    }
+
+-- by its own limit, and tells a right guess at a locked account: it gives that one no retry
+abbrev pub tellsRight : Judge
+tellsRight c s =
+    cond (isLocked (c .terms) (s .account .account)
+    && validIn c (s .account .account) (readResponse (s .packet)))
+    (judge (withRetries 0 c) (s .packet) (s .account)) (judge c (s .packet) (s .account))
+
+-- ---- boxes that judge as ours does, but say nothing to some of what they should judge
+
+-- whatever number they give: to a right guess at a locked account, for instance, or to a wrong one
+-- with no retries left, which is then not counted
+abbrev pub silentTo : (Conversation → StepInput → Bool) → ℕ → Box
+silentTo some n c s = cond (some c s) (refusing n c s) (stepOn c s)
 
 -- ---- boxes that judge as ours does, and answer otherwise what ours refuses
 
@@ -263,7 +308,7 @@ guessesRight past c s =
 
 abbrev pub acceptsGuess : Kind → Box
 acceptsGuess k c s = withKind k
-    (judgedAs (withId (octet 1 (s .packet)) c) (judgementFor c (s .account) noReason)
+    (judgedAs (withId (octet 1 (s .packet)) c) (judgementFor c notFound noReason)
     (s .buffer))
 
 abbrev pub judgesRepeats : (List ℕ → List ℕ) → Kind → Box
@@ -271,9 +316,6 @@ judgesRepeats past k = answeringRepeats (guessesRight past) (acceptsGuess k)
 
 -- hands out, with a repeated change, the record that is passed with it, by whatever name (the kept
 -- record is dropped at the end)
-abbrev pub isChange : Conversation → StepInput → Bool
-isChange c s = eqb (octet 0 (s .packet)) changeCode
-
 abbrev pub handsOut : Kind → Box
 handsOut k c s = withKind k (withUpdated (s .account) (stepOn c s))
 

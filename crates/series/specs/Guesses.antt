@@ -19,31 +19,31 @@ use Rattle.accounts.specs.declared.Account.{Account}
 use Rattle.authenticator.specs.Conversation.{closed}
 use Rattle.authenticator.specs.Encode.{version}
 use Rattle.authenticator.specs.Opening.{Opening, opened}
-use Rattle.authenticator.specs.Step.{Outcome}
+use Rattle.authenticator.specs.Step.{Outcome, withoutRecord}
 use Rattle.authenticator.specs.Steps.{StepInput, Box, replyOf, BoxState, unanswered}
 use Rattle.authenticator.specs.Steps.{isJudged, nextState}
 use Rattle.verify.specs.Lockout.{mostFailures}
 use Rattle.series.specs.Course.{end, Along, total}
 use Rattle.series.specs.Series.{Passed, own, another, passedWith, storedAfter}
-use Rattle.series.specs.LmOptIn.{IsAuthenticationFailure}
+use Rattle.series.specs.LmOptIn.{withNoRecord, IsAuthenticationFailure}
 
 -- ---- a run
 
 -- A packet on a line, and what is passed with it: "own" is the record of the account, under its
 -- name; another name has another record, or none.
-pub record Sent : Type 0 where
+pub record LinePacket : Type 0 where
   pub line : ℕ
   pub packet : List ℕ
   pub account : Passed
   pub buffer : List ℕ
 
 -- a conversation is opened on a line, whatever was there before (the guesser hung up); a packet
--- comes; or the keeper of the accounts stores a record of the account, unlocked or with another
--- password
+-- comes; or the keeper of the accounts stores a record of the account, unlocked, with another
+-- password or as the account file has it by now
 pub data Event : Type 0 where
   opens : (line : ℕ) → Opening → Event
-  sends : Sent → Event
-  keeps : Account → Event
+  sends : LinePacket → Event
+  stores : Account → Event
 
 -- what is on each line, as it is seen from outside, and the account's record
 pub record RunState : Type 0 where
@@ -58,7 +58,7 @@ abbrev pub onLine : ℕ → BoxState → (ℕ → BoxState) → ℕ → BoxState
 onLine i b lines j = cond (eqb j i) b (lines j)
 
 -- what reaches the box
-abbrev pub inputOf : RunState → Sent → StepInput
+abbrev pub inputOf : RunState → LinePacket → StepInput
 inputOf p s = record {
   packet = s .packet;
   account = passedWith (p .account) (s .account);
@@ -76,7 +76,7 @@ IsTurnedAway id reply =
     ⊎ (reply ≡ failurePacket id (textOf changingPassword 0 version))
 
 module _ (box : Box) where
-  abbrev pub outcomeOf : RunState → Sent → Outcome
+  abbrev pub outcomeOf : RunState → LinePacket → Outcome
   outcomeOf p s = box (p .lines (s .line) .conversation) (inputOf p s)
 
   abbrev pub runNext : RunState → Event → RunState
@@ -88,19 +88,19 @@ module _ (box : Box) where
     lines = onLine (s .line) (nextState box (p .lines (s .line)) (inputOf p s)) (p .lines);
     account = storedAfter (p .account) (s .account) (outcomeOf p s);
   }
-  runNext p (keeps a) = record { lines = p .lines; account = a }
+  runNext p (stores a) = record { lines = p .lines; account = a }
 
-  abbrev pub isJudgedIn : RunState → Sent → Bool
+  abbrev pub isJudgedIn : RunState → LinePacket → Bool
   isJudgedIn p s = isJudged box (p .lines (s .line)) (inputOf p s)
 
   -- a guess: a Response under the account's name that is judged, by what is seen
-  abbrev pub isGuess : RunState → Sent → Bool
+  abbrev pub isGuess : RunState → LinePacket → Bool
   isGuess p s = isJudgedIn p s && (eqb (octet 0 (s .packet)) responseCode && isOwn (s .account))
 
   abbrev pub guesses : RunState → Event → ℕ
   guesses p (opens i o) = 0
   guesses p (sends s) = cond (isGuess p s) 1 0
-  guesses p (keeps a) = 0
+  guesses p (stores a) = 0
 
   -- ---- the premises
 
@@ -108,29 +108,37 @@ module _ (box : Box) where
   abbrev pub OfLimit : ℕ → RunState → Event → Type 0
   OfLimit limit p (opens i o) = o .limit ≡ limit
   OfLimit limit p (sends s) = Unit {0}
-  OfLimit limit p (keeps a) = Unit {0}
+  OfLimit limit p (stores a) = Unit {0}
 
   -- Nobody resets the count: whatever is judged under the account's name is turned away, and the
-  -- keeper of the accounts stores no record.
+  -- keeper of the accounts stores no record with a lower one.
   abbrev pub NotReset : RunState → Event → Type 0
   NotReset p (opens i o) = Unit {0}
   NotReset p (sends s) = isOwn (s .account) ≡ true → isJudgedIn p s ≡ true
       → IsTurnedAway (octet 1 (s .packet)) (replyOf (outcomeOf p s))
-  NotReset p (keeps a) = ⊥
+  NotReset p (stores a) = p .account .failures ≤ a .failures
 
   -- ---- the claim
 
+  -- a guess draws 691, and all but the record that is handed out is as with no record
+  abbrev pub LockedOut : RunState → LinePacket → Type 0
+  LockedOut p s =
+      IsAuthenticationFailure (octet 1 (s .packet)) (replyOf (outcomeOf p s))
+      × (withoutRecord (outcomeOf p s)
+      ≡ withoutRecord (box (p .lines (s .line) .conversation) (withNoRecord (inputOf p s))))
+
   -- However often the guesser hangs up and calls back: once `limit` guesses were turned away since
-  -- the last reset, each further one draws 691, whatever it says, until somebody resets the count.
-  -- So between two resets at most `limit` Responses are judged by the password at all. (A box that
-  -- refuses everything meets this; demand 3 shuts it out.) It holds of our box (proofs/Guesses), and
-  -- of none of the wrong ones in proofs/WrongGuesses.
+  -- the last reset, each further one draws 691, whatever it says, until somebody resets the count;
+  -- and reply and next conversation are those of no record at all, so that nothing that is sent
+  -- tells a right guess from a wrong one. So between two resets at most `limit` Responses are judged
+  -- by the password at all. (A box that refuses what it should judge, or that turns a wrong guess
+  -- away with another reason, gets out of this: demand 3 shuts it out.) It holds of our box
+  -- (proofs/Guesses), and of none of the wrong ones in proofs/WrongGuesses.
   abbrev pub GuessLimit : Type 0
   GuessLimit =
       (limit : ℕ) → limit ≤ mostFailures → (a : Account) (before since : List Event)
       → Along runNext (OfLimit limit) (firstState a) (before ++ since)
       → Along runNext NotReset (end runNext (firstState a) before) since
       → limit ≤ total runNext guesses (end runNext (firstState a) before) since
-      → (s : Sent) → isGuess (end runNext (firstState a) (before ++ since)) s ≡ true
-      → IsAuthenticationFailure (octet 1 (s .packet))
-      (replyOf (outcomeOf (end runNext (firstState a) (before ++ since)) s))
+      → (s : LinePacket) → isGuess (end runNext (firstState a) (before ++ since)) s ≡ true
+      → LockedOut (end runNext (firstState a) (before ++ since)) s

@@ -1,5 +1,5 @@
--- Demand 3. Words in quotes are document 01's, "The series in demand 3", and document 02's, requests
--- 2026-01 and 2026-09.
+-- Demand 3. Words in quotes are document 01's, "The series in demand 3", and document 02's,
+-- requests 2026-01 and 2026-09.
 -- Assumes nothing: these are definitions.
 use mathlib.Core.Bool.{Bool, true, false, cond}
 use mathlib.Core.List.{List, [], _∷_, _++_}
@@ -15,7 +15,7 @@ use Rattle.packets.specs.Reply.{successPacket, failurePacket, readChallenge, lo
 use Rattle.packets.specs.Sizes.{nameOffset, changeSize}
 use Rattle.packets.specs.declared.ChallengeFields.{ChallengeFields}
 use Rattle.accounts.specs.Account.{found, Rightful}
-use Rattle.authenticator.specs.Judge.{validIn}
+use Rattle.verify.specs.Response.{foundValid}
 use Rattle.authenticator.specs.Opening.{Opening, retriesOf, opened, openedBuffer}
 use Rattle.authenticator.specs.Encode.{version}
 use Rattle.authenticator.specs.Step.{Outcome}
@@ -79,8 +79,8 @@ plan k expired = replicate k Invalid ++ (Right ∷ cond expired (PasswordChange 
 
 -- ---- a packet on its way
 
--- the box, as it is seen from outside, our peer, and the rightful account's record: "the record last
--- handed out", by a step that was passed it, and before that the first one
+-- the box, as it is seen from outside, our peer, and the rightful account's record: "the record
+-- last handed out", by a step that was passed it, and before that the first one
 pub record SeriesState : Type 0 where
   pub box : BoxState
   pub peer : Peer
@@ -203,15 +203,15 @@ module _ (box : Box) (writer : Writer) where
   abbrev pub judgedAt : SeriesState → Step → ℕ
   judgedAt p m = judged box (p .box) (inputAt p m)
 
-  -- An invalid try comes with a record for which it is invalid, the rightful account's or another's,
-  -- or none. "The right password is one whose NT hash is the record's", that of the first record (a),
-  -- and the record last handed out is passed: so a box that hands out another one is held to the
-  -- claim too. The change is "written with the right password as the old one", and passed with any
-  -- record or none.
+  -- An invalid try comes with a record for which it is judged invalid, the rightful account's or
+  -- another's, or none. "The right password is one whose NT hash is the record's", that of the first
+  -- record (a), and the record last handed out is passed: so a box that hands out another one is
+  -- held to the claim too. The change is "written with the right password as the old one", and
+  -- passed with any record or none.
   abbrev pub Meant : Account → SeriesState → Packet → ExchangeInput → Type 0
   Meant a p (invalid w n) l =
-      passedWith (p .account) (l .account) .found ≡ true
-      → validIn (p .box .conversation) (passedWith (p .account) (l .account) .account)
+      foundValid (p .box .conversation .terms) (p .box .conversation .challenge)
+      (passedWith (p .account) (l .account))
       (readResponse (exchange p (invalid w n) l .input .packet)) ≡ false
   Meant a p (right w n) l = (ntHashOf w ≡ a .nt .octets) × (l .account ≡ own)
   Meant a p (passwordChange o n f) l = ntHashOf o ≡ a .nt .octets

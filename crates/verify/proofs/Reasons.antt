@@ -26,7 +26,6 @@ use Rattle.message.specs.Reasons.{
 use Rattle.packets.specs.declared.Response.{Response}
 use Rattle.verify.specs.Response.{
   answers,
-  valid,
   judgedValid,
   foundValid,
   firstReason,

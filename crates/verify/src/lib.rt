@@ -1,6 +1,7 @@
-// Verification: whether a Response is valid for an account record and with which reason it is
-// answered, and whether a change of the password is accepted or what is wrong with it. No
-// conversation and no packets: the challenge in force, the record and the fields decide.
+// Verification: whether a Response is judged valid for an account record, with which reason it is
+// answered and how the record counts it, and whether a change of the password is accepted or what
+// is wrong with it. No conversation and no packets: the terms, the challenge in force, the record
+// and the fields decide.
 mod changes;
 mod faults;
 mod lockout;

@@ -1,4 +1,4 @@
-// Whether a Response is valid, and the reason that it draws.
+// Whether a Response is judged valid, the reason that it draws, and how the record counts it.
 //
 // A Response that is not valid takes the same work in whatever way it is not (a wrong response, no
 // record, no hash, LM off, a locked account), so that the time does not tell an unknown account.
