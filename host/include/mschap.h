@@ -79,7 +79,8 @@
  *   disabled, barred or expired. At the limit or over it the account is locked: every Response
  *   draws MSCHAP_E_AUTHENTICATION_FAILURE, whatever it says. There an invalid one still adds 1, to
  *   at most 255, and a valid one leaves the count as it is. An accepted change of the password sets
- *   it to 0. Responses by LM count as others do, also where LM is off, so that none is valid.
+ *   it to 0, also where others have locked the account since its owner was asked for the change.
+ *   Responses by LM count as others do, also where LM is off, so that none is valid.
  *   So there are at most n guesses at a password, on all lines together, until its owner logs on or
  *   the account is unlocked.
  *

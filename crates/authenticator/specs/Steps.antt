@@ -122,10 +122,10 @@ module _ (box : Box) where
   -- as it was, and no record is handed out". A repeat "draws the same reply octets", whatever else
   -- is in it, and the octets of the buffer behind them stay. The box calls a step what it is:
   -- refused exactly where no reply is drawn, and repeated exactly where it is a repeat. What the
-  -- rules neither refuse nor take for a repeat is judged: a refusal is "given exactly when" its rule
-  -- says. "The box hands out the record after every judged Response where there is one", as it was
-  -- passed but for its count, and that by the rule; where there was none it hands out none. And what
-  -- the opening fixed stays.
+  -- rules neither refuse nor take for a repeat is judged: a refusal is "given exactly when" its
+  -- rule says. "The box hands out the record after every judged Response where there is one", as it
+  -- was passed but for its count, and that by the rule; where there was none it hands out none. And
+  -- what the opening fixed stays.
   pub record StepClaim (p : BoxState) (s : StepInput) : Type 0 where
     pub leaves : judged p s ≡ 0
         → (nextAfter (p .conversation) s ≡ p .conversation)

@@ -1,5 +1,5 @@
-// A slip of docs/SLIPS.md: a guesser who hangs up and calls back. The record goes from call to call,
-// with its count. (A crate of its own, as the check of `slips` is long enough.)
+// A slip of docs/SLIPS.md: a guesser who hangs up and calls back. The record goes from call to
+// call, with its count. (A crate of its own, as the check of `slips` is long enough.)
 use authenticator::Retries;
 use loopback::IssuedList;
 use loopback::Loopback;

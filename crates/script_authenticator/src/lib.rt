@@ -1,5 +1,5 @@
-// The commands of the box (the authenticator): the name in a Response, the record, the limit and the
-// list that are passed, an opening and a step.
+// The commands of the box (the authenticator): the name in a Response, the record, the limit and
+// the list that are passed, an opening and a step.
 mod conversations;
 mod lists;
 mod names;

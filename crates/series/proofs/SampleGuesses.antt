@@ -26,11 +26,13 @@ use Rattle.authenticator.specs.Judge.{validIn, replyFor, judgeResponse, judge}
 use Rattle.authenticator.specs.Encode.{replyPacket}
 use Rattle.authenticator.specs.Opening.{firstConversation}
 use Rattle.authenticator.specs.Step.{Outcome, refusalIn, isRepeated, judgedAs}
-use Rattle.authenticator.specs.Steps.{StepInput, stepOn, Box, replyOf, drewReply, unanswered, isJudged}
+use Rattle.authenticator.specs.Steps.{StepInput, stepOn, Box, replyOf, drewReply, unanswered}
+use Rattle.authenticator.specs.Steps.{ruledRefusal, isJudged}
 use Rattle.authenticator.specs.declared.Conversation.{Conversation}
 use Rattle.authenticator.specs.declared.Judgement.{Judgement}
 use Rattle.authenticator.specs.declared.Retries.the-variants.{Count}
 use Rattle.authenticator.proofs.Admitted.{Passes}
+use Rattle.authenticator.proofs.Admitted as admitted
 use Rattle.authenticator.proofs.Fresh.{fresh-first}
 use Rattle.authenticator.proofs.Steps.{judged-step, reply-of, drew-judged}
 use Rattle.peer.specs.Write.{responseFields, responseFor}
@@ -91,6 +93,10 @@ module _ (limit n : ℕ) (v : Bool) where
   passes : Passes first (packetSaying v) (replicate 17 0)
   passes = response-passes first (fresh-first first refl) refl (omega arith) (back v) refl
       (flag-small v)
+
+  -- so the rules refuse it in no way
+  pub passes-first : ruledRefusal (unanswered first) guess ≡ 0
+  passes-first = admitted.passes first (packetSaying v) (replicate 17 0) passes
 
   -- the one is valid, and the other is not
   pub said-valid : (w : Bool) → validIn first (counting n) (readResponse (packetSaying w)) ≡ w

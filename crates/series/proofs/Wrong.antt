@@ -2,16 +2,17 @@
 -- always, the change leaves the record, pretends on retries, retries do not fall. So the statement
 -- is strong enough to shut them out.
 -- Assumes nothing.
-use mathlib.Core.Bool.{Bool, true, false, cond, false≢true}
+use mathlib.Core.Bool.{Bool, true, false, cond, _&&_, false≢true}
 use mathlib.Core.List.{List, [], _∷_, _++_}
 use mathlib.Core.Path.{_≡_, refl, sym, ap, _∙_, subst}
 use Prim.Native.Nat.{ℕ, _≤_, _<_}
 use native.Mathlib.Omega.{arith}
-use borrow.Author.Tests.{eqb-false}
+use borrow.Author.Tests.{eq-eqb, eqb-false}
 use lib.Dec.{eqb, ltb}
 use lib.ListN.{length, replicate}
 use Rattle.octets.specs.Digits.{hexOf}
 use Rattle.message.specs.Message.{textOf}
+use Rattle.packets.specs.Codes.{changeCode}
 use Rattle.packets.specs.Frame.{octet}
 use Rattle.packets.specs.Response.{readResponse, responseRefusal}
 use Rattle.packets.specs.Reply.{successPacket, failurePacket}
@@ -272,10 +273,14 @@ unfolding failurePacket textOf hexOf
 four-of id = refl
 
 -- a record that is handed out is the kept one
-kept-handed : (t : Bool) (a : Account) → cond t (found a) notFound .found ≡ true
-    → cond t (found a) notFound .account ≡ a
-kept-handed true a h = refl
-kept-handed false a h = absurd (false≢true h)
+kept-handed : (a : Account) (l : Lookup) → cond (l .found) (found a) l .found ≡ true
+    → cond (l .found) (found a) l .account ≡ a
+kept-handed a l h = which (l .found) refl h
+  where
+    which : (t : Bool) → l .found ≡ t → cond t (found a) l .found ≡ true
+        → cond t (found a) l .account ≡ a
+    which true e k = refl
+    which false e k = absurd (false≢true (sym e ∙ k))
 
 -- so what is handed out is expired, and does not let the new password in
 pub not-leaving-record : Demand3 (judging leavesRecord) ourWriter → ⊥
@@ -300,13 +305,15 @@ not-leaving-record h =
     ∙ ap (λ (c : Conversation). awaitedCode (c .phase)) first-default in
     let sent = sent-carries box q (line 1118 own) newPassword (all .0 .1 .0 .1) .0 in
     let fresh = other-code (q .box .conversation) t (λ e. omega (arith, sym sent ∙ e ∙ last)) in
+    let d = judge (q .box .conversation) (t .packet) (t .account) .updated in
     let changed = ap (λ (o : Outcome). o .answer .updated)
     (drew leavesRecord (q .box .conversation) t fresh
     (ap (octet 0) (answered .0 .0) ∙ success-code _)
-    (omega arith)) in
+    (omega arith))
+    ∙ ap (λ (x : Bool). cond (x && d .found) (found (q .box .conversation .kept)) d)
+    (eq-eqb (octet 0 (t .packet)) changeCode sent) in
     let updated = ap (λ (b : Lookup). b .account) changed
-    ∙ kept-handed (judge (q .box .conversation) (t .packet) (t .account) .updated .found)
-    (q .box .conversation .kept)
+    ∙ kept-handed (q .box .conversation .kept) d
     (sym (ap (λ (b : Lookup). b .found) changed) ∙ answered .1) ∙ kept in
     let lets = subst (λ (b : Account). LetsIn box ourWriter b new) updated (answered .2) in
     let r = later box ourWriter (opening Default) [] (account true) [] in

@@ -1,8 +1,9 @@
 -- Demand 3 holds of no box that judges as ours does and counts by another rule: of all rules, the
 -- request's alone hands out the record that it should. Four of them by name: from the first record
--- every time, wrapping at 255, cleared by the right password at the limit, not at all.
+-- every time, wrapping at 255, cleared by the right password at the limit, not at all. Nor of one
+-- that says nothing to some of the guesses that it should judge, so that they are not counted.
 -- Assumes nothing.
-use mathlib.Core.Bool.{Bool, true, false, cond, false≢true}
+use mathlib.Core.Bool.{Bool, true, false, cond, not, _&&_, false≢true}
 use mathlib.Core.List.{[], _∷_}
 use mathlib.Core.Logic.{_≢_}
 use mathlib.Core.Path.{_≡_, refl, sym, ap, ap₂, _∙_, subst}
@@ -10,18 +11,22 @@ use Prim.Native.Nat.{ℕ, zero, suc, _<_}
 use native.Mathlib.Omega.{arith}
 use borrow.Author.Tests.{le-leb, lt-leb}
 use lib.Dec.{leb}
+use Rattle.octets.proofs.Parts.{agrees-refl}
 use Rattle.accounts.specs.declared.Lookup.{Lookup}
 use Rattle.verify.specs.Lockout.{failuresAfter}
-use Rattle.authenticator.specs.Steps.{unanswered, StepClaim}
+use Rattle.authenticator.specs.Step.{Outcome, refusedAs}
+use Rattle.authenticator.specs.Steps.{StepInput, stepOn, drewReply, unanswered, StepClaim}
 use Rattle.authenticator.specs.declared.Conversation.{Conversation}
 use Rattle.authenticator.specs.declared.Retries.the-variants.{Count}
 use Rattle.authenticator.proofs.Openings.{opened-first}
 use Rattle.series.specs.Series.{Demand3}
 use Rattle.series.specs.Boxes.{judging, CountRule, countsBy, fromFirst, wrapping, clearing}
-use Rattle.series.specs.Boxes.{notCounting}
+use Rattle.series.specs.Boxes.{notCounting, silentTo, rightWhereLocked, wrongAtLast}
 use Rattle.series.specs.Writers.{ourWriter}
 use Rattle.series.proofs.Sample.{openingOf, opens-limited}
-use Rattle.series.proofs.SampleGuesses.{guess, said-code, said-valid, by-rule}
+use Rattle.series.proofs.Sent.{seen-new}
+use Rattle.series.proofs.SampleGuesses.{first, guess, said-code, said-valid, passes-first}
+use Rattle.series.proofs.SampleGuesses.{by-rule}
 
 -- a limit at which a count is locked, or is not
 abbrev limitFor : Bool → ℕ → ℕ
@@ -72,3 +77,32 @@ not-clearing = one-rule clearing true true 1 (λ e. omega arith) (λ e. omega (a
 pub not-without-count : Demand3 (judging (countsBy notCounting)) ourWriter → ⊥
 unfolding failuresAfter
 not-without-count = one-rule notCounting false false 0 (λ e. absurd (false≢true e)) (λ e. omega (arith, e))
+
+-- ---- says nothing to some of what it should judge
+
+-- wherever the first Response of a conversation is among it: a right guess at a locked account, or
+-- a wrong one with no retries left
+pub not-silent : (some : Conversation → StepInput → Bool) (number limit n : ℕ) (v : Bool) → 0 < limit
+    → some (first limit n v) (guess limit n v) ≡ true
+    → Demand3 (silentTo some number) ourWriter → ⊥
+not-silent some number limit n v pos here h =
+    let o = openingOf (Count 0) limit in
+    let opens = opens-limited limit pos in
+    let s = guess limit n v in
+    let claim = subst (λ (c : Conversation). StepClaim (silentTo some number) (unanswered c) s)
+    (opened-first o opens) (h o opens refl .2 (s ∷ []) .1 .0) in
+    let judges = claim .takes (passes-first limit n v) (seen-new (unanswered (first limit n v)) s refl)
+    in
+    let nothing = ap₂ (λ (x : Outcome) (y : Bool). drewReply x (s .buffer) && not y)
+    (ap (λ (t : Bool). cond t (refusedAs number (first limit n v) (s .buffer))
+    (stepOn (first limit n v) s)) here) (seen-new (unanswered (first limit n v)) s refl) in
+    false≢true (sym (ap (λ (t : Bool). not t && true) (agrees-refl (s .buffer))) ∙ sym nothing ∙ judges)
+
+-- the two
+pub not-silent-where-locked : (number : ℕ) → Demand3 (silentTo rightWhereLocked number) ourWriter → ⊥
+not-silent-where-locked number =
+    not-silent rightWhereLocked number 1 1 true (omega arith) (said-valid 1 1 true true)
+
+pub not-silent-at-last : (number : ℕ) → Demand3 (silentTo wrongAtLast number) ourWriter → ⊥
+not-silent-at-last number =
+    not-silent wrongAtLast number 1 0 false (omega arith) (ap not (said-valid 1 0 false false))

@@ -2,7 +2,7 @@
 -- first record every time, wrap at 255, are cleared by the right password at the limit, or count
 -- nothing; some count as ours does, and lock over the limit only, or never. Each is shown a run of
 -- calls whose guesses are turned away, as many as the limit or more, after which the right password
--- gets in. One tells a right guess at a locked account by its R.
+-- gets in.
 -- Assumes nothing.
 use mathlib.Core.Bool.{Bool, true, false, cond, not, _&&_}
 use mathlib.Core.List.{List, [], _∷_}

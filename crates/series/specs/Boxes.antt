@@ -175,19 +175,22 @@ limitedTo other c s =
       updated = d .updated;
     }
 
--- by its own limit, and tells a right guess at a locked account: it gives that one no retry
-abbrev pub tellsRight : Judge
-tellsRight c s =
-    cond (isLocked (c .terms) (s .account .account)
-    && validIn c (s .account .account) (readResponse (s .packet)))
-    (judge (withRetries 0 c) (s .packet) (s .account)) (judge c (s .packet) (s .account))
-
 -- ---- boxes that judge as ours does, but say nothing to some of what they should judge
 
--- whatever number they give: to a right guess at a locked account, for instance, or to a wrong one
--- with no retries left, which is then not counted
+-- whatever number they give
 abbrev pub silentTo : (Conversation → StepInput → Bool) → ℕ → Box
 silentTo some n c s = cond (some c s) (refusing n c s) (stepOn c s)
+
+-- to a right guess at a locked account, or to a wrong one with no retries left, which is then not
+-- counted
+abbrev pub isRight : Conversation → StepInput → Bool
+isRight c s = validIn c (s .account .account) (readResponse (s .packet))
+
+abbrev pub rightWhereLocked : Conversation → StepInput → Bool
+rightWhereLocked c s = isLocked (c .terms) (s .account .account) && isRight c s
+
+abbrev pub wrongAtLast : Conversation → StepInput → Bool
+wrongAtLast c s = eqb (c .retries) 0 && not (isRight c s)
 
 -- ---- boxes that judge as ours does, and answer otherwise what ours refuses
 

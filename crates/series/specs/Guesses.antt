@@ -130,9 +130,9 @@ module _ (box : Box) where
   -- However often the guesser hangs up and calls back: once `limit` guesses were turned away since
   -- the last reset, each further one draws 691, whatever it says, until somebody resets the count;
   -- and reply and next conversation are those of no record at all, so that nothing that is sent
-  -- tells a right guess from a wrong one. So between two resets at most `limit` Responses are judged
-  -- by the password at all. (A box that refuses what it should judge, or that turns a wrong guess
-  -- away with another reason, gets out of this: demand 3 shuts it out.) It holds of our box
+  -- tells a right guess from a wrong one. So between two resets at most `limit` Responses are
+  -- judged by the password at all. (A box that refuses what it should judge, or that turns a wrong
+  -- guess away with another reason, gets out of this: demand 3 shuts it out.) It holds of our box
   -- (proofs/Guesses), and of none of the wrong ones in proofs/WrongGuesses.
   abbrev pub GuessLimit : Type 0
   GuessLimit =

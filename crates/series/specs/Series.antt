@@ -204,9 +204,9 @@ module _ (box : Box) (writer : Writer) where
   judgedAt p m = judged box (p .box) (inputAt p m)
 
   -- An invalid try comes with a record for which it is judged invalid, the rightful account's or
-  -- another's, or none. "The right password is one whose NT hash is the record's", that of the first
-  -- record (a), and the record last handed out is passed: so a box that hands out another one is
-  -- held to the claim too. The change is "written with the right password as the old one", and
+  -- another's, or none. "The right password is one whose NT hash is the record's", that of the
+  -- first record (a), and the record last handed out is passed: so a box that hands out another one
+  -- is held to the claim too. The change is "written with the right password as the old one", and
   -- passed with any record or none.
   abbrev pub Meant : Account → SeriesState → Packet → ExchangeInput → Type 0
   Meant a p (invalid w n) l =
