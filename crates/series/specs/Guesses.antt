@@ -104,7 +104,7 @@ module _ (box : Box) where
 
   -- ---- the premises
 
-  -- "each with any opening of one limit"
+  -- every opening has one limit, and any other values
   abbrev pub OfLimit : ℕ → RunState → Event → Type 0
   OfLimit limit p (opens i o) = o .limit ≡ limit
   OfLimit limit p (sends s) = Unit {0}
