@@ -1,17 +1,22 @@
--- Account records (document 01, "How the box judges", and document 02, request 2026-09): how one is
--- made, what a lookup finds, how one is updated, and which are the rightful user's.
+-- Account records (document 01, "How the box judges", and document 02, requests 2026-09 and
+-- 2026-10): how one is made, what a lookup finds, how one is updated, in which the round keys agree
+-- with the hashes, and which are the rightful user's.
 -- Assumes nothing: these are definitions.
-use mathlib.Core.Bool.{Bool, true, false}
+use mathlib.Core.Bool.{Bool, true, false, cond}
 use mathlib.Core.List.{List}
 use mathlib.Core.Option.{Option, none, some}
 use mathlib.Core.Path.{_≡_}
 use Prim.Native.Nat.{ℕ}
 use lib.ListN.{replicate}
+use Rattle.credentials.specs.Credentials.{schedulesOf, schedulesSize}
 use Rattle.accounts.specs.declared.Hash.{Hash}
+use Rattle.accounts.specs.declared.Schedules.{Schedules}
 use Rattle.accounts.specs.declared.Account.{Account}
+use Rattle.accounts.specs.declared.Entry.{Entry}
 use Rattle.accounts.specs.declared.Lookup.{Lookup}
+use Rattle.accounts.specs.declared.EntryLookup.{EntryLookup}
 
--- ---- made
+-- ---- hashes
 
 abbrev pub hashIf : Bool → List ℕ → Hash
 hashIf present h = record { present = present; octets = h }
@@ -26,10 +31,22 @@ abbrev pub hashFrom : Option (List ℕ) → Hash
 hashFrom none = noHash
 hashFrom (some h) = hashOf h
 
+-- ---- round keys
+
+-- none: zeros
+abbrev pub noSchedules : Schedules
+noSchedules = record { keys = replicate schedulesSize 0 }
+
+-- "the three schedules beside each hash"; none where there is no hash
+abbrev pub schedulesFor : Hash → Schedules
+schedulesFor h = cond (h .present) (record { keys = schedulesOf (h .octets) }) noSchedules
+
+-- ---- entries: records without their round keys
+
 -- NT hash, LM hash, and the marks disabled, barred by hours, no dial-in, expired. "A count of
 -- invalid Responses in a row, 0 in a record newly made".
-abbrev pub accountWith : Hash → Hash → Bool → Bool → Bool → Bool → Account
-accountWith nt lm disabled hours dialin expired =
+abbrev pub entryWith : Hash → Hash → Bool → Bool → Bool → Bool → Entry
+entryWith nt lm disabled hours dialin expired =
     record {
       nt = nt;
       lm = lm;
@@ -41,8 +58,67 @@ accountWith nt lm disabled hours dialin expired =
     }
 
 -- neither hash, no mark
+abbrev pub blankEntry : Entry
+blankEntry = entryWith noHash noHash false false false false
+
+-- the same entry with another count
+abbrev pub entryFailures : ℕ → Entry → Entry
+entryFailures n e =
+    record {
+      nt = e .nt;
+      lm = e .lm;
+      disabled = e .disabled;
+      «hours_denied» = e .«hours_denied»;
+      «dialin_denied» = e .«dialin_denied»;
+      expired = e .expired;
+      failures = n;
+    }
+
+-- after an accepted change: the new NT hash, no LM hash, expired cleared, the other marks kept; "an
+-- accepted change sets the count to 0"
+abbrev pub changedEntry : Entry → List ℕ → Entry
+changedEntry e h =
+    entryWith (hashOf h) noHash (e .disabled) (e .«hours_denied») (e .«dialin_denied») false
+
+-- ---- records made
+
+-- an entry with round keys beside its hashes, whosever they are
+abbrev pub withSchedules : Entry → Schedules → Schedules → Account
+withSchedules e nt lm =
+    record {
+      nt = e .nt;
+      lm = e .lm;
+      disabled = e .disabled;
+      «hours_denied» = e .«hours_denied»;
+      «dialin_denied» = e .«dialin_denied»;
+      expired = e .expired;
+      failures = e .failures;
+      «nt_keys» = nt;
+      «lm_keys» = lm;
+    }
+
+abbrev pub entryOf : Account → Entry
+entryOf a =
+    record {
+      nt = a .nt;
+      lm = a .lm;
+      disabled = a .disabled;
+      «hours_denied» = a .«hours_denied»;
+      «dialin_denied» = a .«dialin_denied»;
+      expired = a .expired;
+      failures = a .failures;
+    }
+
+-- with the round keys of its own hashes
+abbrev pub accountOf : Entry → Account
+accountOf e = withSchedules e (schedulesFor (e .nt)) (schedulesFor (e .lm))
+
+abbrev pub accountWith : Hash → Hash → Bool → Bool → Bool → Bool → Account
+accountWith nt lm disabled hours dialin expired =
+    accountOf (entryWith nt lm disabled hours dialin expired)
+
 abbrev pub blankAccount : Account
-blankAccount = accountWith noHash noHash false false false false
+blankAccount = accountOf blankEntry
 
 -- ---- looked up
 
@@ -55,26 +131,34 @@ found a = lookupOf true a
 abbrev pub notFound : Lookup
 notFound = lookupOf false blankAccount
 
+-- the same without the round keys
+abbrev pub noEntry : EntryLookup
+noEntry = record { found = false; entry = blankEntry }
+
+abbrev pub entryLookupOf : Lookup → EntryLookup
+entryLookupOf l = record { found = l .found; entry = entryOf (l .account) }
+
 -- ---- updated
 
--- after an accepted change: the new NT hash, no LM hash, expired cleared, the other marks kept; "an
--- accepted change sets the count to 0"
-abbrev pub changed : Account → List ℕ → Account
-changed a h =
-    accountWith (hashOf h) noHash (a .disabled) (a .«hours_denied») (a .«dialin_denied») false
+-- a new hash has its own round keys
+abbrev pub changed : Entry → List ℕ → Account
+changed e h = accountOf (changedEntry e h)
 
--- the same record with another count
+-- the same record with another count: "where its hash stays, handed out with them"
 abbrev pub withFailures : ℕ → Account → Account
 withFailures n a =
-    record {
-      nt = a .nt;
-      lm = a .lm;
-      disabled = a .disabled;
-      «hours_denied» = a .«hours_denied»;
-      «dialin_denied» = a .«dialin_denied»;
-      expired = a .expired;
-      failures = n;
-    }
+    withSchedules (entryFailures n (entryOf a)) (a .«nt_keys») (a .«lm_keys»)
+
+-- ---- round keys that agree with the hashes
+
+-- Beside each hash that is there are its own. What stands beside one that is not has no effect.
+pub record Agree (a : Account) : Type 0 where
+  pub nt : a .nt .present ≡ true → a .«nt_keys» .keys ≡ schedulesOf (a .nt .octets)
+  pub lm : a .lm .present ≡ true → a .«lm_keys» .keys ≡ schedulesOf (a .lm .octets)
+
+-- of a record, or none
+abbrev pub AgreeIn : Lookup → Type 0
+AgreeIn l = l .found ≡ true → Agree (l .account)
 
 -- ---- permitted to log on
 

@@ -11,7 +11,8 @@ use lib.Dec.{eqb, ltb}
 use Rattle.packets.specs.Response.{readResponse}
 use Rattle.packets.specs.declared.Response as responses
 use Rattle.packets.specs.declared.Change as changes
-use Rattle.accounts.specs.declared.Account.{Account}
+use Rattle.accounts.specs.Account.{entryOf}
+use Rattle.accounts.specs.declared.Entry.{Entry}
 use Rattle.accounts.specs.declared.Lookup.{Lookup}
 use Rattle.message.specs.Reasons.{authenticationFailure, passwordExpired}
 use Rattle.verify.specs.Response.{counted, responseReason}
@@ -43,7 +44,7 @@ pub left-first : (o : Opening) → leftIn (firstConversation o) ≡ retriesOf (o
 left-first o = refl
 
 -- a retry, a kept record, the end
-after-less : (c : Conversation) (a : Account) (e : ℕ) → c .phase ≡ Response
+after-less : (c : Conversation) (a : Entry) (e : ℕ) → c .phase ≡ Response
     → leftIn (afterReason c a e) < c .retries + 2
 after-less c a e ph = which (eqb e authenticationFailure) (ltb 0 (c .retries))
     (eqb e passwordExpired) refl
@@ -61,7 +62,8 @@ after-less c a e ph = which (eqb e authenticationFailure) (ltb 0 (c .retries))
 response-less : (c : Conversation) (l : Lookup) (f : responses.Response) → c .phase ≡ Response
     → leftIn (judgeResponse c l f .next) < c .retries + 2
 unfolding judgeResponse
-response-less c l f ph = after-less c (counted (c .terms) (c .challenge) (l .account) f)
+response-less c l f ph = after-less c
+    (entryOf (counted (c .terms) (c .challenge) (l .account) f))
     (responseReason (c .terms) (c .challenge) l f) ph
 
 change-less : (c : Conversation) (f : changes.Change) → leftIn (judgeChange c f .next) < 1

@@ -2,14 +2,14 @@
 -- is the first fault that holds, it stands "beside the 709" and nowhere else, and "Replies on the
 -- wire do not change": nothing of it is in the reply, nor in the next conversation.
 -- Assumes nothing.
-use mathlib.Core.Bool.{Bool, true, false}
+use mathlib.Core.Bool.{Bool, true, false, cond}
 use mathlib.Core.List.{List}
 use mathlib.Core.Logic.{_≢_}
 use mathlib.Core.Path.{_≡_, refl, sym, ap, _∙_, subst}
 use Prim.Native.Nat.{ℕ}
 use native.Mathlib.Omega.{arith}
 use borrow.Author.Tests.{eq-eqb, eqb-true}
-use Rattle.accounts.specs.Account.{notFound}
+use Rattle.accounts.specs.Account.{notFound, found, changed}
 use Rattle.accounts.specs.declared.Lookup.{Lookup}
 use Rattle.message.specs.Message.{textOf}
 use Rattle.message.specs.Reasons.{changingPassword}
@@ -30,13 +30,12 @@ use Rattle.authenticator.specs.Conversation.{ended}
 use Rattle.authenticator.specs.Encode.{version}
 use Rattle.authenticator.specs.Step.{Outcome, judgedAs, stepFault, step}
 use Rattle.authenticator.specs.declared.Conversation.{Conversation}
-use Rattle.authenticator.specs.declared.Judgement.{Judgement}
+use Rattle.authenticator.specs.Judge.{Judgement}
 use Rattle.authenticator.specs.declared.Kind.the-variants.{Judged}
 use Rattle.authenticator.specs.declared.Phase.{Phase}
 use Rattle.authenticator.specs.declared.Phase.the-variants.{Response, Change, Ended}
-use Rattle.authenticator.specs.declared.Reply.the-variants.{Failure}
+use Rattle.authenticator.specs.declared.Reply.the-variants.{Success, Failure}
 use Rattle.authenticator.proofs.Admitted.{Passes}
-use Rattle.authenticator.proofs.Judgements.{chosen}
 use Rattle.authenticator.proofs.Replies.{reason-of-reply}
 use Rattle.authenticator.proofs.Steps.{Case, refused, repeated, judged, case-of, judged-step}
 use Rattle.authenticator.proofs.Steps.{fault-step}
@@ -54,6 +53,16 @@ notAccepted c fault =
 module _ (c : Conversation) (p : List ℕ) (l : Lookup) where
   -- ---- a judgement
 
+  -- of a change, by whether it is accepted
+  abbrev chosen : CheckedChange → Bool → Judgement
+  chosen v t =
+      record {
+        reply = cond t Success (Failure changingPassword false);
+        fault = v .fault;
+        next = ended c;
+        updated = cond t (found (changed (c .kept) (v .hash))) notFound;
+      }
+
   fault-judged : (ph : Phase) → faultNumber (judgeIn ph c p l .fault) ≢ 0
       → judgeIn ph c p l ≡ notAccepted c (judgeIn ph c p l .fault)
   unfolding judgeResponse judgeChange
@@ -63,7 +72,7 @@ module _ (c : Conversation) (p : List ℕ) (l : Lookup) where
       v : CheckedChange
       v = checkedChange (c .kept) (c .challenge) (readChange p)
 
-      which : (t : Bool) → isFaultless (v .fault) ≡ t → chosen c v t ≡ notAccepted c (v .fault)
+      which : (t : Bool) → isFaultless (v .fault) ≡ t → chosen v t ≡ notAccepted c (v .fault)
       which true e = absurd (n (eqb-true (faultNumber (v .fault)) 0 e))
       which false e = refl
   fault-judged Ended n = absurd (n refl)
@@ -77,7 +86,7 @@ module _ (c : Conversation) (p : List ℕ) (l : Lookup) where
       (sym (reason-of-reply c reason) ∙ e)
   reply-fault Change e z =
       let v = checkedChange (c .kept) (c .challenge) (readChange p) in
-      let success = ap (λ (t : Bool). reasonOf (chosen c v t .reply))
+      let success = ap (λ (t : Bool). reasonOf (chosen v t .reply))
       (eq-eqb (faultNumber (v .fault)) 0 z) in
       omega (arith, e, success)
   reply-fault Ended e z = omega (arith, e)

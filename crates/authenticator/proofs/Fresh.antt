@@ -9,7 +9,8 @@ use Prim.Native.Nat.{ℕ}
 use native.Mathlib.Omega.{arith}
 use borrow.Author.Tests.{ne-eqb}
 use lib.Dec.{eqb, ltb}
-use Rattle.accounts.specs.declared.Account.{Account}
+use Rattle.accounts.specs.Account.{entryOf}
+use Rattle.accounts.specs.declared.Entry.{Entry}
 use Rattle.accounts.specs.declared.Lookup.{Lookup}
 use Rattle.challenges.specs.Challenges.{nextId}
 use Rattle.message.specs.Reasons.{authenticationFailure, passwordExpired}
@@ -67,7 +68,7 @@ next-differs i e = omega (arith, e)
 
 -- where a judged packet leaves another to be awaited, it is the one with the next identifier
 module _ (c : Conversation) where
-  after-next : (a : Account) (e : ℕ) → isEnded (afterReason c a e .phase) ≡ false
+  after-next : (a : Entry) (e : ℕ) → isEnded (afterReason c a e .phase) ≡ false
       → afterReason c a e .id ≡ nextId (c .id)
   after-next a e = which (eqb e authenticationFailure && ltb 0 (c .retries)) (eqb e passwordExpired)
     where
@@ -82,7 +83,7 @@ module _ (c : Conversation) where
       → isEnded (judgeResponse c l f .next .phase) ≡ false
       → judgeResponse c l f .next .id ≡ nextId (c .id)
   unfolding judgeResponse
-  response-next l f = after-next (counted (c .terms) (c .challenge) (l .account) f)
+  response-next l f = after-next (entryOf (counted (c .terms) (c .challenge) (l .account) f))
       (responseReason (c .terms) (c .challenge) l f)
 
   change-ends : (f : changes.Change) → isEnded (judgeChange c f .next .phase) ≡ true

@@ -27,7 +27,8 @@ use Rattle.authenticator.specs.Judge.{
 }
 use Rattle.authenticator.specs.Step.{Outcome}
 use Rattle.authenticator.specs.Steps.{StepInput, stepOn, nextAfter}
-use Rattle.accounts.specs.declared.Account.{Account}
+use Rattle.accounts.specs.Account.{entryOf}
+use Rattle.accounts.specs.declared.Entry.{Entry}
 use Rattle.accounts.specs.declared.Lookup.{Lookup}
 use Rattle.authenticator.proofs.Steps.{Case, refused, repeated, judged, case-of}
 use Rattle.authenticator.specs.declared.Conversation.{Conversation}
@@ -52,7 +53,7 @@ retried-adds-none c x more h =
     (subst (λ (n : ℕ). contains (challengesFrom n (incremented (c .challenge))) x ≡ true) e h)
     ∙ or-true (agrees (c .challenge) x)
 
-after-adds-none : (c : Conversation) (a : Account) (e : ℕ) (x : List ℕ)
+after-adds-none : (c : Conversation) (a : Entry) (e : ℕ) (x : List ℕ)
     → CanBeInForce (afterReason c a e) x → CanBeInForce c x
 after-adds-none c a e x = which (eqb e authenticationFailure) (ltb 0 (c .retries))
     (eqb e passwordExpired) refl
@@ -69,7 +70,8 @@ after-adds-none c a e x = which (eqb e authenticationFailure) (ltb 0 (c .retries
 response-adds-none : (c : Conversation) (l : Lookup) (f : fields.Response) (x : List ℕ)
     → CanBeInForce (judgeResponse c l f .next) x → CanBeInForce c x
 unfolding judgeResponse
-response-adds-none c l f x h = after-adds-none c (counted (c .terms) (c .challenge) (l .account) f)
+response-adds-none c l f x h = after-adds-none c
+    (entryOf (counted (c .terms) (c .challenge) (l .account) f))
     (responseReason (c .terms) (c .challenge) l f) x h
 
 change-adds-none : (c : Conversation) (f : changes.Change) (x : List ℕ)

@@ -10,7 +10,15 @@ use mathlib.Core.Path.{_≡_, refl, sym, ap, ap₂, _∙_}
 use Prim.Native.Nat.{ℕ, _≤_, _<_}
 use native.Mathlib.Omega.{arith}
 use borrow.Author.Tests.{lt-ltb}
-use Rattle.accounts.specs.Account.{notFound, found, changed, withFailures, LogonPermitted, Rightful}
+use Rattle.accounts.specs.Account.{
+  notFound,
+  found,
+  entryOf,
+  changed,
+  withFailures,
+  LogonPermitted,
+  Rightful,
+}
 use Rattle.accounts.specs.declared.Account.{Account}
 use Rattle.accounts.specs.declared.Lookup.{Lookup}
 use Rattle.message.specs.Reasons.{authenticationFailure, passwordExpired, noReason}
@@ -35,7 +43,7 @@ use Rattle.authenticator.specs.Judge.{
 }
 use Rattle.authenticator.specs.Step.{Outcome, judgedAs, withoutRecord, step}
 use Rattle.authenticator.specs.declared.Conversation.{Conversation}
-use Rattle.authenticator.specs.declared.Judgement.{Judgement}
+use Rattle.authenticator.specs.Judge.{Judgement}
 use Rattle.authenticator.specs.declared.Phase.{Phase}
 use Rattle.authenticator.specs.declared.Phase.the-variants.{Response, Change, Ended}
 use Rattle.authenticator.specs.declared.Reply.the-variants.{Success, Failure}
@@ -61,7 +69,7 @@ expiredFor c a =
     record {
       reply = Failure passwordExpired false;
       fault = NoFault;
-      next = awaitingChange c a;
+      next = awaitingChange c (entryOf a);
       updated = found a;
     }
 
@@ -78,12 +86,12 @@ changedTo c h =
     }
 
 module _ (c : Conversation) (p b : List ℕ) (ok : Passes c p b) where
-  step-in : (l : Lookup) {ph : Phase} → c .phase ≡ ph → step c p l b
+  pub step-in : (l : Lookup) {ph : Phase} → c .phase ≡ ph → step c p l b
       ≡ judgedAs c (judgeIn ph c p l) b
   unfolding judge
   step-in l e = judged-step c p l b ok ∙ ap (λ (x : Phase). judgedAs c (judgeIn x c p l) b) e
 
-  response-step : (l : Lookup) → c .phase ≡ Response
+  pub response-step : (l : Lookup) → c .phase ≡ Response
       → step c p l b
       ≡ judgedAs c (judgementFor c (countedLookup (c .terms) (c .challenge) l (readResponse p))
       (responseReason (c .terms) (c .challenge) l (readResponse p))) b
@@ -152,7 +160,8 @@ ignored-step c p q b l m ph x y e =
 
 -- a changed record is rightful where the kept one is, is not expired, and has the new hash
 pub changed-rightful : (a : Account) (h : List ℕ) → Rightful a
-    → Rightful (changed a h) × (changed a h .expired ≡ false) × (changed a h .nt .octets ≡ h)
+    → Rightful (changed (entryOf a) h) × (changed (entryOf a) h .expired ≡ false)
+    × (changed (entryOf a) h .nt .octets ≡ h)
 changed-rightful a h g =
     (record { nt = refl; enabled = g .enabled; hours = g .hours; dialin = g .dialin }, refl, refl)
 
@@ -162,7 +171,7 @@ changed-rightful a h g =
 -- whether the packet is judged.
 module _ (c : Conversation) (p b : List ℕ) where
   -- a refused packet and a repeat are answered without the record
-  by-case : (l m : Lookup) (seen : Outcome → Outcome)
+  pub by-case : {A : Type 0} (l m : Lookup) (seen : Outcome → A)
       → (Passes c p b → seen (step c p l b) ≡ seen (step c p m b))
       → seen (step c p l b) ≡ seen (step c p m b)
   by-case l m seen ok = which (case-of c p l b)

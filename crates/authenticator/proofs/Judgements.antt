@@ -1,42 +1,63 @@
--- Judgements put together from the parts that the code made.
+-- Verdicts put together from the parts that the code made.
 -- Assumes nothing.
 use mathlib.Core.Bool.{Bool, true, false, cond}
 use mathlib.Core.Path.{_≡_, sym, ap, ap₂, _∙_}
-use Rattle.accounts.specs.Account.{notFound, found, changed}
-use Rattle.accounts.specs.declared.Lookup.{Lookup}
+use Rattle.accounts.specs.Account.{
+  notFound,
+  found,
+  changed,
+  changedEntry,
+  noEntry,
+  entryLookupOf,
+}
+use Rattle.accounts.specs.declared.Entry.{Entry}
+use Rattle.accounts.specs.declared.EntryLookup.{EntryLookup}
 use Rattle.message.specs.Reasons.{changingPassword}
 use Rattle.verify.specs.Faults.{isFaultless}
 use Rattle.verify.specs.declared.ChangeFault.{ChangeFault}
+use Rattle.verify.specs.declared.ChangeFault.the-variants.{NoFault}
 use Rattle.verify.specs.declared.CheckedChange.{CheckedChange}
+use Rattle.verify.specs.declared.CheckedResponse.{CheckedResponse}
 use Rattle.authenticator.specs.Conversation.{ended}
-use Rattle.authenticator.specs.Judge.{changeJudgement}
+use Rattle.authenticator.specs.Judge.{verdictOf, replyFor, afterReason, changeJudgement}
 use Rattle.authenticator.specs.declared.Conversation.{Conversation}
-use Rattle.authenticator.specs.declared.Judgement.{Judgement}
+use Rattle.authenticator.specs.declared.Verdict.{Verdict}
 use Rattle.authenticator.specs.declared.Reply.{Reply}
 use Rattle.authenticator.specs.declared.Reply.the-variants.{Success, Failure}
 
-abbrev judgement : Reply → ChangeFault → Conversation → Lookup → Judgement
-judgement r f n l = record { reply = r; fault = f; next = n; updated = l }
+abbrev verdict : Reply → ChangeFault → Conversation → EntryLookup → Verdict
+verdict r f n l = record { reply = r; fault = f; next = n; updated = l }
 
-pub judgement-same : {r s : Reply} {f : ChangeFault} {n m : Conversation} {l k : Lookup}
-    → r ≡ s → n ≡ m → l ≡ k → judgement r f n l ≡ judgement s f m k
-judgement-same {r} {s} {f} {n} {m} {l} {k} e h g =
-    ap₂ (λ (x : Reply) (y : Conversation). judgement x f y l) e h ∙ ap (judgement s f m) g
+pub verdict-same : {r s : Reply} {f : ChangeFault} {n m : Conversation} {l k : EntryLookup}
+    → r ≡ s → n ≡ m → l ≡ k → verdict r f n l ≡ verdict s f m k
+verdict-same {r} {s} {f} {n} {m} {l} {k} e h g =
+    ap₂ (λ (x : Reply) (y : Conversation). verdict x f y l) e h ∙ ap (verdict s f m) g
+
+-- of a Response that was checked
+abbrev pub verdictFor : Conversation → CheckedResponse → Verdict
+verdictFor c v =
+    verdict (replyFor c (v .reason)) NoFault (afterReason c (v .updated .entry) (v .reason))
+    (v .updated)
 
 -- a change that is accepted or not
-abbrev pub chosen : Conversation → CheckedChange → Bool → Judgement
+abbrev pub chosen : Conversation → CheckedChange → Bool → Verdict
 chosen c v t =
-    judgement (cond t Success (Failure changingPassword false)) (v .fault) (ended c)
-    (cond t (found (changed (c .kept) (v .hash))) notFound)
+    verdict (cond t Success (Failure changingPassword false)) (v .fault) (ended c)
+    (entryLookupOf (cond t (found (changed (c .kept) (v .hash))) notFound))
 
-module _ (c : Conversation) (v : CheckedChange) {next : Conversation} (n : next ≡ ended c)
-    {updated : Lookup} where
-  pub changed-judged : isFaultless (v .fault) ≡ true
-      → updated ≡ found (changed (c .kept) (v .hash))
-      → judgement Success (v .fault) next updated ≡ changeJudgement c v
-  changed-judged t u = ap₂ (judgement Success (v .fault)) n u ∙ ap (chosen c v) (sym t)
+module _ (c : Conversation) (v : CheckedChange) {next : Conversation} (n : next ≡ ended c) where
+  pub changed-judged : {entry : Entry} → isFaultless (v .fault) ≡ true
+      → entry ≡ changedEntry (c .kept) (v .hash)
+      → verdict Success (v .fault) next (record { found = true; entry = entry })
+      ≡ verdictOf (changeJudgement c v)
+  changed-judged t u =
+      ap₂ (λ (x : Conversation) (e : Entry). verdict Success (v .fault) x
+      (record { found = true; entry = e })) n u
+      ∙ ap (chosen c v) (sym t)
 
-  pub unchanged-judged : isFaultless (v .fault) ≡ false → updated ≡ notFound
-      → judgement (Failure changingPassword false) (v .fault) next updated ≡ changeJudgement c v
+  pub unchanged-judged : {updated : EntryLookup} → isFaultless (v .fault) ≡ false
+      → updated ≡ noEntry
+      → verdict (Failure changingPassword false) (v .fault) next updated
+      ≡ verdictOf (changeJudgement c v)
   unchanged-judged t u =
-      ap₂ (judgement (Failure changingPassword false) (v .fault)) n u ∙ ap (chosen c v) (sym t)
+      ap₂ (verdict (Failure changingPassword false) (v .fault)) n u ∙ ap (chosen c v) (sym t)

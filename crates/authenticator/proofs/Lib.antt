@@ -4,6 +4,7 @@ pub mod Seen
 pub mod Repeats
 pub mod Fresh
 pub mod Judged
+pub mod Carried
 pub mod Judgements
 pub mod Padding
 pub mod Bound

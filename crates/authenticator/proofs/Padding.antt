@@ -23,7 +23,7 @@ use Rattle.packets.proofs.Padding.{
 }
 use Rattle.authenticator.specs.Judge.{judgeChange, judgeResponse, judgeIn, judge}
 use Rattle.authenticator.specs.Admit.{isRepeat, bodyRefusal, refusalFor, stepRefusal}
-use Rattle.authenticator.specs.declared.Judgement.{Judgement}
+use Rattle.authenticator.specs.Judge.{Judgement}
 use Rattle.authenticator.specs.Step.{judgedAs, refusedAs, step}
 use Rattle.accounts.specs.declared.Lookup.{Lookup}
 use Rattle.authenticator.proofs.Steps.{Case, refused, repeated, judged, case-of, judged-step}

@@ -6,7 +6,8 @@ use mathlib.Core.Logic.{_≢_}
 use mathlib.Core.Path.{_≡_, refl, ap, _∙_}
 use Prim.Native.Nat.{ℕ}
 use lib.Dec.{eqb}
-use Rattle.accounts.specs.declared.Account.{Account}
+use Rattle.accounts.specs.Account.{entryOf}
+use Rattle.accounts.specs.declared.Entry.{Entry}
 use Rattle.accounts.specs.declared.Lookup.{Lookup}
 use Rattle.message.specs.Reasons.{passwordExpired}
 use Rattle.verify.specs.Response.{counted, responseReason}
@@ -46,7 +47,7 @@ opened-off o h =
 
 -- ---- the steps
 
-after-terms : (c : Conversation) (a : Account) (e : ℕ) → afterReason c a e .terms ≡ c .terms
+after-terms : (c : Conversation) (a : Entry) (e : ℕ) → afterReason c a e .terms ≡ c .terms
 after-terms c a e = which (mayRetry c e) (eqb e passwordExpired)
   where
     which : (t u : Bool)
@@ -59,7 +60,7 @@ judged-terms : (ph : Phase) (c : Conversation) (p : List ℕ) (l : Lookup)
     → judgeIn ph c p l .next .terms ≡ c .terms
 unfolding judgeResponse judgeChange
 judged-terms Response c p l =
-    after-terms c (counted (c .terms) (c .challenge) (l .account) (readResponse p))
+    after-terms c (entryOf (counted (c .terms) (c .challenge) (l .account) (readResponse p)))
     (responseReason (c .terms) (c .challenge) l (readResponse p))
 judged-terms Change c p l = refl
 judged-terms Ended c p l = refl

@@ -7,8 +7,8 @@ use Prim.Native.Nat.{ℕ, _-_}
 use lib.ListN.{replicate}
 use Rattle.challenges.specs.Challenges.{nextId, incremented}
 use Rattle.packets.specs.Codes.{responseCode, changeCode}
-use Rattle.accounts.specs.Account.{blankAccount}
-use Rattle.accounts.specs.declared.Account.{Account}
+use Rattle.accounts.specs.Account.{blankEntry}
+use Rattle.accounts.specs.declared.Entry.{Entry}
 use Rattle.authenticator.specs.declared.Conversation.{Conversation}
 use Rattle.authenticator.specs.declared.LastAnswer.{LastAnswer}
 use Rattle.authenticator.specs.declared.Phase.{Phase}
@@ -22,13 +22,18 @@ awaitedCode Response = responseCode
 awaitedCode Change = changeCode
 awaitedCode Ended = 0
 
+abbrev pub awaitsResponse : Phase → Bool
+awaitsResponse Response = true
+awaitsResponse Change = false
+awaitsResponse Ended = false
+
 abbrev pub isEnded : Phase → Bool
 isEnded Response = false
 isEnded Change = false
 isEnded Ended = true
 
 -- every successor keeps the terms and, until the step puts the new one there, the last answer
-abbrev pub successor : Conversation → ℕ → List ℕ → ℕ → Phase → Account → Conversation
+abbrev pub successor : Conversation → ℕ → List ℕ → ℕ → Phase → Entry → Conversation
 successor c id challenge retries phase kept =
     record {
       terms = c .terms;
@@ -42,16 +47,16 @@ successor c id challenge retries phase kept =
 
 -- the end: the kept record is dropped
 abbrev pub ended : Conversation → Conversation
-ended c = successor c (c .id) (c .challenge) (c .retries) Ended blankAccount
+ended c = successor c (c .id) (c .challenge) (c .retries) Ended blankEntry
 
 -- another Response is awaited
 abbrev pub retried : Conversation → Conversation
 retried c = successor c (nextId (c .id)) (incremented (c .challenge)) (c .retries - 1) (c .phase)
     (c .kept)
 
--- a change is awaited, and the record is kept; the challenge stays
-abbrev pub awaitingChange : Conversation → Account → Conversation
-awaitingChange c a = successor c (nextId (c .id)) (c .challenge) (c .retries) Change a
+-- a change is awaited, and the record is kept, without its round keys; the challenge stays
+abbrev pub awaitingChange : Conversation → Entry → Conversation
+awaitingChange c e = successor c (nextId (c .id)) (c .challenge) (c .retries) Change e
 
 -- ---- the last answer
 
@@ -88,6 +93,6 @@ closed =
       challenge = replicate 8 0;
       retries = 0;
       phase = Ended;
-      kept = blankAccount;
+      kept = blankEntry;
       last = noAnswer;
     }

@@ -8,8 +8,9 @@ use mathlib.Core.List.{List}
 use mathlib.Core.Option.{Option}
 use Prim.Native.Nat.{ℕ}
 use lib.Dec.{eqb, ltb}
-use Rattle.accounts.specs.Account.{notFound, found, changed}
+use Rattle.accounts.specs.Account.{notFound, found, changed, entryOf, entryLookupOf}
 use Rattle.accounts.specs.declared.Account.{Account}
+use Rattle.accounts.specs.declared.Entry.{Entry}
 use Rattle.accounts.specs.declared.Lookup.{Lookup}
 use Rattle.message.specs.Reasons.{
   authenticationFailure,
@@ -21,9 +22,10 @@ use Rattle.packets.specs.Response.{readResponse}
 use Rattle.packets.specs.Change.{readChange}
 use Rattle.packets.specs.declared.Response as responses
 use Rattle.packets.specs.declared.Change as changes
-use Rattle.verify.specs.Response.{valid, checkedResponse}
+use Rattle.verify.specs.Response.{valid, responseReason, countedLookup}
 use Rattle.verify.specs.Faults.{isFaultless}
 use Rattle.verify.specs.Change.{checkedChange, newHash}
+use Rattle.verify.specs.declared.ChangeFault.{ChangeFault}
 use Rattle.verify.specs.declared.ChangeFault.the-variants.{NoFault}
 use Rattle.verify.specs.declared.CheckedChange.{CheckedChange}
 use Rattle.authenticator.specs.Conversation.{ended, retried, awaitingChange}
@@ -32,7 +34,25 @@ use Rattle.authenticator.specs.declared.Phase.{Phase}
 use Rattle.authenticator.specs.declared.Phase.the-variants.{Response, Change, Ended}
 use Rattle.authenticator.specs.declared.Reply.{Reply}
 use Rattle.authenticator.specs.declared.Reply.the-variants.{Success, Failure}
-use Rattle.authenticator.specs.declared.Judgement.{Judgement}
+use Rattle.authenticator.specs.declared.Verdict.{Verdict}
+
+-- how a packet is judged: the reply, what is wrong with a change, the next conversation, and the
+-- record that is handed out
+pub record Judgement : Type 0 where
+  pub reply : Reply
+  pub fault : ChangeFault
+  pub next : Conversation
+  pub updated : Lookup
+
+-- the same without the round keys of the record
+abbrev pub verdictOf : Judgement → Verdict
+verdictOf j =
+    record {
+      reply = j .reply;
+      fault = j .fault;
+      next = j .next;
+      updated = entryLookupOf (j .updated);
+    }
 
 -- the reason that a reply gives; 0 is Success
 abbrev pub reasonOf : Reply → ℕ
@@ -53,9 +73,10 @@ abbrev pub replyFor : Conversation → ℕ → Reply
 replyFor c e = cond (eqb e noReason) Success (Failure e (mayRetry c e))
 
 -- a retry keeps the conversation going, an expired password awaits a change, all else ends it
-abbrev pub afterReason : Conversation → Account → ℕ → Conversation
-afterReason c a e =
-    cond (mayRetry c e) (retried c) (cond (eqb e passwordExpired) (awaitingChange c a) (ended c))
+abbrev pub afterReason : Conversation → Entry → ℕ → Conversation
+afterReason c kept e =
+    cond (mayRetry c e) (retried c)
+    (cond (eqb e passwordExpired) (awaitingChange c kept) (ended c))
 
 -- the record that is kept is the one that is handed out, with its count
 abbrev pub judgementFor : Conversation → Lookup → ℕ → Judgement
@@ -63,14 +84,14 @@ judgementFor c updated e =
     record {
       reply = replyFor c e;
       fault = NoFault;
-      next = afterReason c (updated .account) e;
+      next = afterReason c (entryOf (updated .account)) e;
       updated = updated;
     }
 
 unfoldable pub judgeResponse : Conversation → Lookup → responses.Response → Judgement
 judgeResponse c l f =
-    let v = checkedResponse (c .terms) (c .challenge) l f in
-    judgementFor c (v .updated) (v .reason)
+    judgementFor c (countedLookup (c .terms) (c .challenge) l f)
+    (responseReason (c .terms) (c .challenge) l f)
 
 -- ---- a change
 

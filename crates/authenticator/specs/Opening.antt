@@ -12,7 +12,7 @@ use Rattle.issued.specs.Issued.{Issued, spendRefusal, added}
 use Rattle.packets.specs.Frame.{writtenOver}
 use Rattle.challenges.specs.Challenges.{challengesFrom}
 use Rattle.packets.specs.Reply.{challengePacket, badReplyBuffer}
-use Rattle.accounts.specs.Account.{blankAccount}
+use Rattle.accounts.specs.Account.{blankEntry}
 use Rattle.authenticator.specs.Conversation.{noAnswer, closed}
 use Rattle.authenticator.specs.declared.Retries.{Retries}
 use Rattle.authenticator.specs.declared.Retries.the-variants.{Default, Count}
@@ -80,7 +80,7 @@ firstConversation o =
       challenge = o .challenge;
       retries = retriesOf (o .retries);
       phase = Response;
-      kept = blankAccount;
+      kept = blankEntry;
       last = noAnswer;
     }
 

@@ -7,24 +7,26 @@ use mathlib.Core.List.{List}
 use Prim.Native.Nat.{ℕ}
 use lib.Dec.{eqb}
 use lib.ListN.{length}
-use Rattle.accounts.specs.Account.{notFound}
+use Rattle.accounts.specs.Account.{notFound, lookupOf, withSchedules, accountOf, entryLookupOf}
+use Rattle.accounts.specs.declared.Account.{Account}
+use Rattle.accounts.specs.declared.EntryLookup.{EntryLookup}
 use Rattle.accounts.specs.declared.Lookup.{Lookup}
 use Rattle.packets.specs.Frame.{writtenOver}
 use Rattle.packets.specs.Change.{readChange}
 use Rattle.verify.specs.Faults.{faultNumber}
 use Rattle.verify.specs.Change.{changeFault}
 use Rattle.verify.specs.declared.ChangeFault.the-variants.{NoFault}
-use Rattle.authenticator.specs.Conversation.{answerWith, withLast}
+use Rattle.authenticator.specs.Conversation.{awaitsResponse, answerWith, withLast}
 use Rattle.authenticator.specs.Admit.{isRepeat, stepRefusal}
-use Rattle.authenticator.specs.Judge.{reasonOf, judge}
+use Rattle.authenticator.specs.Judge.{Judgement, reasonOf, judge}
 use Rattle.authenticator.specs.Encode.{replyPacket}
 use Rattle.authenticator.specs.declared.Conversation.{Conversation}
 use Rattle.authenticator.specs.declared.Phase.{Phase}
 use Rattle.authenticator.specs.declared.Phase.the-variants.{Response, Change, Ended}
-use Rattle.authenticator.specs.declared.Judgement.{Judgement}
 use Rattle.authenticator.specs.declared.Kind.{Kind}
 use Rattle.authenticator.specs.declared.Kind.the-variants.{Refused, Repeated, Judged}
 use Rattle.authenticator.specs.declared.Answer.{Answer}
+use Rattle.authenticator.specs.declared.Stepped.{Stepped}
 
 -- document 01's refusal number of an answer (0 is none); the reason that its reply gives (0 is
 -- Success, and none beside a refusal); and whether the reply is the last one again
@@ -132,3 +134,29 @@ step c p l b =
     cond (eqb (stepRefusal c p b) 0)
     (cond (isRepeat (c .last) p) (repeatedAs c b) (judgedAs c (judge c p l) b))
     (refusedAs (stepRefusal c p b) c b)
+
+-- ---- the record that is handed out, with its round keys and without
+
+abbrev pub steppedOf : Answer → Stepped
+steppedOf a =
+    record {
+      kind = a .kind;
+      fault = a .fault;
+      next = a .next;
+      written = a .written;
+      updated = entryLookupOf (a .updated);
+    }
+
+-- the record is the one that was passed, but for its count: a Response was judged
+abbrev pub handsBack : Phase → Kind → Bool
+handsBack ph (Refused n) = false
+handsBack ph (Repeated e) = false
+handsBack ph (Judged e) = awaitsResponse ph
+
+-- "where its hash stays, handed out with them"; else with those of its own hashes. That a step's
+-- record is this is proved (proofs/Carried).
+abbrev pub handedOut : Bool → Account → EntryLookup → Lookup
+handedOut back passed u =
+    lookupOf (u .found)
+    (cond back (withSchedules (u .entry) (passed .«nt_keys») (passed .«lm_keys»))
+    (accountOf (u .entry)))

@@ -2,7 +2,7 @@
 // conversation takes it or with which number it refuses it.
 ghost use mathlib.Core.Path.{_≡_};
 ghost use Rattle.packets.specs.Frame.{badId};
-ghost use Rattle.authenticator.specs.Conversation.{awaitedCode, isEnded};
+ghost use Rattle.authenticator.specs.Conversation.{awaitedCode, awaitsResponse, isEnded};
 ghost use Rattle.authenticator.specs.Admit.{isRepeat, badCode, bodyRefusal, refusalFor};
 use crate::Conversation;
 use crate::LastAnswer;
@@ -27,6 +27,16 @@ pub(crate) fn is_repeat(last: LastAnswer, packet: &[u8]) -> bool
     let code = packets::octet(packet, 0);
     let id = packets::octet(packet, 1);
     last.present & ((code == last.code) & (id == last.id))
+}
+
+pub(crate) fn awaits_response(phase: Phase) -> bool
+    ensures { λ r. ⌜ r ≡ awaitsResponse phase ⌝ }
+{
+    match phase {
+        Phase::Response => true,
+        Phase::Change => false,
+        Phase::Ended => false,
+    }
 }
 
 fn is_ended(phase: Phase) -> bool

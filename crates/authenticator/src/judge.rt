@@ -11,16 +11,18 @@ ghost use Rattle.authenticator.specs.Judge.{
   judgeResponse,
   judgeChange,
   judge,
+  verdictOf,
 };
+ghost use Rattle.verify.specs.Response.{carryingLookup};
 use crate::Conversation;
-use crate::Judgement;
 use crate::Phase;
 use crate::Reply;
-use accounts::Account;
-use accounts::Lookup;
-use accounts::changed;
-use accounts::found;
-use accounts::not_found;
+use crate::Verdict;
+use accounts::Entry;
+use accounts::EntryLookup;
+use accounts::Schedules;
+use accounts::changed_entry;
+use accounts::no_entry;
 use message::reasons;
 use verify::ChangeFault;
 use verify::is_faultless;
@@ -43,32 +45,33 @@ impl Conversation {
         }
     }
 
-    fn after(self, account: Account, reason: u16) -> Conversation
-        ensures { λ r. ⌜ r ≡ afterReason self account reason ⌝ }
+    fn after(self, entry: Entry, reason: u16) -> Conversation
+        ensures { λ r. ⌜ r ≡ afterReason self entry reason ⌝ }
     {
         if self.may_retry(reason) {
             return self.to_retry();
         }
         if reason == reasons::PASSWORD_EXPIRED {
-            return self.to_change(account);
+            return self.to_change(entry);
         }
         self.to_end()
     }
 
     // A Response that is not refused. The record that is kept is the one that is handed out.
-    fn response(self, packet: &[u8], lookup: Lookup) -> Judgement
-        ensures { λ r. ⌜ r ≡ judgeResponse self lookup (readResponse (now (packet .entry))) ⌝ }
+    fn response(self, packet: &[u8], lookup: EntryLookup, schedules: Schedules) -> Verdict
+        ensures { λ r. ⌜ r ≡ verdictOf (judgeResponse self (carryingLookup lookup schedules)
+            (readResponse (now (packet .entry)))) ⌝ }
     {
         let terms = self.terms;
         let challenge = self.challenge;
         let fields = packets::read_response(packet);
-        let checked = verify::check_response(terms, challenge, lookup, fields);
+        let checked = verify::check_response(terms, challenge, lookup, schedules, fields);
         let reason = checked.reason;
         let updated = checked.updated;
-        let account = updated.account;
+        let entry = updated.entry;
         let reply = self.reply_for(reason);
-        let next = self.after(account, reason);
-        Judgement {
+        let next = self.after(entry, reason);
+        Verdict {
             reply,
             fault: ChangeFault::NoFault,
             next,
@@ -77,8 +80,8 @@ impl Conversation {
     }
 
     // A change that is not refused.
-    fn change(self, packet: &[u8]) -> Judgement
-        ensures { λ r. ⌜ r ≡ judgeChange self (readChange (now (packet .entry))) ⌝ }
+    fn change(self, packet: &[u8]) -> Verdict
+        ensures { λ r. ⌜ r ≡ verdictOf (judgeChange self (readChange (now (packet .entry)))) ⌝ }
     {
         let challenge = self.challenge;
         let kept = self.kept;
@@ -87,16 +90,19 @@ impl Conversation {
         let hash = checked.hash;
         let next = self.to_end();
         if is_faultless(fault) {
-            let updated = found(changed(kept, hash));
-            return Judgement {
+            let entry = changed_entry(kept, hash);
+            return Verdict {
                 reply: Reply::Success,
                 fault,
                 next,
-                updated,
+                updated: EntryLookup {
+                    found: true,
+                    entry,
+                },
             };
         }
-        let updated = not_found();
-        Judgement {
+        let updated = no_entry();
+        Verdict {
             reply: Reply::Failure(reasons::CHANGING_PASSWORD, false),
             fault,
             next,
@@ -105,16 +111,22 @@ impl Conversation {
     }
 
     // How a packet that is not refused is judged, by the phase.
-    pub(crate) fn judge(self, packet: &[u8], lookup: Lookup) -> Judgement
-        ensures { λ r. ⌜ r ≡ judge self (now (packet .entry)) lookup ⌝ }
+    pub(crate) fn judge(
+        self,
+        packet: &[u8],
+        lookup: EntryLookup,
+        schedules: Schedules,
+    ) -> Verdict
+        ensures { λ r. ⌜ r
+            ≡ verdictOf (judge self (now (packet .entry)) (carryingLookup lookup schedules)) ⌝ }
     {
         let phase = self.phase;
         match phase {
-            Phase::Response => self.response(packet, lookup),
+            Phase::Response => self.response(packet, lookup, schedules),
             Phase::Change => self.change(packet),
             Phase::Ended => {
-                let updated = not_found();
-                Judgement {
+                let updated = no_entry();
+                Verdict {
                     reply: Reply::Success,
                     fault: ChangeFault::NoFault,
                     next: self,

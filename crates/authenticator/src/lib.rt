@@ -15,16 +15,28 @@ ghost use Rattle.authenticator.specs.Admit.{stepRefusal};
 ghost use Rattle.authenticator.specs.Step.{refusalIn, reasonIn, isRepeated};
 ghost use Rattle.authenticator.specs.Step.{stepReason, stepRepeats, stepFault};
 ghost use Rattle.authenticator.specs.Step.{repeatedAs, step};
+ghost use Rattle.authenticator.specs.Step.{steppedOf, handsBack, handedOut};
+ghost use Rattle.packets.specs.Response.{readResponse};
+ghost use Rattle.verify.specs.Response.{judgingKeys, carryingLookup};
 ghost use Rattle.verify.specs.Faults.{faultNumber};
 use accounts::Account;
+use accounts::Entry;
+use accounts::EntryLookup;
 use accounts::Lookup;
-use accounts::not_found;
+use accounts::Schedules;
+use accounts::account_of;
+use accounts::entry_lookup_of;
+use accounts::lookup_of;
+use accounts::no_entry;
+use accounts::with_schedules;
 pub use admit::awaited_code;
+use admit::awaits_response;
 use admit::is_repeat;
 pub use encode::reason_of;
 use encode::write_reply;
 use verify::ChangeFault;
 use verify::Terms;
+use verify::uses_nt;
 
 // What a conversation awaits.
 pub enum Phase {
@@ -44,14 +56,15 @@ pub struct LastAnswer {
 
 // A conversation is a value: each step takes it and gives back the next. It holds what the opening
 // fixed, the awaited identifier, the challenge in force, the retries left, while a change is
-// awaited the kept record (else a blank one), and the last answer, for a peer that missed it.
+// awaited the kept record (else a blank one), and the last answer, for a peer that missed it. A
+// change reads hashes and no round keys, so none are kept.
 pub struct Conversation {
     pub terms: Terms,
     pub id: u8,
     pub challenge: [u8; 8],
     pub retries: u8,
     pub phase: Phase,
-    pub kept: Account,
+    pub kept: Entry,
     pub last: LastAnswer,
 }
 
@@ -85,13 +98,13 @@ pub enum Reply {
 }
 
 // How a packet is judged: the reply, what is wrong with a change, the next conversation, and the
-// record that is handed out: after a Response the one that was passed, with its count of failures,
-// and after an accepted change the new one.
-pub struct Judgement {
+// record that is handed out, without its round keys: after a Response the one that was passed, with
+// its count of failures, and after an accepted change the new one.
+pub struct Verdict {
     pub reply: Reply,
     pub fault: ChangeFault,
     pub next: Conversation,
-    pub updated: Lookup,
+    pub updated: EntryLookup,
 }
 
 // A step's packet was refused with a number; or it repeats the packet last answered and draws the
@@ -114,22 +127,119 @@ pub struct Answer {
     pub updated: Lookup,
 }
 
+// The same without the round keys of the record. They are long: so the parts of a step that do not
+// read them do not hand them on.
+pub struct Stepped {
+    pub kind: Kind,
+    pub fault: ChangeFault,
+    pub next: Conversation,
+    pub written: usize,
+    pub updated: EntryLookup,
+}
+
+// Whether the record that a step hands out is the one that was passed, but for its count, by what
+// was awaited and the kind of the answer: then it has the round keys that it was passed with.
+pub fn hands_back(phase: Phase, kind: Kind) -> bool
+    ensures { λ r. ⌜ r ≡ handsBack phase kind ⌝ }
+{
+    match kind {
+        Kind::Refused(_) => false,
+        Kind::Repeated(_) => false,
+        Kind::Judged(_) => awaits_response(phase),
+    }
+}
+
+// The round keys beside the hash that counts for a packet. As many are copied either way.
+fn judging_keys(account: Account, packet: &[u8]) -> Schedules
+    ensures { λ r. ⌜ r ≡ judgingKeys account (readResponse (now (packet .entry))) ⌝ }
+{
+    let nt = account.nt;
+    let nt_keys = account.nt_keys;
+    let lm_keys = account.lm_keys;
+    if uses_nt(packets::octet(packet, packets::FLAG_OFFSET), nt) {
+        return nt_keys;
+    }
+    lm_keys
+}
+
+// The record that is handed out: with the round keys that it was passed with, or with those of its
+// own hashes where it is another one.
+fn handed_out(back: bool, passed: Account, updated: EntryLookup) -> Lookup
+    ensures { λ r. ⌜ r ≡ handedOut back passed updated ⌝ }
+{
+    let entry = updated.entry;
+    if back {
+        let nt_keys = passed.nt_keys;
+        let lm_keys = passed.lm_keys;
+        return lookup_of(updated.found, with_schedules(entry, nt_keys, lm_keys));
+    }
+    lookup_of(updated.found, account_of(entry))
+}
+
 impl Conversation {
     // The last answer again.
-    fn repeat(self, reply: &mut [u8]) -> Answer
+    fn repeat(self, reply: &mut [u8]) -> Stepped
         requires { ⌜ longestReply ≤ length (now reply) ⌝ }
-        ensures { λ r. ⌜ (r ≡ repeatedAs self (now (reply .entry)) .answer)
+        ensures { λ r. ⌜ (r ≡ steppedOf (repeatedAs self (now (reply .entry)) .answer))
             × (now (reply .exit) ≡ repeatedAs self (now (reply .entry)) .buffer) ⌝ }
     {
         let last = self.last;
         let value = last.reply;
         let written = write_reply(last.id, value, reply);
         let reason = reason_of(value);
-        let updated = not_found();
-        Answer {
+        let updated = no_entry();
+        Stepped {
             kind: Kind::Repeated(reason),
             fault: ChangeFault::NoFault,
             next: self,
+            written,
+            updated,
+        }
+    }
+
+    // One step, by an entry and the round keys beside the hash that counts for the packet: those of
+    // the NT hash where `verify::uses_nt` says so, else those of the LM hash. Whoever has a record
+    // in another form than `Lookup` need not make one.
+    pub fn step_by(
+        self,
+        packet: &[u8],
+        lookup: EntryLookup,
+        schedules: Schedules,
+        reply: &mut [u8],
+    ) -> Stepped
+        ensures { λ r. ⌜ (r ≡ steppedOf (step self (now (packet .entry))
+            (carryingLookup lookup schedules) (now (reply .entry)) .answer))
+            × (now (reply .exit) ≡ step self (now (packet .entry))
+            (carryingLookup lookup schedules) (now (reply .entry)) .buffer) ⌝ }
+    {
+        let last = self.last;
+        let repeated = is_repeat(last, packet);
+        let refusal = self.refusal(repeated, packet, reply);
+        if refusal != 0 {
+            let updated = no_entry();
+            return Stepped {
+                kind: Kind::Refused(refusal),
+                fault: ChangeFault::NoFault,
+                next: self,
+                written: 0,
+                updated,
+            };
+        }
+        if repeated {
+            return self.repeat(reply);
+        }
+        let judged = self.judge(packet, lookup, schedules);
+        let value = judged.reply;
+        let written = write_reply(self.id, value, reply);
+        let reason = reason_of(value);
+        let answer = self.answer_with(value);
+        let next = judged.next.with_last(answer);
+        let fault = judged.fault;
+        let updated = judged.updated;
+        Stepped {
+            kind: Kind::Judged(reason),
+            fault,
+            next,
             written,
             updated,
         }
@@ -150,35 +260,20 @@ impl Conversation {
             × (faultNumber (r .fault)
             ≡ stepFault self (now (packet .entry)) (now (reply .entry))) ⌝ }
     {
-        let last = self.last;
-        let repeated = is_repeat(last, packet);
-        let refusal = self.refusal(repeated, packet, reply);
-        if refusal != 0 {
-            let updated = not_found();
-            return Answer {
-                kind: Kind::Refused(refusal),
-                fault: ChangeFault::NoFault,
-                next: self,
-                written: 0,
-                updated,
-            };
-        }
-        if repeated {
-            return self.repeat(reply);
-        }
-        let judged = self.judge(packet, lookup);
-        let value = judged.reply;
-        let written = write_reply(self.id, value, reply);
-        let reason = reason_of(value);
-        let answer = self.answer_with(value);
-        let next = judged.next.with_last(answer);
-        let fault = judged.fault;
-        let updated = judged.updated;
+        let phase = self.phase;
+        let account = lookup.account;
+        let keys = judging_keys(account, packet);
+        let stepped = self.step_by(packet, entry_lookup_of(lookup), keys, reply);
+        let kind = stepped.kind;
+        let fault = stepped.fault;
+        let next = stepped.next;
+        let entry = stepped.updated;
+        let updated = handed_out(hands_back(phase, kind), account, entry);
         Answer {
-            kind: Kind::Judged(reason),
+            kind,
             fault,
             next,
-            written,
+            written: stepped.written,
             updated,
         }
     }

@@ -15,7 +15,7 @@ use crate::Phase;
 use crate::Retries;
 use crate::successors::closed_conversation;
 use crate::successors::no_answer;
-use accounts::blank_account;
+use accounts::blank_entry;
 use issued::Spent;
 use refusals::refuse_if;
 use verify::Terms;
@@ -128,7 +128,7 @@ impl Conversation {
             return refused_opening(spent.refusal, used);
         }
         let written = packets::write_challenge(id, challenge, reply);
-        let kept = blank_account();
+        let kept = blank_entry();
         let last = no_answer();
         let lm = is_lm_allowed(lm);
         Opened {

@@ -9,8 +9,8 @@ use crate::LastAnswer;
 use crate::Phase;
 use crate::Reply;
 use crate::admit::awaited_code;
-use accounts::Account;
-use accounts::blank_account;
+use accounts::Entry;
+use accounts::blank_entry;
 use verify::Terms;
 
 // 0 stays 0.
@@ -27,7 +27,7 @@ impl Conversation {
         challenge: [u8; 8],
         retries: u8,
         phase: Phase,
-        kept: Account,
+        kept: Entry,
     ) -> Conversation
         ensures { λ r. ⌜ r ≡ successor self id challenge retries phase kept ⌝ }
     {
@@ -54,7 +54,7 @@ impl Conversation {
             challenge,
             self.retries,
             Phase::Ended,
-            blank_account(),
+            blank_entry(),
         )
     }
 
@@ -75,8 +75,8 @@ impl Conversation {
     }
 
     // A change is awaited, and the record is kept.
-    pub(crate) fn to_change(self, account: Account) -> Conversation
-        ensures { λ r. ⌜ r ≡ awaitingChange self account ⌝ }
+    pub(crate) fn to_change(self, entry: Entry) -> Conversation
+        ensures { λ r. ⌜ r ≡ awaitingChange self entry ⌝ }
     {
         let challenge = self.challenge;
         self.successor(
@@ -84,7 +84,7 @@ impl Conversation {
             challenge,
             self.retries,
             Phase::Change,
-            account,
+            entry,
         )
     }
 
@@ -138,7 +138,7 @@ pub fn no_answer() -> LastAnswer
 pub fn closed_conversation() -> Conversation
     ensures { λ r. ⌜ r ≡ closed ⌝ }
 {
-    let kept = blank_account();
+    let kept = blank_entry();
     let last = no_answer();
     Conversation {
         terms: Terms {

@@ -19,15 +19,15 @@ use Rattle.octets.specs.Numbers.{fromLe, toLe}
 use Rattle.octets.proofs.Parts.{over-fills, length-fixed}
 use Rattle.octets.proofs.Numbers.{Octets, length-toLe, fromLe-toLe}
 use Rattle.md4.proofs.Laws.{length-md4, octets-md4}
-use Rattle.des.specs.Des.{desEncrypt, desDecrypt, desThree}
-use Rattle.des.proofs.RoundTrip.{decrypt-encrypt}
+use Rattle.des.specs.Des.{desEncrypt}
 use Rattle.des.proofs.Sizes.{length-encrypt, length-three}
+use Rattle.des.proofs.Stored.{length-schedules, three-under, length-three-under, under-tells}
 use Rattle.rc4.specs.Rc4.{crypted}
 use Rattle.rc4.proofs.Laws.{crypted-twice, length-crypted}
 use Rattle.credentials.specs.declared.Content.the-variants.{Over, Odd, Password}
 use Rattle.credentials.specs.declared.Unsealed.{Unsealed}
 use Rattle.credentials.specs.declared.Sealed.{Sealed}
-use Rattle.credentials.specs.Credentials.{blockSize, ntHashOf, badNtPassword, lmKeys, upper, responseOf, oldUnderNew, plainBlock, sealedBlock, badFiller, sealRefusal, sealedAs, lengthIn, contentFor, lengthTold, passwordLength, ValidLength, unsealedAs, passwordIn}
+use Rattle.credentials.specs.Credentials.{blockSize, ntHashOf, badNtPassword, lmKeys, upper, responseOf, schedulesOf, responseUnder, oldUnderNew, plainBlock, sealedBlock, badFiller, sealRefusal, sealedAs, lengthIn, contentFor, lengthTold, passwordLength, ValidLength, unsealedAs, passwordIn}
 use Rattle.credentials.specs.Credentials.{lengthUnder}
 use Rattle.credentials.proofs.Plain.{front, front-length, body-length, plain-parts, length-plain}
 
@@ -54,19 +54,31 @@ pub length-response : (hash challenge : List ℕ) → length (responseOf hash ch
 unfolding responseOf
 length-response hash challenge = length-three (fixed 21 hash) challenge
 
--- a hash answers no two challenges alike: the first block of the response tells the challenge
+pub length-schedules-of : (hash : List ℕ) → length (schedulesOf hash) ≡ 48
+unfolding schedulesOf
+length-schedules-of hash = length-schedules (fixed 21 hash)
+
+pub length-response-under : (ks challenge : List ℕ) → length (responseUnder ks challenge) ≡ 24
+unfolding responseUnder
+length-response-under ks challenge = length-three-under ks challenge
+
+-- the response under a hash's own round keys is the hash's response
+pub response-under : (hash challenge : List ℕ) → responseUnder (schedulesOf hash) challenge ≡ responseOf hash challenge
+unfolding responseUnder schedulesOf responseOf
+response-under hash challenge = three-under (fixed 21 hash) challenge
+
+-- round keys answer no two challenges alike, whatever they are: the first block of the response
+-- tells the challenge
+pub response-under-tells : (ks c d : List ℕ) → length c ≡ 8 → Octets c → length d ≡ 8 → Octets d
+    → responseUnder ks c ≡ responseUnder ks d → c ≡ d
+unfolding responseUnder
+response-under-tells ks c d n o m p e = under-tells ks c d n o m p e
+
+-- and so does a hash
 pub response-tells : (hash c d : List ℕ) → length c ≡ 8 → Octets c → length d ≡ 8 → Octets d → responseOf hash c ≡ responseOf hash d → c ≡ d
-unfolding responseOf desThree
 response-tells hash c d n o m p e =
-    let k = part 0 7 (fixed 21 hash) in
-    sym (decrypt-encrypt k c n o) ∙ ap (desDecrypt k) (sym (first c) ∙ ap (take 8) e ∙ first d) ∙ decrypt-encrypt k d m p
-  where
-    first : (x : List ℕ)
-        → take 8 (desEncrypt (part 0 7 (fixed 21 hash)) x ++ (desEncrypt (part 7 7 (fixed 21 hash)) x ++ desEncrypt (part 14 7 (fixed 21 hash)) x))
-        ≡ desEncrypt (part 0 7 (fixed 21 hash)) x
-    first x =
-        take-at (desEncrypt (part 0 7 (fixed 21 hash)) x) (desEncrypt (part 7 7 (fixed 21 hash)) x ++ desEncrypt (part 14 7 (fixed 21 hash)) x) 8
-        (length-encrypt (part 0 7 (fixed 21 hash)) x)
+    response-under-tells (schedulesOf hash) c d n o m p
+    (response-under hash c ∙ e ∙ sym (response-under hash d))
 
 pub length-old-under-new : (old new : List ℕ) → length (oldUnderNew old new) ≡ 16
 unfolding oldUnderNew

@@ -12,6 +12,7 @@ use Rattle.octets.specs.Numbers.{fromLe, toLe}
 use Rattle.octets.specs.Digits.{between}
 use Rattle.md4.specs.Md4.{md4Of}
 use Rattle.des.specs.Des.{desEncrypt, desThree}
+use Rattle.des.specs.Stored.{threeSchedules, threeUnder}
 use Rattle.rc4.specs.Rc4.{crypted}
 use Rattle.credentials.specs.declared.Hashed.{Hashed}
 use Rattle.credentials.specs.declared.Content.{Content}
@@ -34,6 +35,10 @@ longestLm = 14
 -- a response's keys: three DES keys of 7 octets
 abbrev pub keysSize : ℕ
 keysSize = 3 * 7
+
+-- the stored round keys of a hash: three schedules of 16, in numbers of 64 bits
+abbrev pub schedulesSize : ℕ
+schedulesSize = 3 * 16
 
 -- a password's block: room for the longest one, and its length
 abbrev pub blockSize : ℕ
@@ -90,6 +95,15 @@ lmHashed password = hashAnswer (badLmPassword password) (lmHashOf password)
 -- challenge
 unfoldable pub responseOf : List ℕ → List ℕ → List ℕ
 responseOf hash challenge = desThree (fixed keysSize hash) challenge
+
+-- "Keep the three schedules beside each hash" (document 02, request 2026-10): the stored round keys
+-- of the three keys that A.7 makes of the hash zero-padded to 21 octets
+unfoldable pub schedulesOf : List ℕ → List ℕ
+schedulesOf hash = threeSchedules (fixed keysSize hash)
+
+-- A.7 under stored round keys, whatever hash they are of
+unfoldable pub responseUnder : List ℕ → List ℕ → List ℕ
+responseUnder ks challenge = threeUnder ks challenge
 
 -- A.17, NtPasswordHashEncryptedWithBlock(): the first half under the new hash's octets 0 to 6, the
 -- second under 7 to 13

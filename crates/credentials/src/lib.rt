@@ -5,8 +5,9 @@ ghost use mathlib.Core.Bool.{cond};
 ghost use mathlib.Core.List.{_++_};
 ghost use Prim.Native.Nat.{_≤_};
 ghost use lib.ListN.{length};
+ghost use Rattle.octets.specs.Parts.{fixed};
 ghost use Rattle.rc4.specs.Rc4.{crypted};
-ghost use Rattle.credentials.specs.Credentials.{longestNt, upper, badNtPassword, lmKeys, ntHashed, lmHashed, responseOf, oldUnderNew, plainBlock, badFiller, sealRefusal, sealedAs, lengthIn, contentFor, lengthTold, passwordLength, unsealedAs};
+ghost use Rattle.credentials.specs.Credentials.{longestNt, keysSize, upper, badNtPassword, lmKeys, ntHashed, lmHashed, responseOf, schedulesOf, responseUnder, oldUnderNew, plainBlock, badFiller, sealRefusal, sealedAs, lengthIn, contentFor, lengthTold, passwordLength, unsealedAs};
 
 // Sizes in octets: a hash, the longest password for NT and for LM, a response's keys (three DES
 // keys of 7 octets), and a password's block (room for the longest one, and its length).
@@ -19,6 +20,9 @@ pub const LONGEST_LM: usize = 14;
 const KEYS_SIZE: usize = 3 * 7;
 
 pub const BLOCK_SIZE: usize = LONGEST_NT + 4;
+
+// A hash's stored round keys: sixteen for each of its three keys.
+pub const SCHEDULES_SIZE: usize = 3 * 16;
 
 // A hash, or a refusal (8) with sixteen octets 0. 0 is no refusal.
 pub struct Hashed {
@@ -140,13 +144,34 @@ pub fn lm_hash(password: &[u8]) -> Hashed
 
 // ---- responses
 
+// A.7: the hash zero-padded to 21 octets.
+fn response_keys(hash: [u8; HASH_SIZE]) -> [u8; KEYS_SIZE]
+    ensures { λ r. ⌜ r ≡ fixed keysSize hash ⌝ }
+{
+    let mut keys = [0u8; KEYS_SIZE];
+    octets::copy(&mut keys, &hash);
+    keys
+}
+
 // A.7, ChallengeResponse().
 pub fn challenge_response(hash: [u8; HASH_SIZE], challenge: [u8; 8]) -> [u8; 24]
     ensures { λ r. ⌜ r ≡ responseOf hash challenge ⌝ }
 {
-    let mut keys = [0u8; KEYS_SIZE];
-    octets::copy(&mut keys, &hash);
-    des::encrypt_three(keys, challenge)
+    des::encrypt_three(response_keys(hash), challenge)
+}
+
+// The round keys to keep beside a hash: they never change while the hash stays.
+pub fn hash_schedules(hash: [u8; HASH_SIZE]) -> [u64; SCHEDULES_SIZE]
+    ensures { λ r. ⌜ r ≡ schedulesOf hash ⌝ }
+{
+    des::three_schedules(response_keys(hash))
+}
+
+// A.7 under the round keys kept beside a hash, so that none is made again.
+pub fn scheduled_response(keys: [u64; SCHEDULES_SIZE], challenge: [u8; 8]) -> [u8; 24]
+    ensures { λ r. ⌜ r ≡ responseUnder keys challenge ⌝ }
+{
+    des::encrypt_three_under(keys, challenge)
 }
 
 // A.17, NtPasswordHashEncryptedWithBlock(): the old hash under the new one.

@@ -12,3 +12,4 @@ pub mod Sizes
 pub mod Expanded
 pub mod Parity
 pub mod Worked
+pub mod Stored

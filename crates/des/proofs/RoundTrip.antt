@@ -64,10 +64,14 @@ undone ks n h =
 
 -- ---- blocks of eight octets
 
-pub decrypt-encrypt : (key block : List ℕ) → length block ≡ 8 → Octets block → desDecrypt key (desEncrypt key block) ≡ block
-unfolding desDecrypt desEncrypt
-decrypt-encrypt key block n o =
-    let ks = scheduleOf key in
+-- under any round keys, and then under the same in the opposite order
+pub undone-block : (ks block : List ℕ) → length block ≡ 8 → Octets block
+    → toBe 8 (crypt (reverse ks) (fromBe (toBe 8 (crypt ks (fromBe block))))) ≡ block
+undone-block ks block n o =
     ap (λ (m : ℕ). toBe 8 (crypt (reverse ks) m)) (fromBe-toBe 8 (crypt ks (fromBe block)) ∙ mod-eq-of-lt (crypt-lt ks (fromBe block)))
     ∙ ap (toBe 8) (undone ks (fromBe block) (subst (λ (k : ℕ). fromBe block < 2 ^ (8 * k)) n (fromBe-lt block o)))
     ∙ subst (λ (k : ℕ). toBe k (fromBe block) ≡ block) n (toBe-fromBe block o)
+
+pub decrypt-encrypt : (key block : List ℕ) → length block ≡ 8 → Octets block → desDecrypt key (desEncrypt key block) ≡ block
+unfolding desDecrypt desEncrypt
+decrypt-encrypt key block n o = undone-block (scheduleOf key) block n o

@@ -1,3 +1,4 @@
 pub mod Tables
 pub mod Des
 pub mod Inner
+pub mod Stored

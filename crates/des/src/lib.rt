@@ -1,5 +1,6 @@
 // DES (FIPS 46-2): a block of eight octets under a key of seven, the 56 bits of a DES key that are
 // not parity.
+mod packed;
 mod permutations;
 mod rounds;
 mod schedule;
@@ -12,6 +13,7 @@ ghost use Prim.Native.Nat.{_<_};
 ghost use Rattle.octets.specs.Numbers.{toBe};
 ghost use Rattle.des.specs.Des.{crypt, half, expandKey, dropParity, scheduleOf, desEncrypt, desDecrypt, desThree};
 ghost use Rattle.des.specs.Inner.{foldedTable};
+ghost use Rattle.des.specs.Stored.{threeSchedules, threeUnder};
 
 // ---- keys of seven octets and of eight
 
@@ -142,5 +144,49 @@ pub fn encrypt_three(keys: [u8; 21], block: [u8; 8]) -> [u8; 24]
         octets::seven_at(&keys, 7),
         octets::seven_at(&keys, 14),
         octets::u64_from_be(block),
+    )
+}
+
+// ---- DES under stored round keys
+
+// The stored round keys of the three keys of 21 octets, which never change while the keys stay.
+pub fn three_schedules(keys: [u8; 21]) -> [u64; 48]
+    ensures { λ r. ⌜ r ≡ threeSchedules keys ⌝ }
+{
+    let a = packed::schedule_put([0; 48], 0, octets::seven_at(&keys, 0));
+    let b = packed::schedule_put(a, 16, octets::seven_at(&keys, 7));
+    packed::schedule_put(b, 32, octets::seven_at(&keys, 14))
+}
+
+// One block under each of three stored schedules, the three in step as above: no round key is made
+// here.
+pub fn encrypt_three_under(keys: [u64; 48], block: [u8; 8]) -> [u8; 24]
+    ensures { λ r. ⌜ r ≡ threeUnder keys block ⌝ }
+{
+    let t = tables::folded();
+    let y = permutations::initial_permutation(octets::u64_from_be(block));
+    let mut l1 = (y / 0x1_0000_0000) as u32;
+    let mut r1 = (y % 0x1_0000_0000) as u32;
+    let mut l2 = l1;
+    let mut r2 = r1;
+    let mut l3 = l1;
+    let mut r3 = r1;
+    let mut i: usize = 0;
+    while i < 16 {
+        let n1 = l1 ^ rounds::stored_cipher_function(&t, r1, keys[i]);
+        l1 = r1;
+        r1 = n1;
+        let n2 = l2 ^ rounds::stored_cipher_function(&t, r2, keys[16 + i]);
+        l2 = r2;
+        r2 = n2;
+        let n3 = l3 ^ rounds::stored_cipher_function(&t, r3, keys[32 + i]);
+        l3 = r3;
+        r3 = n3;
+        i += 1;
+    }
+    joined(
+        octets::u64_to_be(rounds::output_block(l1, r1)),
+        octets::u64_to_be(rounds::output_block(l2, r2)),
+        octets::u64_to_be(rounds::output_block(l3, r3)),
     )
 }

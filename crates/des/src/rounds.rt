@@ -7,6 +7,7 @@ ghost use lib.ListN.{length};
 ghost use Rattle.des.specs.Tables.{fp};
 ghost use Rattle.des.specs.Des.{permute, cipherF, crypt};
 ghost use Rattle.des.specs.Inner.{spread, foldedAt, foldedTable};
+ghost use Rattle.des.specs.Stored.{unpackKey};
 
 // ---- the cipher function
 
@@ -41,6 +42,26 @@ pub(crate) fn cipher_function(t: &[u32; 512], r: u32, k: u64) -> u32
     let s6 = folded_at(t, 5, (w >> 8) ^ (k >> 12));
     let s7 = folded_at(t, 6, (w >> 4) ^ (k >> 6));
     let s8 = folded_at(t, 7, w ^ k);
+    s1 ^ s2 ^ s3 ^ s4 ^ s5 ^ s6 ^ s7 ^ s8
+}
+
+// The same with a stored round key: its groups stand as those of E(R) do in two copies of the
+// spread word, so that two exclusive ors serve all eight.
+pub(crate) fn stored_cipher_function(t: &[u32; 512], r: u32, k: u64) -> u32
+    requires { ⌜ now t ≡ foldedTable ⌝ }
+    ensures { λ v. ⌜ v ≡ cipherF r (unpackKey k) ⌝ }
+{
+    let w = spread_bits(r);
+    let a = (w >> 4) ^ (k >> 32);
+    let b = w ^ k;
+    let s1 = folded_at(t, 0, a >> 24);
+    let s2 = folded_at(t, 1, b >> 24);
+    let s3 = folded_at(t, 2, a >> 16);
+    let s4 = folded_at(t, 3, b >> 16);
+    let s5 = folded_at(t, 4, a >> 8);
+    let s6 = folded_at(t, 5, b >> 8);
+    let s7 = folded_at(t, 6, a);
+    let s8 = folded_at(t, 7, b);
     s1 ^ s2 ^ s3 ^ s4 ^ s5 ^ s6 ^ s7 ^ s8
 }
 

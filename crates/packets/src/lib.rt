@@ -34,6 +34,7 @@ pub use sizes::ANSWER_SIZE;
 pub use sizes::BLOCK_SIZE;
 pub use sizes::CHALLENGE_SIZE;
 pub use sizes::CHANGE_SIZE;
+pub use sizes::FLAG_OFFSET;
 pub use sizes::HASH_SIZE;
 pub use sizes::LONGEST_REPLY;
 pub use sizes::LONGEST_RESPONSE;

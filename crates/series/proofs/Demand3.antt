@@ -15,14 +15,24 @@ use Rattle.verify.specs.declared.Terms.{Terms}
 use Rattle.verify.proofs.Counting.{judged-below, counted-invalid}
 use Rattle.packets.specs.Reply.{successPacket}
 use Rattle.authenticator.specs.Encode.{replyPacket}
-use Rattle.accounts.specs.Account.{blankAccount, found, changed, withFailures, Rightful}
+use Rattle.accounts.specs.Account.{
+  blankEntry,
+  found,
+  entryOf,
+  changed,
+  withFailures,
+  Rightful,
+  Agree,
+}
+use Rattle.accounts.proofs.Agreeing.{changed-agrees, counted-agrees}
 use Rattle.authenticator.specs.Opening.{Opening, retriesOf, opened}
 use Rattle.authenticator.specs.Step.{Outcome, judgedAs, step}
 use Rattle.authenticator.specs.Steps.{StepInput, stepOn, BoxState, unanswered, nextAfter, judged}
 use Rattle.authenticator.specs.Steps.{nextState, NotJudged, StepClaim}
 use Rattle.authenticator.specs.Conversation.{answerWith, withLast}
-use Rattle.authenticator.specs.declared.Judgement.{Judgement}
+use Rattle.authenticator.specs.Judge.{Judgement}
 use Rattle.accounts.specs.declared.Account.{Account}
+use Rattle.accounts.specs.declared.Entry.{Entry}
 use Rattle.accounts.specs.declared.Lookup.{Lookup}
 use Rattle.authenticator.proofs.Seen.{step-claim}
 use Rattle.authenticator.proofs.Replies.{readingFor}
@@ -167,18 +177,18 @@ module _ (p : SeriesState) (i : Faithful (p .box)) (h : InStep (p .box .conversa
         (sym try-left) ∙ v) pos
         ∙ ap (λ (y : List ℕ). judgedAs c (tryAgain c (countedIn y)) (l .buffer)) (sym try-left))
 
-    right-exchanged : (a : Account) → Rightful a
+    right-exchanged : (a : Account) → Rightful a → Agree a
         → a .failures < p .box .conversation .terms .limit → ntHashOf password ≡ a .nt .octets
         → passed ≡ found a
         → Exchanged p wrote l (drawnRight (a .expired) (p .box .conversation) a)
-    right-exchanged a g below hash input =
+    right-exchanged a g agree below hash input =
         exchanged p wrote l (drawnRight (a .expired) (p .box .conversation) a) (i .tracks)
         (h .id) try-written (kept .not2)
         (right-small (a .expired) (p .box .conversation) a)
         (ap₂ (λ (x : List ℕ) (y : Lookup). step (p .box .conversation) x y (l .buffer)) try-left
         input
         ∙ right-taken (p .box .conversation) turn h (i .fresh) ph password name (l .packetPadding)
-        (l .buffer) (kept .not2) try-name a g below hash)
+        (l .buffer) (kept .not2) try-name a g agree below hash)
 
   -- the change
   module _ (old new filler : List ℕ) (l : ExchangeInput) (kept : ChangeWithin old new filler l)
@@ -222,9 +232,9 @@ through p i (s ∷ ss) h =
     ∙ unjudged-same p s i (h .0)
 
 -- a record that counts no failures is below every limit
-pub lets-in : (a : Account) (password : List ℕ) → Rightful a → a .expired ≡ false
+pub lets-in : (a : Account) (password : List ℕ) → Rightful a → Agree a → a .expired ≡ false
     → a .failures ≡ 0 → ntHashOf password ≡ a .nt .octets → LetsIn stepOn ourWriter a password
-lets-in a password g fresh none hash o behind name ss l ok eight quiet input kept =
+lets-in a password g agree fresh none hash o behind name ss l ok eight quiet input kept =
     let first = unanswered (opened o .conversation) in
     let faithful = opened-faithful o ok in
     let back = through first faithful ss quiet in
@@ -238,7 +248,7 @@ lets-in a password g fresh none hash o behind name ss l ok eight quiet input kep
     let limit = ap (λ (c : Conversation). c .terms .limit) (back ∙ opened-first o ok) in
     let below : a .failures < p .box .conversation .terms .limit =
     omega (arith, none, limit, opened-limited o ok) in
-    let d = right-exchanged p f i password name l kept ph a g below hash
+    let d = right-exchanged p f i password name l kept ph a g agree below hash
     (ap (passedWith a) input) .draws in
     let id : p .box .conversation .id ≡ o .id = ap (λ (c : Conversation). c .id)
     (back ∙ opened-first o ok) in
@@ -318,7 +328,7 @@ right-answered : (x : Bool) (e : Exchange) (c : Conversation) (a : Account)
 right-answered true e c a h = h
 right-answered false e c a h = h
 
-module _ (a : Account) (g : Rightful a) (limit : ℕ) where
+module _ (a : Account) (g : Rightful a) (agree : Agree a) (limit : ℕ) where
   -- the record last handed out is the first one but for its count
   abbrev now : SeriesState → Account
   now p = withFailures (p .account .failures) a
@@ -328,13 +338,14 @@ module _ (a : Account) (g : Rightful a) (limit : ℕ) where
       record { nt = g .nt; enabled = g .enabled; hours = g .hours; dialin = g .dialin }
 
   -- what was kept
-  module _ (p : SeriesState) (same : p .box .conversation .kept ≡ withFailures 0 a) where
+  module _ (p : SeriesState)
+      (same : p .box .conversation .kept ≡ entryOf (withFailures 0 a)) where
     kept-there : p .box .conversation .kept .nt .present ≡ true
-    kept-there = ap (λ (b : Account). b .nt .present) same ∙ g .nt
+    kept-there = ap (λ (b : Entry). b .nt .present) same ∙ g .nt
 
     kept-hash : (old : List ℕ) → ntHashOf old ≡ a .nt .octets
         → ntHashOf old ≡ p .box .conversation .kept .nt .octets
-    kept-hash old h = h ∙ sym (ap (λ (b : Account). b .nt .octets) same)
+    kept-hash old h = h ∙ sym (ap (λ (b : Entry). b .nt .octets) same)
 
   pub law : (due : List PacketKind) (p : SeriesState) (m : Step)
       → Ready a limit (packetKinds m ++ due) p
@@ -377,7 +388,8 @@ module _ (a : Account) (g : Rightful a) (limit : ℕ) where
       omega (arith, lim, n .below) in
       let passed : passedWith (p .account) (l .account) ≡ found b =
       ap (passedWith (p .account)) (h .1 .1) ∙ ap found (n .same) in
-      let x = right-exchanged p t i password name l (h .0) (f .0) b (rightful-now p) below
+      let x = right-exchanged p t i password name l (h .0) (f .0) b (rightful-now p)
+      (counted-agrees (p .account .failures) a agree) below
       (h .1 .0) passed in
       let answered = right-answered (a .expired) (exchange stepOn ourWriter p
       (right password name) l) (p .box .conversation) b (x .draws) in
@@ -402,16 +414,18 @@ module _ (a : Account) (g : Rightful a) (limit : ℕ) where
       let there = kept-there p (f .1) in
       let hash = kept-hash p (f .1) old (h .1) in
       let x = change-exchanged p t i old new filler l (h .0) (f .0) there hash in
-      let kept : Rightful (p .box .conversation .kept) = subst Rightful (sym (f .1))
+      let kept = withFailures 0 a in
+      let changes = changed-rightful kept (ntHashOf new)
       (record { nt = g .nt; enabled = g .enabled; hours = g .hours; dialin = g .dialin }) in
-      let changes = changed-rightful (p .box .conversation .kept) (ntHashOf new) kept in (
+      let handed = x .handed ∙ ap (λ (e : Entry). found (changed e (ntHashOf new))) (f .1) in (
         (
           (
             subst (λ (n : ℕ). DrawsSuccess (exchange stepOn ourWriter p
                 (passwordChange old new filler) l) n) (i .id) (x .draws),
             ap (λ (b : Lookup). b .found) (x .handed),
-            subst (λ (b : Lookup). LetsIn stepOn ourWriter (b .account) new) (sym (x .handed))
-                (lets-in (changed (p .box .conversation .kept) (ntHashOf new)) new (changes .0)
+            subst (λ (b : Lookup). LetsIn stepOn ourWriter (b .account) new) (sym handed)
+                (lets-in (changed (entryOf kept) (ntHashOf new)) new (changes .0)
+                (changed-agrees (entryOf kept) (ntHashOf new))
                 (changes .1) refl (sym (changes .2))),
           ),
           change-is-written p t i old new filler l (h .0) (f .0),
@@ -422,7 +436,7 @@ module _ (a : Account) (g : Rightful a) (limit : ℕ) where
           ended-in-step (p .box .conversation) (p .peer .turn) i,
           lim,
         )
-            (fit-changed a limit due (p .box .conversation .retries) blankAccount _ (f .2)),
+            (fit-changed a limit due (p .box .conversation .retries) blankEntry _ (f .2)),
       )
 
   -- the record that the change hands out
@@ -431,11 +445,11 @@ module _ (a : Account) (g : Rightful a) (limit : ℕ) where
       → Ready a limit (PasswordChange ∷ due) p
       → Allowed stepOn ourWriter a p (ours (passwordChange old new filler) l)
       → exchange stepOn ourWriter p (passwordChange old new filler) l .outcome .answer .updated
-      ≡ found (changed a (ntHashOf new))
+      ≡ found (changed (entryOf a) (ntHashOf new))
   change-updated due p old new filler l ((f, i, lim), t, n) h =
       change-exchanged p t i old new filler l (h .0) (f .0) (kept-there p (f .1))
       (kept-hash p (f .1) old (h .1)) .handed
-      ∙ ap (λ (b : Account). found (changed b (ntHashOf new))) (f .1)
+      ∙ ap (λ (b : Entry). found (changed b (ntHashOf new))) (f .1)
 
   invariant : Invariant (next stepOn ourWriter) packetKinds (judgedAt stepOn ourWriter)
       (Allowed stepOn ourWriter a) (Claimed stepOn ourWriter a)
@@ -450,7 +464,7 @@ pub ready-first : (o : Opening) → opened o .refusal ≡ 0 → length (o .chall
 ready-first o ok eight k behind ms a few below due =
     let first = opened-first o ok in
     let fit = subst (FitIn a (plan k (a .expired))) (sym first)
-    (fit-plan k a (retriesOf (o .retries)) blankAccount few) in
+    (fit-plan k a (retriesOf (o .retries)) blankEntry few) in
     subst (λ (ks : List PacketKind). Ready a (o .limit) ks (start o behind a)) (sym due) (
       (fit, opened-in-step o ok eight behind a, ap (λ (c : Conversation). c .terms .limit) first),
       opened-faithful o ok,
@@ -472,8 +486,8 @@ pub demand3 : Demand3 ourBox ourWriter
 unfolding invariant
 demand3 o ok eight = (
   (λ behind. challenge-read o ok eight behind),
-  (λ a k behind ms g few below due h.
-      let all = whole (invariant a g (o .limit)) (start o behind a) ms
+  (λ a k behind ms g agree few below due h.
+      let all = whole (invariant a g agree (o .limit)) (start o behind a) ms
       (ready-first o ok eight k behind ms a few below due) h in
       (all .0, all .1 ∙ ap length due ∙ count k (a .expired), all .2 .0 .0)),
   (λ ss.

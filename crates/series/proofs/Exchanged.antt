@@ -14,7 +14,7 @@ use Rattle.authenticator.specs.Encode.{replyPacket}
 use Rattle.authenticator.specs.Step.{Outcome, isRepeated, judgedAs}
 use Rattle.authenticator.specs.Steps.{StepInput, stepOn, replyOf, drewReply, isRepeatAt, nextAfter, judged}
 use Rattle.authenticator.specs.declared.Conversation.{Conversation}
-use Rattle.authenticator.specs.declared.Judgement.{Judgement}
+use Rattle.authenticator.specs.Judge.{Judgement}
 use Rattle.authenticator.proofs.Replies.{readingFor, read-reply}
 use Rattle.authenticator.proofs.Seen.{Tracks, step-claim}
 use Rattle.authenticator.proofs.Steps.{reply-of, drew-judged}

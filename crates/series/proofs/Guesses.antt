@@ -34,7 +34,7 @@ use Rattle.authenticator.specs.Step.{Outcome, judgedAs}
 use Rattle.authenticator.specs.Steps.{StepInput, stepOn, replyOf, BoxState, unanswered, nextAfter}
 use Rattle.authenticator.specs.Steps.{isJudged, nextState}
 use Rattle.authenticator.specs.declared.Conversation.{Conversation}
-use Rattle.authenticator.specs.declared.Judgement.{Judgement}
+use Rattle.authenticator.specs.Judge.{Judgement}
 use Rattle.authenticator.specs.declared.Phase.{Phase}
 use Rattle.authenticator.specs.declared.Phase.the-variants.{Response, Change, Ended}
 use Rattle.authenticator.specs.declared.Reply.{Reply}

@@ -19,6 +19,8 @@ use Rattle.accounts.specs.declared.Account.{Account}
 use Rattle.accounts.specs.declared.Lookup.{Lookup}
 use Rattle.verify.specs.Lockout.{isLocked}
 use Rattle.verify.specs.Response.{answers, valid, foundValid, firstReason, responseReason}
+use Rattle.verify.specs.Response.{answersByHash, validByHash}
+use Rattle.verify.proofs.Carried.{by-hash}
 use Rattle.verify.specs.declared.Terms.{Terms}
 use Rattle.verify.proofs.Counting.{judged-below}
 use Rattle.verify.proofs.Reasons.{answers-right}
@@ -66,8 +68,8 @@ not-by-lm c s off by =
     let f = readResponse (s .packet) in
     let no = not-true (eqb (f .flag) 1 && a .nt .present) by in
     ap (λ (t : Bool). s .account .found && (not (isLocked (c .terms) a) && t))
-    (ap₂ (λ (t u : Bool). cond t (answers (a .nt) (c .challenge) (f .nt))
-    (u && answers (a .lm) (c .challenge) (f .lm))) no off)
+    (ap₂ (λ (t u : Bool). cond t (answers (a .nt) (a .«nt_keys») (c .challenge) (f .nt))
+    (u && answers (a .lm) (a .«lm_keys») (c .challenge) (f .lm))) no off)
     ∙ ap (λ (t : Bool). s .account .found && t) (and-false (not (isLocked (c .terms) a)))
     ∙ and-false (s .account .found)
 
@@ -160,13 +162,15 @@ module _ (o : Opening) (a : Account) (s : StepInput) (peer : LmPeer o a s) where
   peer-passes allowed = passed (first allowed) (s .packet) (s .buffer) (peer .admitted) refl
 
   lm-valid : validIn (first true) a (readResponse (s .packet)) ≡ true
-  unfolding valid
+  unfolding validByHash
   lm-valid =
       let f = readResponse (s .packet) in
+      let c = first true in
       let by = ap (λ (l : Lookup). eqb (f .flag) 1 && l .account .nt .present)
       (sym (peer .account))
       ∙ not-true (eqb (f .flag) 1 && s .account .account .nt .present) (peer .byLm) in
-      rw (by, answers-right (a .lm) (o .challenge) (f .lm) (peer .hash) (peer .response))
+      by-hash (c .terms) (c .challenge) a f (peer .agree)
+      ∙ rw (by, answers-right (a .lm) (o .challenge) (f .lm) (peer .hash) (peer .response))
 
   answered : (expired : Bool)
       → replyPacket (o .id) (cond expired (expiredFor (first true) (withFailures 0 a))

@@ -15,8 +15,16 @@ use Rattle.octets.proofs.Parts.{agrees-equal}
 use Rattle.octets.proofs.Numbers.{Octets}
 use Rattle.issued.specs.Issued.{Issued, listed, contains}
 use Rattle.issued.proofs.Listing.{not-met}
-use Rattle.credentials.specs.Credentials.{ntHashOf, responseOf, lengthUnder, unsealedAs, passwordIn}
-use Rattle.credentials.proofs.Laws.{response-tells}
+use Rattle.credentials.specs.Credentials.{
+  ntHashOf,
+  responseOf,
+  responseUnder,
+  schedulesOf,
+  lengthUnder,
+  unsealedAs,
+  passwordIn,
+}
+use Rattle.credentials.proofs.Laws.{response-under, response-under-tells}
 use Rattle.packets.specs.declared.Change.{Change}
 use Rattle.packets.specs.declared.Response.{Response}
 use Rattle.verify.specs.Response.{answers, valid}
@@ -26,6 +34,7 @@ use Rattle.authenticator.specs.Opening.{Opening, spends, opened, openedIssued}
 use Rattle.authenticator.specs.Steps.{StepInput, stepOn, nextAfter}
 use Rattle.accounts.specs.declared.Account.{Account}
 use Rattle.accounts.specs.declared.Hash.{Hash}
+use Rattle.accounts.specs.declared.Schedules.{Schedules}
 use Rattle.verify.proofs.Accepted.{accepted-only}
 use Rattle.authenticator.specs.declared.Conversation.{Conversation}
 use Rattle.authenticator.specs.declared.Opened.{Opened}
@@ -103,30 +112,42 @@ module _ (i : Issued) (first second : Opening) (two : Two spendsAll i first seco
         → (length (reached spendsAll o us .challenge) ≡ 8) × Octets (reached spendsAll o us .challenge)
     eight-octets o e k ok us = challenges-octets _ (o .challenge) (reached spendsAll o us .challenge) e k (reached-spent o ok us)
 
-    -- 24 octets are a hash's response to one challenge
-    responses-apart : (h r : List ℕ) → r ≡ responseOf h (inFirst .challenge) → r ≡ responseOf h (inSecond .challenge) → ⊥
-    responses-apart h r p q =
+    -- 24 octets are the response of round keys to one challenge, and so a hash's
+    under-apart : (ks r : List ℕ) → r ≡ responseUnder ks (inFirst .challenge)
+        → r ≡ responseUnder ks (inSecond .challenge) → ⊥
+    under-apart ks r p q =
         let a = eight-octets first (from-first .0 .eight) (from-first .0 .octets) first-opens ss in
         let b = eight-octets second (of-second .0 .eight) (of-second .0 .octets) second-opens ts in
-        never (response-tells h (inFirst .challenge) (inSecond .challenge) (a .0) (a .1) (b .0) (b .1) (sym p ∙ q))
+        never (response-under-tells ks (inFirst .challenge) (inSecond .challenge) (a .0) (a .1)
+        (b .0) (b .1) (sym p ∙ q))
 
-    answered-both : (h : Hash) (r : List ℕ) → answers h (inFirst .challenge) r ≡ true → answers h (inSecond .challenge) r ≡ true → ⊥
+    responses-apart : (h r : List ℕ) → r ≡ responseOf h (inFirst .challenge)
+        → r ≡ responseOf h (inSecond .challenge) → ⊥
+    responses-apart h r p q =
+        under-apart (schedulesOf h) r (p ∙ sym (response-under h (inFirst .challenge)))
+        (q ∙ sym (response-under h (inSecond .challenge)))
+
+    answered-both : (h : Hash) (k : Schedules) (r : List ℕ) → answers h k (inFirst .challenge) r ≡ true
+        → answers h k (inSecond .challenge) r ≡ true → ⊥
     unfolding answers
-    answered-both h r p q = which (h .present) p q
+    answered-both h k r p q = which (h .present) p q
       where
-        which : (t : Bool) → (t && agrees r (responseOf (h .octets) (inFirst .challenge))) ≡ true
-            → (t && agrees r (responseOf (h .octets) (inSecond .challenge))) ≡ true → ⊥
-        which true p q = responses-apart (h .octets) r (agrees-equal r _ p) (agrees-equal r _ q)
+        which : (t : Bool) → (t && agrees r (responseUnder (k .keys) (inFirst .challenge))) ≡ true
+            → (t && agrees r (responseUnder (k .keys) (inSecond .challenge))) ≡ true → ⊥
+        which true p q = under-apart (k .keys) r (agrees-equal r _ p) (agrees-equal r _ q)
         which false p q = false≢true p
 
     valid-both : (a : Account) (f : Response) → validIn inFirst a f ≡ true → validIn inSecond a f ≡ true → ⊥
     unfolding valid
     valid-both a f p q = which (eqb (f .flag) 1 && a .nt .present) (inFirst .terms .lm) (inSecond .terms .lm) p q
       where
-        which : (t u w : Bool) → cond t (answers (a .nt) (inFirst .challenge) (f .nt)) (u && answers (a .lm) (inFirst .challenge) (f .lm)) ≡ true
-            → cond t (answers (a .nt) (inSecond .challenge) (f .nt)) (w && answers (a .lm) (inSecond .challenge) (f .lm)) ≡ true → ⊥
-        which true u w p q = answered-both (a .nt) (f .nt) p q
-        which false true true p q = answered-both (a .lm) (f .lm) p q
+        which : (t u w : Bool)
+            → cond t (answers (a .nt) (a .«nt_keys») (inFirst .challenge) (f .nt))
+            (u && answers (a .lm) (a .«lm_keys») (inFirst .challenge) (f .lm)) ≡ true
+            → cond t (answers (a .nt) (a .«nt_keys») (inSecond .challenge) (f .nt))
+            (w && answers (a .lm) (a .«lm_keys») (inSecond .challenge) (f .lm)) ≡ true → ⊥
+        which true u w p q = answered-both (a .nt) (a .«nt_keys») (f .nt) p q
+        which false true true p q = answered-both (a .lm) (a .«lm_keys») (f .lm) p q
         which false true false p q = false≢true q
         which false false w p q = false≢true p
 
@@ -159,8 +180,9 @@ pub none-twice : NoneTwice ourOpener
 none-twice i first second two ss ts = never i first second two ss ts
 
 pub none-answered-twice : NoneAnsweredTwice ourOpener
-none-answered-twice i first second two ss ts h r p =
-    refuted (answers h (reached ourOpener second ts .challenge) r) (answered-both i first second two ss ts h r p)
+none-answered-twice i first second two ss ts h k r p =
+    refuted (answers h k (reached ourOpener second ts .challenge) r)
+    (answered-both i first second two ss ts h k r p)
 
 pub none-valid-twice : NoneValidTwice ourOpener
 none-valid-twice i first second two ss ts a f p = refuted (validIn (reached ourOpener second ts) a f) (valid-both i first second two ss ts a f p)

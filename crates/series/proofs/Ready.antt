@@ -12,11 +12,12 @@ use lib.ListN.{length}
 use Rattle.message.specs.Message.{calledFor, succeeded}
 use Rattle.challenges.specs.Challenges.{nextId, incremented}
 use Rattle.packets.specs.declared.ChallengeFields.{ChallengeFields}
-use Rattle.accounts.specs.Account.{blankAccount, withFailures}
+use Rattle.accounts.specs.Account.{blankEntry, entryOf, withFailures}
 use Rattle.authenticator.specs.Conversation.{ended, retried, awaitingChange}
 use Rattle.authenticator.specs.Opening.{Opening, opened}
-use Rattle.authenticator.specs.declared.Judgement.{Judgement}
+use Rattle.authenticator.specs.Judge.{Judgement}
 use Rattle.accounts.specs.declared.Account.{Account}
+use Rattle.accounts.specs.declared.Entry.{Entry}
 use Rattle.accounts.specs.declared.Lookup.{Lookup}
 use Rattle.verify.specs.Lockout.{oneMore}
 use Rattle.verify.proofs.Counting.{at-most-one-more}
@@ -37,28 +38,28 @@ use Rattle.series.proofs.Exchanged.{sentBy}
 -- ---- the conversation is fit for the packets that are due
 
 -- the record that is kept is the one that was handed out: it counts no failures
-abbrev pub keptFor : Account → Account
-keptFor a = cond (a .expired) (withFailures 0 a) blankAccount
+abbrev pub keptFor : Account → Entry
+keptFor a = cond (a .expired) (entryOf (withFailures 0 a)) blankEntry
 
-abbrev pub Fit : Account → List PacketKind → Phase → ℕ → Account → Type 0
+abbrev pub Fit : Account → List PacketKind → Phase → ℕ → Entry → Type 0
 Fit a [] ph r kept = ph ≡ Ended
 Fit a (Invalid ∷ ks) ph r kept = (ph ≡ Response) × (0 < r) × Fit a ks ph (r - 1) kept
 Fit a (Right ∷ ks) ph r kept = (ph ≡ Response) × Fit a ks (cond (a .expired) Change Ended) r (keptFor a)
-Fit a (PasswordChange ∷ ks) ph r kept = (ph ≡ Change) × (kept ≡ withFailures 0 a) × Fit a ks Ended r blankAccount
+Fit a (PasswordChange ∷ ks) ph r kept = (ph ≡ Change) × (kept ≡ entryOf (withFailures 0 a)) × Fit a ks Ended r blankEntry
 
 abbrev pub FitIn : Account → List PacketKind → Conversation → Type 0
 FitIn a due c = Fit a due (c .phase) (c .retries) (c .kept)
 
-fit-last : (x : Bool) (a : Account) (r : ℕ) → Fit a (cond x (PasswordChange ∷ []) []) (cond x Change Ended) r (cond x (withFailures 0 a) blankAccount)
+fit-last : (x : Bool) (a : Account) (r : ℕ) → Fit a (cond x (PasswordChange ∷ []) []) (cond x Change Ended) r (cond x (entryOf (withFailures 0 a)) blankEntry)
 fit-last true a r = (refl, refl, refl)
 fit-last false a r = refl
 
-pub fit-plan : (k : ℕ) (a : Account) (r : ℕ) (kept : Account) → k ≤ r → Fit a (plan k (a .expired)) Response r kept
+pub fit-plan : (k : ℕ) (a : Account) (r : ℕ) (kept : Entry) → k ≤ r → Fit a (plan k (a .expired)) Response r kept
 fit-plan zero a r kept h = (refl, fit-last (a .expired) a r)
 fit-plan (suc k) a r kept h = (refl, omega arith, fit-plan k a (r - 1) kept (omega arith))
 
 -- an ended conversation is fit for no packet
-none-due : (a : Account) (ks : List PacketKind) (r : ℕ) (kept : Account) → Fit a ks Ended r kept → ks ≡ []
+none-due : (a : Account) (ks : List PacketKind) (r : ℕ) (kept : Entry) → Fit a ks Ended r kept → ks ≡ []
 none-due a [] r kept f = refl
 none-due a (Invalid ∷ ks) r kept f = absurd (let e = f .0 in let z : _≡_ {A = ℕ} 0 1 = cc in omega arith)
 none-due a (Right ∷ ks) r kept f = absurd (let e = f .0 in let z : _≡_ {A = ℕ} 0 1 = cc in omega arith)
@@ -122,7 +123,7 @@ fit-cleared a limit due b d h e =
     })
 
 -- after the change
-pub fit-changed : (a : Account) (limit : ℕ) (due : List PacketKind) (r : ℕ) (kept d : Account) → Fit a due Ended r kept → FitRecord a limit due d
+pub fit-changed : (a : Account) (limit : ℕ) (due : List PacketKind) (r : ℕ) (kept : Entry) (d : Account) → Fit a due Ended r kept → FitRecord a limit due d
 fit-changed a limit due r kept d f = subst (λ (ks : List PacketKind). FitRecord a limit ks d) (sym (none-due a due r kept f)) tt
 
 -- ---- box and peer are in step
@@ -153,7 +154,7 @@ module _ (c : Conversation) (t : Turn) (h : InStep c t) where
   retried-in-step u = record { id = ap nextId (h .id); challenge = ap incremented (h .challenge) }
 
   -- after 648
-  kept-in-step : (a : Account) → InStep (awaitingChange c a) (nextTurn (sentBy t) (readingFor (expiredFor c a .reply)))
+  kept-in-step : (a : Account) → InStep (awaitingChange c (entryOf a)) (nextTurn (sentBy t) (readingFor (expiredFor c a .reply)))
   unfolding nextTurn calledFor
   kept-in-step a = record { id = ap nextId (h .id); challenge = h .challenge }
 
@@ -165,7 +166,7 @@ module _ (c : Conversation) (t : Turn) (h : InStep c t) where
   right-in-step true a = kept-in-step (withFailures 0 a)
   right-in-step false a = ended-in-step
 
-pub right-fit : (x : Bool) (c : Conversation) (a b : Account) (due : List PacketKind) → Fit b due (cond x Change Ended) (c .retries) (cond x (withFailures 0 a) blankAccount)
+pub right-fit : (x : Bool) (c : Conversation) (a b : Account) (due : List PacketKind) → Fit b due (cond x Change Ended) (c .retries) (cond x (entryOf (withFailures 0 a)) blankEntry)
     → FitIn b due (drawnRight x c a .next)
 right-fit true c a b due f = f
 right-fit false c a b due f = f

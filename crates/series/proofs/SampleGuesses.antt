@@ -29,7 +29,7 @@ use Rattle.authenticator.specs.Step.{Outcome, refusalIn, isRepeated, judgedAs}
 use Rattle.authenticator.specs.Steps.{StepInput, stepOn, Box, replyOf, drewReply, unanswered}
 use Rattle.authenticator.specs.Steps.{ruledRefusal, isJudged}
 use Rattle.authenticator.specs.declared.Conversation.{Conversation}
-use Rattle.authenticator.specs.declared.Judgement.{Judgement}
+use Rattle.authenticator.specs.Judge.{Judgement}
 use Rattle.authenticator.specs.declared.Retries.the-variants.{Count}
 use Rattle.authenticator.proofs.Admitted.{Passes}
 use Rattle.authenticator.proofs.Admitted as admitted

@@ -12,8 +12,8 @@ use lib.ListN.{length}
 use Rattle.credentials.specs.Credentials.{ntHashOf, responseOf, oldUnderNew}
 use Rattle.packets.specs.Response.{readResponse}
 use Rattle.packets.specs.Change.{readChange}
-use Rattle.accounts.specs.Account.{found, withFailures, Rightful}
-use Rattle.verify.specs.Response.{answers, valid, foundValid, countedLookup}
+use Rattle.accounts.specs.Account.{found, withFailures, Rightful, Agree}
+use Rattle.verify.specs.Response.{answersByHash, validByHash, foundValid, countedLookup}
 use Rattle.authenticator.specs.Judge.{validIn, newHashIn}
 use Rattle.authenticator.specs.Conversation.{awaitedCode, isEnded}
 use Rattle.authenticator.specs.Admit.{bodyRefusal}
@@ -36,6 +36,7 @@ use Rattle.authenticator.proofs.Judged.{
 }
 use Rattle.verify.proofs.Accepted.{length-inside, hash-inside, accepted-if}
 use Rattle.verify.proofs.Counting.{judged-below}
+use Rattle.verify.proofs.Carried.{by-hash}
 use Rattle.verify.proofs.Reasons.{answers-right}
 use Rattle.authenticator.specs.declared.Conversation.{Conversation}
 use Rattle.authenticator.specs.declared.Phase.{Phase}
@@ -73,17 +74,18 @@ response-passes c fresh ph room {p = p} back id flag =
 module _ (c : Conversation) (t : Turn) (same : c .challenge ≡ t .challenge)
     (password name after : List ℕ)
     (named : (1 ≤ length name) × (length name ≤ 256)) (a : Account) (there : a .nt .present ≡ true)
-    (right : ntHashOf password ≡ a .nt .octets) where
-  right-answers : answers (a .nt) (c .challenge) (responseFields (t .challenge) password .nt) ≡ true
+    (agree : Agree a) (right : ntHashOf password ≡ a .nt .octets) where
+  right-answers : answersByHash (a .nt) (c .challenge) (responseFields (t .challenge) password .nt) ≡ true
   right-answers = answers-right (a .nt) (c .challenge) _ there (ap₂ responseOf right (sym same))
 
   pub right-valid : validIn c a (readResponse (responseFor t password name ++ after)) ≡ true
-  unfolding valid
+  unfolding validByHash
   right-valid =
       let f = responseFields (t .challenge) password in
       ap (validIn c a) (response-found t password name after (named .0) (named .1) .fields)
-      ∙ valid-nt (eqb (f .flag) 1) (a .nt .present) (answers (a .nt) (c .challenge) (f .nt))
-      (c .terms .lm && answers (a .lm) (c .challenge) (f .lm))
+      ∙ by-hash (c .terms) (c .challenge) a f agree
+      ∙ valid-nt (eqb (f .flag) 1) (a .nt .present) (answersByHash (a .nt) (c .challenge) (f .nt))
+      (c .terms .lm && answersByHash (a .lm) (c .challenge) (f .lm))
       (eq-eqb (f .flag) 1 (response-flag (t .challenge) password)) there right-answers
 
 module _ (c : Conversation) (t : Turn) (h : InStep c t) (fresh : Fresh c) (ph : c .phase ≡ Response)
@@ -106,7 +108,7 @@ module _ (c : Conversation) (t : Turn) (h : InStep c t) (fresh : Fresh c) (ph : 
   invalid-taken l v pos = invalid-law c try b try-passes l ph v pos
 
   -- below the limit
-  module _ (a : Account) (g : Rightful a) (below : a .failures < c .terms .limit)
+  module _ (a : Account) (g : Rightful a) (agree : Agree a) (below : a .failures < c .terms .limit)
       (right : ntHashOf password ≡ a .nt .octets) where
     pub right-taken : step c try (found a) b ≡ judgedAs c
         (cond (a .expired) (expiredFor c (withFailures 0 a)) (accepted c (withFailures 0 a))) b
@@ -114,7 +116,7 @@ module _ (c : Conversation) (t : Turn) (h : InStep c t) (fresh : Fresh c) (ph : 
         valid-law c try b try-passes a ph
         (record { enabled = g .enabled; hours = g .hours; dialin = g .dialin })
         (judged-below (c .terms) (c .challenge) a (readResponse try) below
-        ∙ right-valid c t (h .challenge) password name after named a (g .nt) right)
+        ∙ right-valid c t (h .challenge) password name after named a (g .nt) agree right)
 
 -- ---- the change
 

@@ -16,10 +16,12 @@ use Rattle.des.specs.Tables.{pc1, pc2, shifts}
 use Rattle.des.specs.Des.{cipherF, crypt, roundKeys, expandKey, scheduleOf, desEncrypt, desThree}
 use Rattle.credentials.specs.Credentials.{ntHashOf, responseOf}
 use Rattle.packets.specs.Response.{readResponse}
+use Rattle.accounts.specs.Account.{Agree}
 use Rattle.accounts.specs.declared.Account.{Account}
 use Rattle.accounts.specs.declared.Hash.{Hash}
 use Rattle.verify.specs.Lockout.{isLocked}
-use Rattle.verify.specs.Response.{answers, valid}
+use Rattle.verify.specs.Response.{answersByHash, validByHash}
+use Rattle.verify.proofs.Carried.{by-hash}
 use Rattle.authenticator.specs.Judge.{validIn}
 use Rattle.authenticator.specs.Steps.{Box}
 use Rattle.peer.specs.Write.{responseFields}
@@ -39,7 +41,8 @@ differs = refl
 -- at a place where box and peer have the sample's challenge, and the record has the right
 -- password's hash, whatever its count
 module _ (box : Box) (p : SeriesState) (here : p .box .conversation .challenge ≡ challenge)
-    (there : p .peer .turn .challenge ≡ challenge) (hash : p .account .nt ≡ account false .nt) where
+    (there : p .peer .turn .challenge ≡ challenge) (hash : p .account .nt ≡ account false .nt)
+    (agree : Agree (p .account)) where
   abbrev sent : List ℕ
   sent = exchange box ourWriter p (invalid bad user) (line 60 own) .input .packet
 
@@ -51,13 +54,15 @@ module _ (box : Box) (p : SeriesState) (here : p .box .conversation .challenge �
       ∙ response-found (p .peer .turn) bad user (9 ∷ []) (omega arith) (omega arith) .fields
 
   wrong : validIn (p .box .conversation) (p .account) (readResponse sent) ≡ false
-  unfolding valid answers
+  unfolding validByHash answersByHash
   wrong =
       ap (validIn (p .box .conversation) (p .account)) sent-fields
+      ∙ by-hash (p .box .conversation .terms) (p .box .conversation .challenge) (p .account)
+      (responseFields (p .peer .turn .challenge) bad) agree
       ∙ ap (λ (h : Hash). cond (h .present)
       (h .present && agrees (responseOf (ntHashOf bad) (p .peer .turn .challenge))
       (responseOf (h .octets) (p .box .conversation .challenge)))
-      (p .box .conversation .terms .lm && answers (p .account .lm) (p .box .conversation .challenge)
+      (p .box .conversation .terms .lm && answersByHash (p .account .lm) (p .box .conversation .challenge)
       (replicate 24 0))) hash
       ∙ ap₂ (λ (x y : List ℕ). agrees (responseOf (ntHashOf bad) x) (responseOf (ntHashOf old) y))
       there here

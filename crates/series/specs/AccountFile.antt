@@ -9,7 +9,7 @@ use mathlib.Core.Path.{_≡_}
 use Prim.Native.Nat.{ℕ, _+_, _≤_, _<_, _^_}
 use lib.ListN.{length}
 use Rattle.octets.specs.Parts.{agrees}
-use Rattle.accounts.specs.Account.{accountWith, lookupOf, found, withFailures, Rightful}
+use Rattle.accounts.specs.Account.{accountWith, lookupOf, found, withFailures, Rightful, Agree}
 use Rattle.accounts.specs.declared.Account.{Account}
 use Rattle.accounts.specs.declared.Lookup.{Lookup}
 use Rattle.authenticator.specs.Opening.{Opening, retriesOf, opened}
@@ -122,7 +122,7 @@ KeptInFile box writer write =
     → findIn now maxAge name file .lookup ≡ found (withFailures 0 a)
     → (o : Opening) → opened o .refusal ≡ 0 → length (o .challenge) ≡ 8
     → (k : ℕ) (behind : List ℕ) (ms : List Step)
-    → Rightful a → k ≤ retriesOf (o .retries) → a .failures + k < o .limit
+    → Rightful a → Agree a → k ≤ retriesOf (o .retries) → a .failures + k < o .limit
     → collect packetKinds ms ≡ plan k (a .expired)
     → Along (next box writer) (Allowed box writer a) (start o behind a) ms
     → Along (next box writer) (KeptAt box writer write name file) (start o behind a) ms

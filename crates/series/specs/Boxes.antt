@@ -12,13 +12,13 @@ use Rattle.packets.specs.Frame.{octet, writtenOver}
 use Rattle.packets.specs.Response.{readResponse}
 use Rattle.authenticator.specs.Admit.{refusalFor}
 use Rattle.authenticator.specs.Encode.{replyPacket}
-use Rattle.accounts.specs.Account.{notFound, found, lookupOf, withFailures}
+use Rattle.accounts.specs.Account.{notFound, found, lookupOf, accountOf, withFailures}
 use Rattle.accounts.specs.declared.Lookup.{Lookup}
 use Rattle.verify.specs.Lockout.{isLocked, oneMore}
 use Rattle.verify.specs.Response.{foundValid}
 use Rattle.verify.specs.declared.ChangeFault.the-variants.{NoFault}
 use Rattle.authenticator.specs.Conversation.{isEnded, ended}
-use Rattle.authenticator.specs.declared.Judgement.{Judgement}
+use Rattle.authenticator.specs.Judge.{Judgement}
 use Rattle.authenticator.specs.Judge.{validIn, judgementFor, judge}
 use Rattle.authenticator.specs.Step.{Outcome, isRepeated, judgedAs, repeatedAs, refusedAs}
 use Rattle.authenticator.specs.Steps.{StepInput, Box, stepOn, refusalAt}
@@ -66,7 +66,7 @@ leavesRecord c s =
       reply = d .reply;
       fault = d .fault;
       next = d .next;
-      updated = cond (isChange c s && d .updated .found) (found (c .kept)) (d .updated);
+      updated = cond (isChange c s && d .updated .found) (found (accountOf (c .kept))) (d .updated);
     }
 
 -- judges the first Response of a conversation that was opened with r retries, and pretends on

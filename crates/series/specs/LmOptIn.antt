@@ -15,7 +15,7 @@ use Rattle.packets.specs.Codes.{responseCode}
 use Rattle.packets.specs.Frame.{octet}
 use Rattle.packets.specs.Response.{readResponse}
 use Rattle.packets.specs.Reply.{successPacket, failurePacket}
-use Rattle.accounts.specs.Account.{notFound, found, LogonPermitted}
+use Rattle.accounts.specs.Account.{notFound, found, LogonPermitted, Agree}
 use Rattle.accounts.specs.declared.Account.{Account}
 use Rattle.authenticator.specs.Admit.{refusalFor}
 use Rattle.authenticator.specs.Encode.{version}
@@ -45,11 +45,12 @@ IsAuthenticationFailure id reply =
     ⊎ (reply ≡ failurePacket id (textOf authenticationFailure 0 version))
 
 -- The first Response of a peer that knows its LM hash alone (an "old phone"): it is by LM, the
--- record has that hash, is permitted to log on and is not locked, and the LM response is the hash's
--- to the challenge of the opening. What is passed meets none of 2 to 7.
+-- record has that hash, its round keys agree, it is permitted to log on and is not locked, and the
+-- LM response is the hash's to the challenge of the opening. What is passed meets none of 2 to 7.
 pub record LmPeer (o : Opening) (a : Account) (s : StepInput) : Type 0 where
   pub account : s .account ≡ found a
   pub hash : a .lm .present ≡ true
+  pub agree : Agree a
   pub permitted : LogonPermitted a
   pub unlocked : a .failures < o .limit
   pub byLm : isByLm s ≡ true

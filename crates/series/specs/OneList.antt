@@ -20,6 +20,7 @@ use Rattle.authenticator.specs.Opening.{Opening, retriesOf, spends, firstConver
 use Rattle.authenticator.specs.Steps.{StepInput, nextAfter}
 use Rattle.accounts.specs.declared.Account.{Account}
 use Rattle.accounts.specs.declared.Hash.{Hash}
+use Rattle.accounts.specs.declared.Schedules.{Schedules}
 use Rattle.authenticator.specs.declared.Conversation.{Conversation}
 use Rattle.series.specs.Course.{end, Along}
 use Rattle.series.specs.Boxes.{ourBox}
@@ -80,13 +81,13 @@ module _ (opener : Opener) where
       → reached first ss .challenge ≢ reached second ts .challenge
 
   -- So one recorded answer opens no second box: octets that are a hash's response in one
-  -- conversation, NT or LM, are not in another.
+  -- conversation, NT or LM, are not in another, whatever round keys stand beside the hash.
   abbrev pub NoneAnsweredTwice : Type 0
   NoneAnsweredTwice =
       (i : Issued) (first second : Opening) → Two i first second
-      → (ss ts : List StepInput) (h : Hash) (response : List ℕ)
-      → answers h (reached first ss .challenge) response ≡ true
-      → answers h (reached second ts .challenge) response ≡ false
+      → (ss ts : List StepInput) (h : Hash) (keys : Schedules) (response : List ℕ)
+      → answers h keys (reached first ss .challenge) response ≡ true
+      → answers h keys (reached second ts .challenge) response ≡ false
 
   -- And a whole Response that is valid in one is not valid in another for the same account.
   abbrev pub NoneValidTwice : Type 0

@@ -1,5 +1,5 @@
 -- Demand 3. Words in quotes are document 01's, "The series in demand 3", and document 02's,
--- requests 2026-01 and 2026-09.
+-- requests 2026-01, 2026-09 and 2026-10.
 -- Assumes nothing: these are definitions.
 use mathlib.Core.Bool.{Bool, true, false, cond}
 use mathlib.Core.List.{List, [], _∷_, _++_}
@@ -14,7 +14,7 @@ use Rattle.packets.specs.Response.{badName, readResponse}
 use Rattle.packets.specs.Reply.{successPacket, failurePacket, readChallenge, longestReply}
 use Rattle.packets.specs.Sizes.{nameOffset, changeSize}
 use Rattle.packets.specs.declared.ChallengeFields.{ChallengeFields}
-use Rattle.accounts.specs.Account.{found, Rightful}
+use Rattle.accounts.specs.Account.{found, Rightful, Agree}
 use Rattle.verify.specs.Response.{foundValid}
 use Rattle.authenticator.specs.Opening.{Opening, retriesOf, opened, openedBuffer}
 use Rattle.authenticator.specs.Encode.{version}
@@ -258,9 +258,9 @@ module _ (box : Box) (writer : Writer) where
       × (exchange p t l .wrote .answer .refusal ≡ 0)
   Claimed a p (other s) = Unit {0}
 
-  -- "A single claim about the series from opening to end": the Challenge is read; where "the count
-  -- before plus the invalid tries is below the limit", each packet of our peer is written and draws
-  -- what it should; "with k invalid tries the box judges exactly k + 1 packets, or k + 2 with the
+  -- "A single claim about the series from opening to end": the Challenge is read; where the round
+  -- keys agree with the hashes and "the count before plus the invalid tries is below the limit",
+  -- each packet of our peer is written and draws what it should; "with k invalid tries the box judges exactly k + 1 packets, or k + 2 with the
   -- record expired", whatever refused packets and repeats come between them, and the conversation
   -- has ended; of any steps at all it judges at most r + 2, and each does what StepClaim says: a
   -- repeat draws the same reply, what is not judged leaves all as it was, and a judged Response
@@ -273,7 +273,7 @@ module _ (box : Box) (writer : Writer) where
       → ((behind : List ℕ) → challengeRead o behind
       ≡ record { refusal = 0; id = o .id; challenge = o .challenge })
       × ((a : Account) (k : ℕ) (behind : List ℕ) (ms : List Step)
-      → Rightful a → k ≤ retriesOf (o .retries) → a .failures + k < o .limit
+      → Rightful a → Agree a → k ≤ retriesOf (o .retries) → a .failures + k < o .limit
       → collect packetKinds ms ≡ plan k (a .expired)
       → Along next (Allowed a) (start o behind a) ms
       → Along next (Claimed a) (start o behind a) ms

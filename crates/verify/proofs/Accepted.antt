@@ -15,7 +15,7 @@ use Rattle.octets.proofs.Parts.{agrees-refl, agrees-equal}
 use Rattle.credentials.specs.Credentials.{ntHashOf, sealedBlock, lengthUnder, unsealedAs}
 use Rattle.credentials.specs.Credentials.{passwordIn}
 use Rattle.credentials.proofs.Laws.{length-under, password-sealed}
-use Rattle.accounts.specs.declared.Account.{Account}
+use Rattle.accounts.specs.declared.Entry.{Entry}
 use Rattle.packets.specs.declared.Change.{Change}
 use Rattle.verify.specs.Accepted.{lengthFor, hashFor, Accepted, SameButIgnored}
 use Rattle.verify.specs.Faults.{firstFault, isFaultless}
@@ -28,7 +28,7 @@ use Rattle.verify.specs.declared.ChangeFault.the-variants.{NoFault}
 
 -- the length and the hash inside a block that was sealed under the kept record's NT hash
 module _ (old filler new : List ℕ) (full : length filler ≡ 512) (fits : length new ≤ 512)
-    (kept : Account) (f : Change) (right : old ≡ kept .nt .octets)
+    (kept : Entry) (f : Change) (right : old ≡ kept .nt .octets)
     (block : f .block ≡ sealedBlock old filler new) where
   pub length-inside : lengthFor kept f ≡ length new
   length-inside = ap₂ lengthUnder (sym right) block ∙ length-under filler new full fits old
@@ -67,7 +67,7 @@ denied false e = absurd (true≢false e)
 agreed : (x y : List ℕ) → x ≡ y → not (agrees x y) ≡ false
 agreed x y e = ap (λ (z : List ℕ). not (agrees x z)) (sym e) ∙ ap not (agrees-refl x)
 
-module _ (kept : Account) (challenge : List ℕ) (f : Change) where
+module _ (kept : Entry) (challenge : List ℕ) (f : Change) where
   -- ---- if
 
   pub accepted-fault : Accepted kept challenge f → changeFault kept challenge f ≡ NoFault
@@ -120,7 +120,7 @@ module _ (kept : Account) (challenge : List ℕ) (f : Change) where
 -- ---- what is ignored
 
 -- bit 1 of the flags, the LM block, the old LM hash and the LM response have no effect
-pub ignored-change : (kept : Account) (challenge : List ℕ) (f g : Change) → SameButIgnored f g
+pub ignored-change : (kept : Entry) (challenge : List ℕ) (f g : Change) → SameButIgnored f g
     → checkedChange kept challenge f ≡ checkedChange kept challenge g
 unfolding checkedChange changeFault
 ignored-change kept challenge f g e = simp (e .block, e .bit0, e .verifier, e .nt)

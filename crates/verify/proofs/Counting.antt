@@ -8,7 +8,7 @@ use Prim.Native.Nat.{ℕ, suc, _≤_, _<_}
 use native.Mathlib.Omega.{arith}
 use borrow.Author.Tests.{ltb-true, lt-ltb, leb-true, le-leb, lt-leb}
 use lib.Dec.{ltb}
-use Rattle.accounts.specs.Account.{withFailures, found}
+use Rattle.accounts.specs.Account.{withFailures, found, entryOf}
 use Rattle.accounts.specs.declared.Account.{Account}
 use Rattle.packets.specs.declared.Response.{Response}
 use Rattle.message.specs.Reasons.{authenticationFailure}
@@ -109,7 +109,7 @@ module _ (t : Terms) (challenge : List ℕ) (a : Account) (f : Response) where
       ⊎ ((t .limit ≤ a .failures) × (a .failures ≤ counted t challenge a f .failures))
   unfolding responseReason
   counted-failed e = which (isLocked t a) (valid t challenge a f) refl
-      (failed-invalid (judgedValid t challenge a f) a e)
+      (failed-invalid (judgedValid t challenge a f) (entryOf a) e)
     where
       which : (l v : Bool) → isLocked t a ≡ l → (not l && v) ≡ false
           → (failuresAfter l v (a .failures) ≡ oneMore (a .failures))

@@ -10,7 +10,7 @@ use borrow.Author.Tests.{eqb-true, eqb-false, ltb-true, ltb-false}
 use lib.Dec.{eqb, ltb}
 use Rattle.octets.specs.Parts.{agrees}
 use Rattle.octets.proofs.Parts.{agrees-refl, agrees-equal}
-use Rattle.accounts.specs.declared.Account.{Account}
+use Rattle.accounts.specs.declared.Entry.{Entry}
 use Rattle.packets.specs.declared.Change.{Change}
 use Rattle.verify.specs.Accepted.{lengthFor, hashFor}
 use Rattle.verify.specs.Faults.{firstFault, faultNumber, faultWith, isFaultless}
@@ -61,7 +61,7 @@ differ : (x y : List ℕ) → not (agrees x y) ≡ true → x ≡ y → ⊥
 differ x y n e =
     true≢false (sym (ap (agrees x) (sym e) ∙ agrees-refl x) ∙ affirmed (agrees x y) n)
 
-module _ (kept : Account) (challenge : List ℕ) (f : Change) where
+module _ (kept : Entry) (challenge : List ℕ) (f : Change) where
   -- none with a number under this one holds
   abbrev Below : ℕ → Type 0
   Below n = (other : ChangeFault) → faultNumber other < n → Holds kept challenge f other → ⊥

@@ -3,3 +3,4 @@ pub mod Accepted
 pub mod FirstFault
 pub mod Reasons
 pub mod Counting
+pub mod Carried

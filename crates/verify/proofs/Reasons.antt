@@ -1,6 +1,5 @@
 -- The reasons that a Response draws: which there are, and which an invalid one draws, and a valid
--- one of an account that is permitted to log on. And what makes a response right.
--- Assumes nothing.
+-- one of an account that is permitted to log on. And what makes a response right. -- Assumes nothing.
 use mathlib.Core.Bool.{Bool, true, false, cond, not, _&&_}
 use mathlib.Core.List.{List}
 use mathlib.Core.Logic.{_≢_}
@@ -12,6 +11,7 @@ use Rattle.octets.proofs.Parts.{agrees-refl}
 use Rattle.credentials.specs.Credentials.{responseOf}
 use Rattle.accounts.specs.Account.{found, LogonPermitted}
 use Rattle.accounts.specs.declared.Account.{Account}
+use Rattle.accounts.specs.declared.Entry.{Entry}
 use Rattle.accounts.specs.declared.Hash.{Hash}
 use Rattle.accounts.specs.declared.Lookup.{Lookup}
 use Rattle.message.specs.Reasons.{
@@ -25,7 +25,7 @@ use Rattle.message.specs.Reasons.{
 }
 use Rattle.packets.specs.declared.Response.{Response}
 use Rattle.verify.specs.Response.{
-  answers,
+  answersByHash,
   judgedValid,
   foundValid,
   firstReason,
@@ -35,8 +35,8 @@ use Rattle.verify.specs.declared.Terms.{Terms}
 
 -- a hash's own response to the challenge is right
 pub answers-right : (h : Hash) (challenge response : List ℕ) → h .present ≡ true
-    → response ≡ responseOf (h .octets) challenge → answers h challenge response ≡ true
-unfolding answers
+    → response ≡ responseOf (h .octets) challenge → answersByHash h challenge response ≡ true
+unfolding answersByHash
 answers-right h challenge response there e =
     ap₂ (λ (t u : Bool). t && u) there
     (ap (λ (r : List ℕ). agrees r (responseOf (h .octets) challenge)) e
@@ -62,7 +62,7 @@ three-digits dialin = omega arith
 three-digits invalid = omega arith
 three-digits change = omega arith
 
-first-reason : (v : Bool) (a : Account) → Reason (firstReason v a)
+first-reason : (v : Bool) (a : Entry) → Reason (firstReason v a)
 unfolding firstReason
 first-reason v a = which v (a .disabled) (a .«hours_denied») (a .«dialin_denied») (a .expired)
   where
@@ -76,7 +76,7 @@ first-reason v a = which v (a .disabled) (a .«hours_denied») (a .«dialin_deni
     which true false false false false = success
 
 -- no Response draws the reason of a change
-not-changing : (v : Bool) (a : Account) → firstReason v a ≢ changingPassword
+not-changing : (v : Bool) (a : Entry) → firstReason v a ≢ changingPassword
 unfolding firstReason
 not-changing v a = which v (a .disabled) (a .«hours_denied») (a .«dialin_denied») (a .expired)
   where
@@ -91,7 +91,7 @@ not-changing v a = which v (a .disabled) (a .«hours_denied») (a .«dialin_deni
     which true false false false false e = omega (arith, e)
 
 -- and only what is not judged valid draws that of an invalid one
-pub failed-invalid : (v : Bool) (a : Account) → firstReason v a ≡ authenticationFailure → v ≡ false
+pub failed-invalid : (v : Bool) (a : Entry) → firstReason v a ≡ authenticationFailure → v ≡ false
 unfolding firstReason
 failed-invalid v a = which v (a .disabled) (a .«hours_denied») (a .«dialin_denied») (a .expired)
   where

@@ -16,18 +16,18 @@ use Rattle.credentials.specs.Credentials.{
   unsealedAs,
   passwordIn,
 }
-use Rattle.accounts.specs.declared.Account.{Account}
+use Rattle.accounts.specs.declared.Entry.{Entry}
 use Rattle.packets.specs.declared.Change.{Change}
 
 -- the length that the block gives, opened under the kept record's NT hash, and the hash of the
 -- password of that length
-abbrev pub lengthFor : Account → Change → ℕ
+abbrev pub lengthFor : Entry → Change → ℕ
 lengthFor kept f = lengthUnder (kept .nt .octets) (f .block)
 
-abbrev pub hashFor : Account → Change → List ℕ
+abbrev pub hashFor : Entry → Change → List ℕ
 hashFor kept f = ntHashOf (passwordIn (unsealedAs (kept .nt .octets) (f .block)) (lengthFor kept f))
 
-pub record Accepted (kept : Account) (challenge : List ℕ) (f : Change) : Type 0 where
+pub record Accepted (kept : Entry) (challenge : List ℕ) (f : Change) : Type 0 where
   pub hasHash : kept .nt .present ≡ true
   pub bit0 : f .flags % 2 ≡ 1
   pub even : lengthFor kept f % 2 ≡ 0

@@ -11,7 +11,7 @@ use lib.Dec.{eqb, ltb}
 use lib.ListN.{replicate}
 use Rattle.octets.specs.Parts.{agrees}
 use Rattle.credentials.specs.Credentials.{hashSize, longestNt, responseOf, oldUnderNew}
-use Rattle.accounts.specs.declared.Account.{Account}
+use Rattle.accounts.specs.declared.Entry.{Entry}
 use Rattle.packets.specs.declared.Change.{Change}
 use Rattle.verify.specs.Accepted.{lengthFor, hashFor}
 use Rattle.verify.specs.Faults.{firstFault, isFaultless}
@@ -26,7 +26,7 @@ checkedWith fault h =
 -- ---- the proofs of a new hash
 
 -- RFC 2433 A.17: the old hash under the new one is not the one sent
-abbrev pub badVerifier : Account → Change → List ℕ → Bool
+abbrev pub badVerifier : Entry → Change → List ℕ → Bool
 badVerifier kept f h = not (agrees (f .verifier) (oldUnderNew (kept .nt .octets) h))
 
 -- RFC 2433 A.7: the NT response is not the new hash's to the challenge in force
@@ -37,7 +37,7 @@ badResponse challenge f h = not (agrees (f .nt) (responseOf h challenge))
 
 -- Document 02, request 2026-04, on document 01's conditions. Bit 1 of the flags and the LM fields
 -- are ignored.
-unfoldable pub changeFault : Account → List ℕ → Change → ChangeFault
+unfoldable pub changeFault : Entry → List ℕ → Change → ChangeFault
 changeFault kept challenge f =
     firstFault
     (not (kept .nt .present))
@@ -48,10 +48,10 @@ changeFault kept challenge f =
     (badResponse challenge f (hashFor kept f))
 
 -- what is told of it
-unfoldable pub checkedChange : Account → List ℕ → Change → CheckedChange
+unfoldable pub checkedChange : Entry → List ℕ → Change → CheckedChange
 checkedChange kept challenge f = checkedWith (changeFault kept challenge f) (hashFor kept f)
 
 -- the new hash of an accepted change
-abbrev pub newHash : Account → List ℕ → Change → Option (List ℕ)
+abbrev pub newHash : Entry → List ℕ → Change → Option (List ℕ)
 newHash kept challenge f =
     cond (isFaultless (changeFault kept challenge f)) (some (hashFor kept f)) none

@@ -9,7 +9,7 @@ use mathlib.Core.Logic.{_≢_}
 use mathlib.Core.Path.{_≡_}
 use Prim.Native.Nat.{ℕ, _%_, _<_}
 use Rattle.credentials.specs.Credentials.{responseOf, oldUnderNew}
-use Rattle.accounts.specs.declared.Account.{Account}
+use Rattle.accounts.specs.declared.Entry.{Entry}
 use Rattle.packets.specs.declared.Change.{Change}
 use Rattle.verify.specs.Accepted.{lengthFor, hashFor, Accepted}
 use Rattle.verify.specs.Faults.{faultNumber}
@@ -24,7 +24,7 @@ use Rattle.verify.specs.declared.ChangeFault.the-variants.{
   ResponseWrong,
 }
 
-module _ (kept : Account) (challenge : List ℕ) (f : Change) where
+module _ (kept : Entry) (challenge : List ℕ) (f : Change) where
   -- what each of them says by itself; none is told of an accepted change
   abbrev pub Holds : ChangeFault → Type 0
   Holds NoFault = Accepted kept challenge f

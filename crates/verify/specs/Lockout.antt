@@ -8,8 +8,11 @@ use Rattle.accounts.specs.declared.Account.{Account}
 use Rattle.verify.specs.declared.Terms.{Terms}
 
 -- "at or over a limit of 1 to 255"
+abbrev pub isLockedAt : Terms → ℕ → Bool
+isLockedAt t n = leb (t .limit) n
+
 abbrev pub isLocked : Terms → Account → Bool
-isLocked t a = leb (t .limit) (a .failures)
+isLocked t a = isLockedAt t (a .failures)
 
 abbrev pub mostFailures : ℕ
 mostFailures = 255

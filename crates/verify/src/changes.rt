@@ -19,7 +19,7 @@ use crate::CheckedChange;
 use crate::faults::fault_before;
 use crate::faults::fault_if;
 use crate::faults::is_faultless;
-use accounts::Account;
+use accounts::Entry;
 use credentials::Content;
 use credentials::HASH_SIZE;
 use credentials::LONGEST_NT;
@@ -95,7 +95,7 @@ fn is_same_response(a: [u8; 24], b: [u8; 24]) -> bool
 // What is wrong with the proof of a new hash: the old hash under it, or its response, is not the
 // one that was sent.
 fn proof_fault(
-    kept: Account,
+    kept: Entry,
     challenge: [u8; 8],
     fields: packets::Change,
     hash: [u8; HASH_SIZE],
@@ -121,7 +121,7 @@ fn proof_fault(
 }
 
 // The new hash of an accepted change, or the first thing that is wrong with it.
-pub fn check_change(kept: Account, challenge: [u8; 8], fields: packets::Change) -> CheckedChange
+pub fn check_change(kept: Entry, challenge: [u8; 8], fields: packets::Change) -> CheckedChange
     ensures { λ r. ⌜ r ≡ checkedChange kept challenge fields ⌝ }
 {
     let nt = kept.nt;

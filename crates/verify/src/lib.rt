@@ -7,7 +7,7 @@ mod faults;
 mod lockout;
 mod responses;
 
-use accounts::Lookup;
+use accounts::EntryLookup;
 
 // What the opening fixes for the whole conversation.
 pub struct Terms {
@@ -18,10 +18,10 @@ pub struct Terms {
 }
 
 // A Response that was checked: the reason that it draws (0 is Success), and what was looked up,
-// with the record's count as the Response leaves it.
+// with the record's count as the Response leaves it. Its round keys are those that it came with.
 pub struct CheckedResponse {
     pub reason: u16,
-    pub updated: Lookup,
+    pub updated: EntryLookup,
 }
 
 // What is wrong with a change that is not accepted: the first that holds, in this order.
@@ -52,3 +52,4 @@ pub use faults::fault_number;
 pub use faults::fault_with;
 pub use faults::is_faultless;
 pub use responses::check_response;
+pub use responses::uses_nt;

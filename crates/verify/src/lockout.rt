@@ -2,16 +2,16 @@
 // branches on what is found: whether a guess at a locked account is right is in its count, which is
 // a secret, and the time is not to tell it either.
 ghost use mathlib.Core.Path.{_≡_};
-ghost use Rattle.verify.specs.Lockout.{isLocked, oneMore, failuresAfter};
+ghost use Rattle.verify.specs.Lockout.{isLockedAt, oneMore, failuresAfter};
 use crate::Terms;
-use accounts::Account;
 
 const MOST_FAILURES: u8 = 255;
 
-pub(crate) fn is_locked(terms: Terms, account: Account) -> bool
-    ensures { λ r. ⌜ r ≡ isLocked terms account ⌝ }
+// Whether an account with that count is locked.
+pub(crate) fn is_locked(terms: Terms, failures: u8) -> bool
+    ensures { λ r. ⌜ r ≡ isLockedAt terms failures ⌝ }
 {
-    terms.limit <= account.failures
+    terms.limit <= failures
 }
 
 // One more, to at most 255.

@@ -10,6 +10,4 @@ unfolding responseOf
 returns c = cc
 
 pub challenge-response-spec : {M : Type 1} → statement M
-challenge-response-spec =
-    tie.close
-    (tie.spec (λ c. search needs) (λ c. search needs) (λ c κs. search needs) (λ c κs. search needs) returns)
+challenge-response-spec = tie.close (tie.spec (λ c κs. search needs) (λ c κs. search needs) returns)

@@ -2,12 +2,11 @@
 -- Assumes nothing.
 use borrow.Author.Needs.{needs}
 use mathlib.Core.Path.{_≡_, sym, ap, _∙_}
-use Rattle.accounts.specs.Account.{found}
-use Rattle.accounts.specs.declared.Account.{Account}
 use Rattle.packets.specs.Change.{readChange}
 use Rattle.packets.specs.declared.Change.{Change}
 use Rattle.verify.specs.Change.{checkedChange}
-use Rattle.authenticator.specs.Judge.{changeJudgement, judgeChange}
+use Rattle.verify.specs.declared.CheckedChange.{CheckedChange}
+use Rattle.authenticator.specs.Judge.{verdictOf, changeJudgement, judgeChange}
 use Rattle.authenticator.specs.declared.Conversation.{Conversation}
 use Rattle.authenticator.proofs.Judgements.{changed-judged, unchanged-judged}
 use Rattle.authenticator.proofs.Conversation.change.Statement.{statement}
@@ -19,11 +18,12 @@ start c = c .before .before .before .before .before
 abbrev self : tie.After-check-change → Conversation
 self c = start c .args .self
 
-checked-told : (c : tie.After-check-change) → changeJudgement (self c) (c .check-change .result)
-    ≡ changeJudgement (self c)
-    (checkedChange (self c .kept) (self c .challenge) (readChange (start c .args .packet .now)))
+checked-told : (c : tie.After-check-change)
+    → verdictOf (changeJudgement (self c) (c .check-change .result))
+    ≡ verdictOf (changeJudgement (self c)
+    (checkedChange (self c .kept) (self c .challenge) (readChange (start c .args .packet .now))))
 checked-told c =
-    ap (changeJudgement (self c))
+    ap (λ (v : CheckedChange). verdictOf (changeJudgement (self c) v))
     (c .check-change .ensures
     ∙ ap (λ (f : Change). checkedChange (self c .kept) (self c .challenge) f)
     (c .before .read-change .ensures))
@@ -31,13 +31,13 @@ checked-told c =
 returns : tie.Need-returns
 unfolding judgeChange
 returns c =
-    let then = c .before .before in
+    let then = c .before in
     let accepted = then .before in
     let end = accepted .before in
     let n = end .before .before in
     changed-judged (self n) (n .check-change .result) (end .to-end .ensures)
     (sym (accepted .is-faultless .ensures) ∙ then .if1 .taken)
-    (c .found .ensures ∙ ap (λ (a : Account). found a) (c .before .changed .ensures))
+    (c .changed-entry .ensures)
     ∙ checked-told n
 
 returns-2 : tie.Need-returns-2
@@ -48,7 +48,7 @@ returns-2 c =
     let end = accepted .before in
     let n = end .before .before in
     unchanged-judged (self n) (n .check-change .result) (end .to-end .ensures)
-    (sym (accepted .is-faultless .ensures) ∙ else .if1 .left) (c .not-found .ensures)
+    (sym (accepted .is-faultless .ensures) ∙ else .if1 .left) (c .no-entry .ensures)
     ∙ checked-told n
 
 pub change-spec : {M : Type 1} → statement M
@@ -56,4 +56,4 @@ change-spec =
     tie.close
     (tie.spec
     (λ c κs. search needs) (λ c κs. search needs) (λ c κs. search needs) (λ c κs. search needs)
-    (λ c κs. search needs) (λ c κs. search needs) returns (λ c κs. search needs) returns-2)
+    (λ c κs. search needs) returns (λ c κs. search needs) returns-2)

@@ -2,18 +2,21 @@
 -- Assumes nothing.
 use borrow.Author.Needs.{needs}
 use mathlib.Core.Path.{sym, ap, _∙_}
-use Rattle.accounts.specs.declared.Lookup.{Lookup}
+use Rattle.accounts.specs.declared.EntryLookup.{EntryLookup}
+use Rattle.verify.specs.Response.{carryingLookup}
 use Rattle.verify.specs.declared.ChangeFault.the-variants.{NoFault}
-use Rattle.authenticator.specs.Judge.{judge, judgeIn}
-use Rattle.authenticator.specs.declared.Judgement.{Judgement}
+use Rattle.authenticator.specs.Judge.{verdictOf, judge, judgeIn}
+use Rattle.authenticator.specs.declared.Verdict.{Verdict}
 use Rattle.authenticator.specs.declared.Phase.{Phase}
 use Rattle.authenticator.specs.declared.Reply.the-variants.{Success}
 use Rattle.authenticator.proofs.Conversation.judge.Statement.{statement}
 use Rattle.authenticator.proofs.Conversation.judge.Tie as tie
 
 -- what the definition says of each phase
-abbrev judged : tie.Start → Phase → Judgement
-judged s ph = judgeIn ph (s .args .self) (s .args .packet .now) (s .args .lookup)
+abbrev judged : tie.Start → Phase → Verdict
+judged s ph =
+    verdictOf (judgeIn ph (s .args .self) (s .args .packet .now)
+    (carryingLookup (s .args .lookup) (s .args .schedules)))
 
 returns : tie.Need-returns
 unfolding judge
@@ -32,13 +35,13 @@ unfolding judge
 returns-3 c =
     let m = c .before in
     let s = m .before .before .before in
-    ap (λ (l : Lookup). record {
+    ap (λ (l : EntryLookup). let v : Verdict = record {
       reply = Success;
       fault = NoFault;
       next = s .args .self;
       updated = l;
-    })
-    (c .not-found .ensures)
+    } in v)
+    (c .no-entry .ensures)
     ∙ ap (judged s) (sym (m .enum-told3 .given .1))
 
 pub judge-spec : {M : Type 1} → statement M

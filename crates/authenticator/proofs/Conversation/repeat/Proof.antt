@@ -4,11 +4,11 @@ use borrow.Author.Needs.{needs}
 use mathlib.Core.Path.{_≡_, ap₂, _∙_, ap}
 use Prim.Native.Nat.{ℕ}
 use lib.ListN.{length}
-use Rattle.accounts.specs.declared.Lookup.{Lookup}
+use Rattle.accounts.specs.declared.EntryLookup.{EntryLookup}
 use Rattle.verify.specs.declared.ChangeFault.the-variants.{NoFault}
 use Rattle.authenticator.specs.Encode.{replyPacket}
 use Rattle.authenticator.specs.Judge.{reasonOf}
-use Rattle.authenticator.specs.declared.Answer.{Answer}
+use Rattle.authenticator.specs.declared.Stepped.{Stepped}
 use Rattle.authenticator.specs.declared.Kind.the-variants.{Repeated}
 use Rattle.authenticator.proofs.Written.{reply-fits, written-whole}
 use Rattle.authenticator.proofs.Conversation.repeat.Statement.{statement}
@@ -22,7 +22,7 @@ returns c =
     let a = s .args in
     let last = a .self .last in
     let reply = replyPacket (last .id) (last .reply) in
-    let answer : ℕ → ℕ → Lookup → Answer =
+    let answer : ℕ → ℕ → EntryLookup → Stepped =
     λ reason n l. record {
       kind = Repeated reason;
       fault = NoFault;
@@ -33,8 +33,8 @@ returns c =
     let written : w .write-reply .result ≡ length reply =
     w .write-reply .ensures .0
     ∙ written-whole reply (a .reply .now) (reply-fits (last .id) (last .reply)) (s .pre) in (
-      ap₂ (λ (reason n : ℕ). answer reason n (c .not-found .result)) (e .reason-of .ensures) written
-          ∙ ap (answer (reasonOf (last .reply)) (length reply)) (c .not-found .ensures),
+      ap₂ (λ (reason n : ℕ). answer reason n (c .no-entry .result)) (e .reason-of .ensures) written
+          ∙ ap (answer (reasonOf (last .reply)) (length reply)) (c .no-entry .ensures),
       w .write-reply .ensures .1,
     )
 

@@ -3,10 +3,9 @@
 use borrow.Author.Needs.{needs}
 use mathlib.Core.Path.{_≡_, refl, ap, _∙_}
 use Rattle.packets.specs.declared.Response.{Response}
-use Rattle.verify.specs.Response.{checkedResponse}
-use Rattle.verify.specs.declared.CheckedResponse.{CheckedResponse}
-use Rattle.authenticator.specs.Judge.{judgementFor, judgeResponse}
-use Rattle.authenticator.proofs.Judgements.{judgement-same}
+use Rattle.verify.specs.Response.{carryingLookup, checkedResponse}
+use Rattle.authenticator.specs.Judge.{judgeResponse}
+use Rattle.authenticator.proofs.Judgements.{verdictFor, verdict-same}
 use Rattle.authenticator.proofs.Conversation.response.Statement.{statement}
 use Rattle.authenticator.proofs.Conversation.response.Tie as tie
 
@@ -18,10 +17,10 @@ returns c =
     let fields = checked .before in
     let a = fields .before .before .before .before .args in
     let e = checked .check-response .ensures
-    ∙ ap (λ (f : Response). checkedResponse (a .self .terms) (a .self .challenge) (a .lookup) f)
+    ∙ ap (λ (f : Response). checkedResponse (a .self .terms) (a .self .challenge) (carryingLookup (a .lookup) (a .schedules)) f)
     (fields .read-response .ensures) in
-    judgement-same (reply .reply-for .ensures) (c .after .ensures) refl
-    ∙ ap (λ (v : CheckedResponse). judgementFor (a .self) (v .updated) (v .reason)) e
+    verdict-same (reply .reply-for .ensures) (c .after .ensures) refl
+    ∙ ap (verdictFor (a .self)) e
 
 pub response-spec : {M : Type 1} → statement M
 response-spec =

@@ -13,7 +13,7 @@ returns c =
     let a = c .before .before .before .args in
     let s = a .self in
     c .successor .ensures
-    ∙ ap (λ (i : ℕ). successor s i (s .challenge) (s .retries) Change (a .account))
+    ∙ ap (λ (i : ℕ). successor s i (s .challenge) (s .retries) Change (a .entry))
     (c .before .next-id .ensures)
 
 pub to-change-spec : {M : Type 1} → statement M

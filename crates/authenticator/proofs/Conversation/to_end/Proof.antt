@@ -11,7 +11,7 @@ returns : tie.Need-returns
 returns c =
     let s = c .before .before .before .args .self in
     c .successor .ensures
-    ∙ ap (successor s (s .id) (s .challenge) (s .retries) Ended) (c .before .blank-account .ensures)
+    ∙ ap (successor s (s .id) (s .challenge) (s .retries) Ended) (c .before .blank-entry .ensures)
 
 pub to-end-spec : {M : Type 1} → statement M
 to-end-spec = tie.close (tie.spec (λ c κs. search needs) (λ c κs. search needs) returns)

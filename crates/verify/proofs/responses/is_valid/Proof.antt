@@ -1,14 +1,14 @@
--- `verify::responses::is_valid` meets its contract: one hash and one response are chosen first, and
--- what the definition asks of either is asked of the chosen ones.
+-- `verify::responses::is_valid` meets its contract: one response is chosen first, and
+-- what the definition asks of either is asked of the chosen one.
 -- Assumes nothing.
 use borrow.Author.Needs.{needs}
-use mathlib.Core.Path.{_≡_, refl, ap, ap₂, _∙_}
+use mathlib.Core.Path.{_≡_, refl, ap₂, _∙_}
 use mathlib.Core.Bool.{Bool, true, false, cond, _&&_, _||_, and-assoc}
 use mathlib.Core.List.{List}
 use Prim.Native.Nat.{ℕ}
 use lib.Dec.{eqb}
 use Rattle.octets.specs.Parts.{agrees}
-use Rattle.credentials.specs.Credentials.{responseOf}
+use Rattle.credentials.specs.Credentials.{responseUnder}
 use Rattle.verify.specs.Response.{answers, valid}
 use Rattle.verify.proofs.responses.is_valid.Statement.{statement}
 use Rattle.verify.proofs.responses.is_valid.Tie as tie
@@ -26,26 +26,24 @@ returns : tie.Need-returns
 unfolding valid answers
 returns c =
     let e = c .before .before .before .before .before in
-    let g = e .before .before in
-    let a = g .before .before .before .before .before .before .before .before .args in
+    let a = e .before .before .before .before .before .before .before .before .args in
     let challenge = a .challenge in
+    let keys = a .schedules .keys in
     let flagged = eqb (a .fields .flag) 1 in
-    let nt = a .account .nt in
-    let lm = a .account .lm in
+    let nt = a .entry .nt in
+    let lm = a .entry .lm in
     let allowed = a .terms .lm in
     let counts = (flagged && nt .present) || (allowed && lm .present) in
     let answer : Bool → List ℕ = λ b. cond b (a .fields .nt) (a .fields .lm) in
-    let hash : Bool → List ℕ = λ b. cond b (nt .octets) (lm .octets) in
-    let of : Bool → Bool = λ b. agrees (answer b) (responseOf (hash b) challenge) in
+    let of : Bool → Bool = λ b. agrees (answer b) (responseUnder keys challenge) in
     c .agree-if-both .ensures
     ∙ ap₂ (λ (x y : List ℕ). counts && agrees x y) (e .before .chosen-response .ensures)
-    (e .challenge-response .ensures
-    ∙ ap (λ (x : List ℕ). responseOf x challenge) (g .chosen-hash .ensures))
+    (e .scheduled-response .ensures)
     ∙ chosen-first flagged (nt .present) allowed (lm .present) of
 
 pub is-valid-spec : {M : Type 1} → statement M
 is-valid-spec =
     tie.close
     (tie.spec
-    (λ c κs. search needs) (λ c κs. search needs) (λ c κs. search needs) (λ c. search needs)
-    (λ c. search needs) (λ c κs. search needs) returns)
+    (λ c κs. search needs) (λ c κs. search needs) (λ c. search needs) (λ c. search needs)
+    (λ c κs. search needs) returns)
