@@ -13,7 +13,7 @@ use Rattle.octets.proofs.Parts.{fixed-same, length-fixed}
 use Rattle.packets.proofs.Framing.{field}
 use Rattle.authenticator.specs.Conversation.{awaitedCode, withLast}
 use Rattle.authenticator.specs.Judge.{reasonOf}
-use Rattle.accounts.specs.declared.Account.{Account}
+use Rattle.accounts.specs.declared.Entry.{Entry}
 use Rattle.authenticator.specs.declared.Conversation.{Conversation}
 use Rattle.authenticator.specs.declared.LastAnswer.{LastAnswer}
 use Rattle.authenticator.specs.declared.Phase.{Phase}
@@ -24,12 +24,12 @@ use Rattle.layouts.specs.Records as records
 use Rattle.layouts.specs.LastAnswers.{encodeLast, decodeLast}
 use Rattle.layouts.specs.Conversations as layout
 use Rattle.layouts.proofs.Encodings.{encoding-fits, encoding-of, encoding-length}
-use Rattle.layouts.proofs.RecordLaws.{SizedAccount, decoded-account-sized, length-account}
-use Rattle.layouts.proofs.RecordLaws.{flag-back, account-back}
+use Rattle.layouts.proofs.RecordLaws.{SizedEntry, decoded-entry-sized, length-entry}
+use Rattle.layouts.proofs.RecordLaws.{flag-back, entry-back}
 use Rattle.layouts.proofs.LastAnswerLaws.{length-last, decoded-reason, last-back}
 
 pub conversation-same : {t t' : Bool} {m m' i i' r r' : ℕ} {c c' : List ℕ} {p p' : Phase}
-    {k k' : Account} {l l' : LastAnswer} → t ≡ t' → m ≡ m' → i ≡ i' → c ≡ c' → r ≡ r' → p ≡ p'
+    {k k' : Entry} {l l' : LastAnswer} → t ≡ t' → m ≡ m' → i ≡ i' → c ≡ c' → r ≡ r' → p ≡ p'
     → k ≡ k' → l ≡ l'
     → _≡_ {A = Conversation}
     (record {
@@ -54,7 +54,7 @@ conversation-same e₁ e₂ e₃ e₄ e₅ e₆ e₇ e₈ = cc
 
 pub state-pieces : (c : Conversation) {code : ℕ} → code ≡ awaitedCode (c .phase)
     → (code ∷ records.flag (c .terms .lm) ∷ c .terms .limit ∷ c .id ∷ c .retries
-    ∷ (c .challenge ++ records.encodeAccount (c .kept)))
+    ∷ (c .challenge ++ records.encodeEntry (c .kept)))
     ++ encodeLast (c .last)
     ≡ layout.encodeState c
 unfolding layout.encodeState
@@ -62,13 +62,13 @@ state-pieces c e =
     ap₂
     (λ (code : ℕ) (l : List ℕ). code ∷ records.flag (c .terms .lm) ∷ c .terms .limit ∷ c .id
     ∷ c .retries ∷ l) e
-    (append-assoc (c .challenge) (records.encodeAccount (c .kept)) (encodeLast (c .last)))
+    (append-assoc (c .challenge) (records.encodeEntry (c .kept)) (encodeLast (c .last)))
 
 -- ---- the sizes of a value's arrays, which the code's types fix
 
 pub record SizedConversation (c : Conversation) : Type 0 where
   pub challenge : length (c .challenge) ≡ challengeSize
-  pub kept : SizedAccount (c .kept)
+  pub kept : SizedEntry (c .kept)
 
 pub decoded-state-sized : (bytes : List ℕ)
     → SizedConversation (layout.decodeState bytes)
@@ -76,14 +76,14 @@ unfolding layout.decodeState
 decoded-state-sized bytes =
     record {
       challenge = length-fixed 8 (part layout.challengeAt 8 bytes);
-      kept = decoded-account-sized (part layout.keptAt records.accountSize bytes);
+      kept = decoded-entry-sized (part layout.keptAt records.entrySize bytes);
     }
 
 pub length-state : (c : Conversation) → SizedConversation c
     → length (layout.encodeState c) ≡ layout.stateSize
 unfolding layout.encodeState
 length-state c s =
-    simp (length-append, s .challenge, length-account (c .kept) (s .kept), length-last (c .last))
+    simp (length-append, s .challenge, length-entry (c .kept) (s .kept), length-last (c .last))
 
 pub decoded-conversation-sized : (bytes : List ℕ)
     → SizedConversation (layout.decodeConversation bytes)
@@ -114,12 +114,12 @@ module _ (c : Conversation) (s : SizedConversation c) where
       conversation-same (flag-back (c .terms .lm)) refl refl
       (ap (fixed 8) (challenge .0) ∙ fixed-same 8 (c .challenge) (s .challenge)) refl
       (phase-back (c .phase))
-      (ap records.decodeAccount (account .0) ∙ account-back (c .kept) (s .kept))
+      (ap records.decodeEntry (account .0) ∙ entry-back (c .kept) (s .kept))
       (ap (λ (l : List ℕ). decodeLast (take 6 l)) (account .1)
       ∙ ap decodeLast (take-all 6 last (omega (arith, length-last (c .last)))))
     where
       kept : List ℕ
-      kept = records.encodeAccount (c .kept)
+      kept = records.encodeEntry (c .kept)
 
       last : List ℕ
       last = encodeLast (c .last)
@@ -135,7 +135,7 @@ module _ (c : Conversation) (s : SizedConversation c) where
 
       account : (part 13 39 bytes ≡ kept) × (drop 52 bytes ≡ last)
       account =
-          field bytes 13 39 kept last (challenge .1) (length-account (c .kept) (s .kept))
+          field bytes 13 39 kept last (challenge .1) (length-entry (c .kept) (s .kept))
 
   again : layout.decodeConversation (layout.encodeConversation c)
       ≡ withLast (decodeLast (encodeLast (c .last))) c

@@ -1,6 +1,7 @@
 pub mod Filling
 pub mod Putting
 pub mod Encodings
+pub mod KeyLaws
 pub mod RecordLaws
 pub mod AnswerLaws
 pub mod LastAnswerLaws

@@ -1,25 +1,28 @@
--- The layouts of an account and a record, field by field: a value is its fields, an encoding is its
+-- The layouts of an entry and a record, field by field: a value is its fields, an encoding is its
 -- pieces, and what is decoded from the encoding of a value is the value.
 -- Assumes nothing.
-use mathlib.Core.Path.{_≡_, refl, sym, ap, _∙_}
-use mathlib.Core.Bool.{Bool, true, false}
+use mathlib.Core.Path.{_≡_, refl, sym, ap, ap₂, _∙_}
+use mathlib.Core.Bool.{Bool, true, false, _&&_}
 use mathlib.Core.List.{List, [], _∷_, _++_, append-assoc}
 use Prim.Native.Nat.{ℕ, suc, _+_}
 use native.Mathlib.Omega.{arith}
 use mir.Val.{boolByte}
 use lib.ListN.{length, drop, getD, length-append}
-use lib.Seq.{take-all, getD-drop}
-use Rattle.octets.specs.Parts.{part}
-use Rattle.octets.proofs.Parts.{length-fixed, fixed-whole}
+use lib.Seq.{take-all, take-at, getD-drop}
+use borrow.Author.Tests.{eq-eqb, eqb-true}
+use Rattle.octets.specs.Parts.{part, agrees}
+use Rattle.octets.proofs.Parts.{length-fixed, fixed-whole, agrees-refl, agrees-equal}
 use Rattle.packets.specs.Frame.{octet}
 use Rattle.packets.proofs.Framing.{field}
 use Rattle.accounts.specs.declared.Hash.{Hash}
-use Rattle.accounts.specs.declared.Account.{Account}
-use Rattle.accounts.specs.declared.Lookup.{Lookup}
+use Rattle.accounts.specs.declared.Entry.{Entry}
+use Rattle.accounts.specs.declared.EntryLookup.{EntryLookup}
 use Rattle.packets.specs.Sizes.{hashSize}
-use Rattle.layouts.specs.Values.{recordKind, bodyIn}
+use Rattle.layouts.specs.Values.{bodyIn}
 use Rattle.layouts.specs.Records as layout
-use Rattle.layouts.proofs.Encodings.{encoding-fits, encoding-length, tagged-back}
+use Rattle.layouts.specs.Call.{sized}
+use Rattle.layouts.specs.Keys.{bothKeysSize}
+use Rattle.layouts.proofs.Filling.{both}
 
 -- ---- flags
 
@@ -34,9 +37,9 @@ pub hash-same : {p p' : Bool} {o o' : List ℕ} → p ≡ p' → o ≡ o'
     → _≡_ {A = Hash} (record { present = p; octets = o }) (record { present = p'; octets = o' })
 hash-same e f = cc
 
-pub account-same : {n n' l l' : Hash} {d d' h h' o o' e e' : Bool} {k k' : ℕ} → n ≡ n' → l ≡ l'
+pub entry-same : {n n' l l' : Hash} {d d' h h' o o' e e' : Bool} {k k' : ℕ} → n ≡ n' → l ≡ l'
     → d ≡ d' → h ≡ h' → o ≡ o' → e ≡ e' → k ≡ k'
-    → _≡_ {A = Account}
+    → _≡_ {A = Entry}
     (record {
       nt = n;
       lm = l;
@@ -55,65 +58,74 @@ pub account-same : {n n' l l' : Hash} {d d' h h' o o' e e' : Bool} {k k' : ℕ} 
       expired = e';
       failures = k';
     })
-account-same e₁ e₂ e₃ e₄ e₅ e₆ e₇ = cc
+entry-same e₁ e₂ e₃ e₄ e₅ e₆ e₇ = cc
 
-pub lookup-same : {f f' : Bool} {a a' : Account} → f ≡ f' → a ≡ a'
-    → _≡_ {A = Lookup} (record { found = f; account = a }) (record { found = f'; account = a' })
-lookup-same e₁ e₂ = cc
+pub entry-lookup-same : {f f' : Bool} {a a' : Entry} → f ≡ f' → a ≡ a'
+    → _≡_ {A = EntryLookup} (record { found = f; entry = a }) (record { found = f'; entry = a' })
+entry-lookup-same e₁ e₂ = cc
 
 -- ---- an encoding is its pieces
 
-pub account-pieces : (a : Account)
+pub entry-pieces : (a : Entry)
     → (((((layout.encodeHash (a .nt) ++ layout.encodeHash (a .lm))
     ++ (layout.flag (a .disabled) ∷ []))
     ++ (layout.flag (a .«hours_denied») ∷ []))
     ++ (layout.flag (a .«dialin_denied») ∷ []))
     ++ (layout.flag (a .expired) ∷ []))
     ++ (a .failures ∷ [])
-    ≡ layout.encodeAccount a
-unfolding layout.encodeAccount
-account-pieces a = simp append-assoc
+    ≡ layout.encodeEntry a
+unfolding layout.encodeEntry
+entry-pieces a = simp append-assoc
 
 -- ---- the sizes of a value's arrays, which the code's types fix
 
-pub record SizedAccount (a : Account) : Type 0 where
+pub record SizedEntry (a : Entry) : Type 0 where
   pub nt : length (a .nt .octets) ≡ hashSize
   pub lm : length (a .lm .octets) ≡ hashSize
 
-pub decoded-account-sized : (bytes : List ℕ) → SizedAccount (layout.decodeAccount bytes)
-unfolding layout.decodeAccount
-decoded-account-sized bytes =
+pub decoded-entry-sized : (bytes : List ℕ) → SizedEntry (layout.decodeEntry bytes)
+unfolding layout.decodeEntry
+decoded-entry-sized bytes =
     record {
       nt = length-fixed 16 (part 1 16 (part layout.ntAt layout.optionalHashSize bytes));
       lm = length-fixed 16 (part 1 16 (part layout.lmAt layout.optionalHashSize bytes));
     }
 
-pub decoded-lookup-sized : (bytes : List ℕ) → SizedAccount (layout.decodeLookup bytes .account)
-unfolding layout.decodeLookup
-decoded-lookup-sized bytes =
-    decoded-account-sized (part layout.accountAt layout.accountSize bytes)
+pub decoded-entry-lookup-sized : (bytes : List ℕ) → SizedEntry (layout.decodeEntryLookup bytes .entry)
+unfolding layout.decodeEntryLookup
+decoded-entry-lookup-sized bytes =
+    decoded-entry-sized (part layout.entryAt layout.entrySize bytes)
 
-pub length-account : (a : Account) → SizedAccount a
-    → length (layout.encodeAccount a) ≡ layout.accountSize
-unfolding layout.encodeAccount
-length-account a s = simp (length-append, s .nt, s .lm)
+pub length-entry : (a : Entry) → SizedEntry a
+    → length (layout.encodeEntry a) ≡ layout.entrySize
+unfolding layout.encodeEntry
+length-entry a s = simp (length-append, s .nt, s .lm)
 
-pub length-lookup : (l : Lookup) → SizedAccount (l .account)
-    → length (layout.encodeLookup l) ≡ layout.lookupSize
-unfolding layout.encodeLookup
-length-lookup l s = ap suc (length-account (l .account) s)
+pub length-entry-lookup : (l : EntryLookup) → SizedEntry (l .entry)
+    → length (layout.encodeEntryLookup l) ≡ layout.entryLookupSize
+unfolding layout.encodeEntryLookup
+length-entry-lookup l s = ap suc (length-entry (l .entry) s)
 
-pub decoded-record-sized : (bytes : List ℕ) → SizedAccount (layout.decodeRecord bytes .account)
-decoded-record-sized bytes = decoded-lookup-sized (bodyIn layout.lookupSize bytes)
+pub decoded-head-sized : (bytes : List ℕ) → SizedEntry (layout.decodeHead bytes .entry)
+decoded-head-sized bytes = decoded-entry-lookup-sized (bodyIn layout.entryLookupSize bytes)
 
--- what is taken for a record has the size of one
+pub length-head : (l : EntryLookup) → SizedEntry (l .entry)
+    → length (layout.recordHead l) ≡ layout.recordHeadSize
+length-head l s = ap (λ (n : ℕ). suc (suc n)) (length-entry-lookup l s)
+
+-- what is taken for a record has the size of one, and its head in front
 pub length-encoded-record : (bytes : List ℕ) → layout.isEncodedRecord bytes ≡ true
     → length bytes ≡ layout.recordSize
 unfolding layout.isEncodedRecord
-length-encoded-record =
-    encoding-length layout.encodeRecord layout.decodeRecord 42
-    (λ (bytes : List ℕ). ap (λ (n : ℕ). suc (suc n))
-    (length-lookup (layout.decodeRecord bytes) (decoded-record-sized bytes)))
+length-encoded-record bytes e =
+    eqb-true (length bytes) layout.recordSize (both (sized layout.recordSize bytes) _ e .0)
+
+pub head-encoded : (bytes : List ℕ) → layout.isEncodedRecord bytes ≡ true
+    → layout.recordHead (layout.decodeHead bytes) ≡ part 0 layout.recordHeadSize bytes
+unfolding layout.isEncodedRecord
+head-encoded bytes e =
+    agrees-equal (layout.recordHead (layout.decodeHead bytes)) (part 0 layout.recordHeadSize bytes)
+    (both (sized layout.recordSize bytes) _ e .1)
 
 -- ---- round trips
 
@@ -125,11 +137,11 @@ hash-back : (h : Hash) → length (h .octets) ≡ hashSize
     → layout.decodeHash (layout.encodeHash h) ≡ h
 hash-back h e = hash-same (flag-back (h .present)) (fixed-whole 16 (h .octets) e)
 
-pub account-back : (a : Account) → SizedAccount a
-    → layout.decodeAccount (layout.encodeAccount a) ≡ a
-unfolding layout.encodeAccount layout.decodeAccount
-account-back a s =
-    account-same (ap layout.decodeHash (first .0) ∙ hash-back (a .nt) (s .nt))
+pub entry-back : (a : Entry) → SizedEntry a
+    → layout.decodeEntry (layout.encodeEntry a) ≡ a
+unfolding layout.encodeEntry layout.decodeEntry
+entry-back a s =
+    entry-same (ap layout.decodeHash (first .0) ∙ hash-back (a .nt) (s .nt))
     (ap layout.decodeHash (second .0) ∙ hash-back (a .lm) (s .lm))
     (flagged 0 ∙ flag-back (a .disabled)) (flagged 1 ∙ flag-back (a .«hours_denied»))
     (flagged 2 ∙ flag-back (a .«dialin_denied»)) (flagged 3 ∙ flag-back (a .expired)) (behind 4)
@@ -161,24 +173,32 @@ account-back a s =
     flagged : (i : ℕ) → layout.isFlag (octet (34 + i) bytes) ≡ layout.isFlag (octet i rest)
     flagged i = ap layout.isFlag (behind i)
 
-pub lookup-back : (l : Lookup) → SizedAccount (l .account)
-    → layout.decodeLookup (layout.encodeLookup l) ≡ l
-unfolding layout.encodeLookup layout.decodeLookup
-lookup-back l s =
-    let n = length-account (l .account) s in
-    lookup-same (flag-back (l .found))
-    (ap layout.decodeAccount (take-all 39 (layout.encodeAccount (l .account)) (omega arith))
-    ∙ account-back (l .account) s)
+pub entry-lookup-back : (l : EntryLookup) → SizedEntry (l .entry)
+    → layout.decodeEntryLookup (layout.encodeEntryLookup l) ≡ l
+unfolding layout.encodeEntryLookup layout.decodeEntryLookup
+entry-lookup-back l s =
+    let n = length-entry (l .entry) s in
+    entry-lookup-same (flag-back (l .found))
+    (ap layout.decodeEntry (take-all 39 (layout.encodeEntry (l .entry)) (omega arith))
+    ∙ entry-back (l .entry) s)
 
--- what is decoded from a record is what was encoded
-pub record-back : (l : Lookup) → SizedAccount (l .account)
-    → layout.decodeRecord (layout.encodeRecord l) ≡ l
-record-back l s =
-    tagged-back layout.encodeLookup layout.decodeLookup recordKind 40 l (length-lookup l s)
-    (lookup-back l s)
+-- what is decoded from a head is what was encoded, whatever is behind it
+pub head-back : (l : EntryLookup) (keys : List ℕ) → SizedEntry (l .entry)
+    → layout.decodeHead (layout.recordHead l ++ keys) ≡ l
+head-back l keys s =
+    ap layout.decodeEntryLookup (take-at (layout.encodeEntryLookup l) keys 40
+    (length-entry-lookup l s))
+    ∙ entry-lookup-back l s
 
--- the encoding of a record is taken for one
-pub record-fits : (l : Lookup) → SizedAccount (l .account)
-    → layout.isEncodedRecord (layout.encodeRecord l) ≡ true
+-- a head and the bytes of round keys are taken for a record
+pub record-fits : (l : EntryLookup) (keys : List ℕ) → SizedEntry (l .entry)
+    → length keys ≡ bothKeysSize → layout.isEncodedRecord (layout.recordHead l ++ keys) ≡ true
 unfolding layout.isEncodedRecord
-record-fits l s = encoding-fits layout.encodeRecord layout.decodeRecord l (record-back l s)
+record-fits l keys s e =
+    ap₂ (λ (t : Bool) (b : Bool). t && b)
+    (eq-eqb (length (layout.recordHead l ++ keys)) layout.recordSize
+    (length-append (layout.recordHead l) keys
+    ∙ ap₂ (λ (m n : ℕ). m + n) (length-head l s) e))
+    (ap₂ agrees (ap layout.recordHead (head-back l keys s))
+    (take-at (layout.recordHead l) keys layout.recordHeadSize (length-head l s))
+    ∙ agrees-refl (layout.recordHead l))

@@ -4,7 +4,7 @@
 use mathlib.Core.Path.{_≡_, sym, ap, _∙_}
 use mathlib.Core.Bool.{true, not}
 use mathlib.Core.List.{List, []}
-use Prim.Native.Nat.{ℕ}
+use Prim.Native.Nat.{ℕ, _≤_}
 use native.Mathlib.Omega.{arith}
 use lib.Dec.{ltb}
 use lib.ListN.{length}
@@ -14,8 +14,10 @@ use Rattle.octets.specs.Parts.{part}
 use Rattle.octets.proofs.Parts.{agrees-equal}
 use Rattle.layouts.specs.Values.{layoutVersion, recordKind, answerKind, conversationKind}
 use Rattle.layouts.specs.Values.{peerKind, passwordKind, listKind, tagged, isEncoding}
-use Rattle.layouts.specs.Records.{encodeRecord, decodeRecord, isEncodedRecord}
-use Rattle.layouts.specs.Answers.{encodeAnswer, decodeAnswer, isEncodedAnswer}
+use Rattle.layouts.specs.Records.{isEncodedRecord}
+use Rattle.layouts.specs.Answers.{isEncodedAnswer}
+use Rattle.layouts.proofs.RecordLaws.{head-encoded}
+use Rattle.layouts.proofs.AnswerLaws.{answer-head}
 use Rattle.layouts.specs.Conversations.{encodeConversation, decodeConversation}
 use Rattle.layouts.specs.Conversations.{isEncodedConversation}
 use Rattle.layouts.specs.Peers.{encodePeer, decodePeer, isEncodedPeer}
@@ -37,13 +39,20 @@ begins kind e = record { first = sym (ap (octet 0) e); second = sym (ap (octet 1
 
 -- ---- each kind
 
+-- of a value of which the front of n bytes is compared
+begins-front : (kind n : ℕ) {body bytes : List ℕ} → 2 ≤ n → tagged kind body ≡ part 0 n bytes
+    → Tagged kind bytes
+begins-front kind n {bytes = bytes} h e =
+    record {
+      first = sym (getD-take n bytes 0 0 (omega arith)) ∙ sym (ap (octet 0) e);
+      second = sym (getD-take n bytes 1 0 (omega arith)) ∙ sym (ap (octet 1) e);
+    }
+
 pub record-tagged : (bytes : List ℕ) → isEncodedRecord bytes ≡ true → Tagged recordKind bytes
-unfolding isEncodedRecord
-record-tagged bytes e = begins recordKind (encoding-of encodeRecord decodeRecord bytes e)
+record-tagged bytes e = begins-front recordKind 42 (omega arith) (head-encoded bytes e)
 
 pub answer-tagged : (bytes : List ℕ) → isEncodedAnswer bytes ≡ true → Tagged answerKind bytes
-unfolding isEncodedAnswer
-answer-tagged bytes e = begins answerKind (encoding-of encodeAnswer decodeAnswer bytes e)
+answer-tagged bytes e = begins-front answerKind 46 (omega arith) (answer-head bytes e)
 
 pub conversation-tagged : (bytes : List ℕ) → isEncodedConversation bytes ≡ true
     → Tagged conversationKind bytes

@@ -13,7 +13,7 @@ use Rattle.authenticator.specs.declared.Conversation.{Conversation}
 use Rattle.authenticator.specs.declared.Phase.{Phase}
 use Rattle.authenticator.specs.declared.Phase.the-variants.{Response, Change, Ended}
 use Rattle.layouts.specs.Values.{conversationKind, tagged, bodyIn, isEncoding}
-use Rattle.layouts.specs.Records.{flag, isFlag, accountSize, encodeAccount, decodeAccount}
+use Rattle.layouts.specs.Records.{flag, isFlag, entrySize, encodeEntry, decodeEntry}
 use Rattle.layouts.specs.LastAnswers.{lastSize, encodeLast, decodeLast}
 
 -- the sizes, in bytes
@@ -54,7 +54,7 @@ lastAt = 52
 unfoldable pub encodeState : Conversation → List ℕ
 encodeState c =
     awaitedCode (c .phase) ∷ flag (c .terms .lm) ∷ c .terms .limit ∷ c .id ∷ c .retries
-    ∷ (c .challenge ++ (encodeAccount (c .kept) ++ encodeLast (c .last)))
+    ∷ (c .challenge ++ (encodeEntry (c .kept) ++ encodeLast (c .last)))
 
 unfoldable pub decodeState : List ℕ → Conversation
 decodeState bytes =
@@ -64,7 +64,7 @@ decodeState bytes =
       challenge = fixed challengeSize (part challengeAt challengeSize bytes);
       retries = octet retriesAt bytes;
       phase = phaseOf (octet awaitedAt bytes);
-      kept = decodeAccount (part keptAt accountSize bytes);
+      kept = decodeEntry (part keptAt entrySize bytes);
       last = decodeLast (part lastAt lastSize bytes);
     }
 

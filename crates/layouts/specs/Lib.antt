@@ -1,5 +1,6 @@
 pub mod Call
 pub mod Values
+pub mod Keys
 pub mod Records
 pub mod Answers
 pub mod LastAnswers

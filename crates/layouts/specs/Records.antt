@@ -1,17 +1,22 @@
--- The layouts of accounts and of records, which are what a lookup found. Each has a size, an
--- encoder (`encode..`) and a decoder (`decode..`), which is total; the names in `..At` are places.
+-- The layouts of entries (accounts without their round keys), of what a lookup found of one, and of
+-- records: that and the round keys behind it. Each has a size, an encoder (`encode..`) and a decoder
+-- (`decode..`), which is total; the names in `..At` are places.
 -- Assumes nothing: these are definitions.
-use mathlib.Core.Bool.{Bool, cond}
+use mathlib.Core.Bool.{Bool, cond, _&&_}
 use mathlib.Core.List.{List, [], _∷_, _++_}
-use Prim.Native.Nat.{ℕ}
+use Prim.Native.Nat.{ℕ, _+_}
 use lib.Dec.{eqb}
-use Rattle.octets.specs.Parts.{part, fixed}
+use Rattle.octets.specs.Parts.{part, fixed, agrees}
 use Rattle.packets.specs.Sizes.{hashSize}
 use Rattle.packets.specs.Frame.{octet}
+use Rattle.accounts.specs.Account.{lookupOf, withSchedules, entryLookupOf}
 use Rattle.accounts.specs.declared.Hash.{Hash}
-use Rattle.accounts.specs.declared.Account.{Account}
+use Rattle.accounts.specs.declared.Entry.{Entry}
+use Rattle.accounts.specs.declared.EntryLookup.{EntryLookup}
 use Rattle.accounts.specs.declared.Lookup.{Lookup}
-use Rattle.layouts.specs.Values.{recordKind, tagged, bodyIn, isEncoding}
+use Rattle.layouts.specs.Call.{sized}
+use Rattle.layouts.specs.Values.{recordKind, tagged, bodyIn}
+use Rattle.layouts.specs.Keys.{keysSize, bothKeysSize, keysAt, encodeSchedules}
 
 -- ---- the sizes, in bytes
 
@@ -19,14 +24,18 @@ use Rattle.layouts.specs.Values.{recordKind, tagged, bodyIn, isEncoding}
 abbrev pub optionalHashSize : ℕ
 optionalHashSize = 17
 
-abbrev pub accountSize : ℕ
-accountSize = 39
+abbrev pub entrySize : ℕ
+entrySize = 39
 
-abbrev pub lookupSize : ℕ
-lookupSize = 40
+abbrev pub entryLookupSize : ℕ
+entryLookupSize = 40
+
+-- a record before its round keys, with kind and version
+abbrev pub recordHeadSize : ℕ
+recordHeadSize = 42
 
 abbrev pub recordSize : ℕ
-recordSize = 42
+recordSize = recordHeadSize + bothKeysSize
 
 -- ---- flags and hashes
 
@@ -45,7 +54,7 @@ abbrev pub decodeHash : List ℕ → Hash
 decodeHash bytes =
     record { present = isFlag (octet 0 bytes); octets = fixed hashSize (part 1 hashSize bytes) }
 
--- ---- accounts
+-- ---- entries
 
 abbrev pub ntAt : ℕ
 ntAt = 0
@@ -68,15 +77,15 @@ expiredAt = 37
 abbrev pub failuresAt : ℕ
 failuresAt = 38
 
-unfoldable pub encodeAccount : Account → List ℕ
-encodeAccount a =
+unfoldable pub encodeEntry : Entry → List ℕ
+encodeEntry a =
     encodeHash (a .nt)
     ++ (encodeHash (a .lm)
     ++ (flag (a .disabled) ∷ flag (a .«hours_denied») ∷ flag (a .«dialin_denied») ∷ flag
     (a .expired) ∷ a .failures ∷ []))
 
-unfoldable pub decodeAccount : List ℕ → Account
-decodeAccount bytes =
+unfoldable pub decodeEntry : List ℕ → Entry
+decodeEntry bytes =
     record {
       nt = decodeHash (part ntAt optionalHashSize bytes);
       lm = decodeHash (part lmAt optionalHashSize bytes);
@@ -87,31 +96,58 @@ decodeAccount bytes =
       failures = octet failuresAt bytes;
     }
 
--- ---- what a lookup found: whether there is an account, and the account
+-- ---- what a lookup found: whether there is an entry, and the entry
 
 abbrev pub foundAt : ℕ
 foundAt = 0
 
-abbrev pub accountAt : ℕ
-accountAt = 1
+abbrev pub entryAt : ℕ
+entryAt = 1
 
-unfoldable pub encodeLookup : Lookup → List ℕ
-encodeLookup l = flag (l .found) ∷ encodeAccount (l .account)
+unfoldable pub encodeEntryLookup : EntryLookup → List ℕ
+encodeEntryLookup l = flag (l .found) ∷ encodeEntry (l .entry)
 
-unfoldable pub decodeLookup : List ℕ → Lookup
-decodeLookup bytes =
+unfoldable pub decodeEntryLookup : List ℕ → EntryLookup
+decodeEntryLookup bytes =
     record {
       found = isFlag (octet foundAt bytes);
-      account = decodeAccount (part accountAt accountSize bytes);
+      entry = decodeEntry (part entryAt entrySize bytes);
     }
 
 -- ---- records
 
+-- where the round keys of each hash begin, in the whole value
+abbrev pub ntKeysAt : ℕ
+ntKeysAt = recordHeadSize
+
+abbrev pub lmKeysAt : ℕ
+lmKeysAt = recordHeadSize + keysSize
+
+-- the bytes before them
+abbrev pub recordHead : EntryLookup → List ℕ
+recordHead l = tagged recordKind (encodeEntryLookup l)
+
 abbrev pub encodeRecord : Lookup → List ℕ
-encodeRecord l = tagged recordKind (encodeLookup l)
+encodeRecord l = recordHead (entryLookupOf l) ++ encodeSchedules (l .account)
+
+-- a record without its round keys
+abbrev pub decodeHead : List ℕ → EntryLookup
+decodeHead bytes = decodeEntryLookup (bodyIn entryLookupSize bytes)
 
 abbrev pub decodeRecord : List ℕ → Lookup
-decodeRecord bytes = decodeLookup (bodyIn lookupSize bytes)
+decodeRecord bytes =
+    lookupOf (decodeHead bytes .found)
+    (withSchedules (decodeHead bytes .entry) (keysAt ntKeysAt bytes) (keysAt lmKeysAt bytes))
 
+-- as many bytes as a record has, with that head in front
+abbrev pub isRecordOf : EntryLookup → List ℕ → Bool
+isRecordOf l bytes = sized recordSize bytes && agrees (recordHead l) (part 0 recordHeadSize bytes)
+
+-- Bytes are a record's where those before the round keys are what the entry decoded from them
+-- encodes to. The round keys may be any.
 unfoldable pub isEncodedRecord : List ℕ → Bool
-isEncodedRecord bytes = isEncoding encodeRecord decodeRecord bytes
+isEncodedRecord bytes = isRecordOf (decodeHead bytes) bytes
+
+-- the bytes of its round keys
+abbrev pub recordKeys : List ℕ → List ℕ
+recordKeys bytes = part recordHeadSize bothKeysSize bytes

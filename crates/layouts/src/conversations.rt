@@ -2,9 +2,9 @@
 use crate::last_answers::LAST_SIZE;
 use crate::last_answers::decode_last;
 use crate::last_answers::encode_last;
-use crate::records::ACCOUNT_SIZE;
-use crate::records::decode_account;
-use crate::records::encode_account;
+use crate::records::ENTRY_SIZE;
+use crate::records::decode_entry;
+use crate::records::encode_entry;
 use crate::records::is_flag;
 use crate::room::Room;
 use crate::room::TAG_SIZE;
@@ -18,6 +18,7 @@ use authenticator::Conversation;
 use authenticator::Phase;
 use verify::Terms;
 ghost use mathlib.Core.Path.{_≡_};
+ghost use Rattle.octets.specs.Parts.{agrees};
 ghost use Rattle.layouts.specs.Call.{Fills, sized};
 ghost use Rattle.layouts.specs.Conversations.{phaseOf, encodeState, decodeState};
 ghost use Rattle.layouts.specs.Conversations.{encodeConversation, decodeConversation};
@@ -73,7 +74,7 @@ fn encode_state(conversation: Conversation) -> Room
     room = put_byte(room, IDENTIFIER_AT, conversation.id);
     room = put_byte(room, RETRIES_AT, conversation.retries);
     room = put_eight(room, CHALLENGE_AT, challenge);
-    room = encode_account(room, KEPT_AT, kept);
+    room = encode_entry(room, KEPT_AT, kept);
     encode_last(room, LAST_AT, last)
 }
 
@@ -86,7 +87,7 @@ fn decode_state(bytes: &[u8]) -> Conversation
     let id = packets::octet(bytes, IDENTIFIER_AT);
     let retries = packets::octet(bytes, RETRIES_AT);
     let challenge = octets::eight_at(bytes, CHALLENGE_AT);
-    let kept = decode_account(octets::part_of(bytes, KEPT_AT, ACCOUNT_SIZE));
+    let kept = decode_entry(octets::part_of(bytes, KEPT_AT, ENTRY_SIZE));
     let last = decode_last(octets::part_of(bytes, LAST_AT, LAST_SIZE));
     Conversation {
         terms: Terms { lm, limit },
@@ -105,12 +106,19 @@ pub fn decode_conversation(bytes: &[u8]) -> Conversation
     decode_state(octets::part_of(bytes, TAG_SIZE, STATE_SIZE))
 }
 
+// Whether bytes are those of that conversation.
+pub fn is_conversation(conversation: Conversation, bytes: &[u8]) -> bool
+    ensures { λ r. ⌜ r ≡ agrees (encodeConversation conversation) (now (bytes .entry)) ⌝ }
+{
+    let body = encode_state(conversation);
+    is_value(CONVERSATION_KIND, body, CONVERSATION_SIZE, bytes)
+}
+
 // Whether bytes are a conversation's.
 pub fn is_encoded_conversation(bytes: &[u8]) -> bool
     ensures { λ r. ⌜ r ≡ isEncodedConversation (now (bytes .entry)) ⌝ }
 {
-    let body = encode_state(decode_conversation(bytes));
-    is_value(CONVERSATION_KIND, body, CONVERSATION_SIZE, bytes)
+    is_conversation(decode_conversation(bytes), bytes)
 }
 
 // Fills out with a conversation, unless there is a refusal.

@@ -8,7 +8,7 @@ use crate::records::flag;
 ghost use mathlib.Core.Path.{_≡_};
 ghost use mathlib.Core.List.{[], _∷_};
 ghost use lib.ListN.{length, replicate};
-ghost use Rattle.octets.specs.Parts.{part, overAt, agrees};
+ghost use Rattle.octets.specs.Parts.{part, over, overAt, agrees};
 ghost use Rattle.layouts.specs.Call.{Fills, sized};
 ghost use Rattle.layouts.specs.Values.{layoutVersion, tagged};
 ghost use Rattle.layouts.specs.Records.{flag};
@@ -81,13 +81,13 @@ pub(crate) fn layout_version(kind: u8) -> u8
     ensures { λ r. ⌜ r ≡ layoutVersion kind ⌝ }
 {
     if kind == RECORD_KIND {
-        return 2;
+        return 3;
     }
     if kind == CONVERSATION_KIND {
         return 3;
     }
     if kind == ANSWER_KIND {
-        return 4;
+        return 5;
     }
     1
 }
@@ -121,4 +121,13 @@ pub(crate) fn put_value(kind: u8, refusal: u8, room: Room, size: usize, out: &mu
 {
     let value = tag(kind, room).bytes;
     fill(refusal, octets::part_of(&value, 0, size), out)
+}
+
+// Lays them over the front of out.
+pub(crate) fn lay_value(kind: u8, room: Room, size: usize, out: &mut [u8])
+    ensures { λ _. ⌜ now (out .exit)
+        ≡ over (part 0 size (tagged kind (room .bytes))) (now (out .entry)) ⌝ }
+{
+    let value = tag(kind, room).bytes;
+    octets::copy(out, octets::part_of(&value, 0, size));
 }

@@ -5,7 +5,7 @@ use mathlib.Core.List.{[], _∷_}
 use Prim.Native.Nat.{ℕ}
 use Rattle.octets.specs.Numbers.{fromBe}
 use Rattle.verify.specs.Faults.{faultWith}
-use Rattle.layouts.specs.Records.{isFlag, decodeLookup}
+use Rattle.layouts.specs.Records.{isFlag, decodeEntryLookup}
 use Rattle.layouts.specs.Answers.{decodeResult}
 use Rattle.layouts.proofs.AnswerLaws.{result-same}
 use Rattle.layouts.proofs.answers.decode_result.Statement.{statement}
@@ -26,7 +26,7 @@ returns c =
     (reason .u16-from-be .ensures
     ∙ ap₂ (λ (a b : ℕ). fromBe (a ∷ b ∷ [])) (first .octet2 .ensures) (second .octet3 .ensures))
     (fault .fault-with .ensures ∙ ap faultWith (number .octet4 .ensures))
-    (c .decode-lookup .ensures ∙ ap decodeLookup (part .part-of .ensures))
+    (c .decode-entry-lookup .ensures ∙ ap decodeEntryLookup (part .part-of .ensures))
 
 pub decode-result-spec : {M : Type 1} → statement M
 decode-result-spec =

@@ -4,7 +4,7 @@ use mathlib.Core.Path.{refl, ap, ap₂, _∙_}
 use mathlib.Core.List.{[], _∷_}
 use lib.ListN.{length}
 use Rattle.octets.specs.Parts.{over}
-use Rattle.layouts.specs.Records.{flag, encodeLookup}
+use Rattle.layouts.specs.Records.{flag, encodeEntryLookup}
 use Rattle.layouts.proofs.AnswerLaws.{result-pieces}
 use Rattle.layouts.proofs.Putting.{first, next, last}
 use Rattle.layouts.proofs.answers.encode_result.Statement.{statement}
@@ -25,7 +25,7 @@ returns c =
     let s₁ = first 0 room (flag (v .repeated) ∷ []) 1 refl (repeated .put-flag .ensures) in
     let s₂ = next s₁ (number .u16-to-be .result) 2 (ap length two) (reason .put-two .ensures) in
     let s₃ = next s₂ (fault-number .fault-number .result ∷ []) 1 refl (fault .put-byte .ensures) in
-    last s₃ (encodeLookup (v .updated)) (c .encode-lookup .ensures)
+    last s₃ (encodeEntryLookup (v .updated)) (c .encode-entry-lookup .ensures)
     ∙ ap₂ over (result-pieces v two (fault-number .fault-number .ensures))
     (empty .empty-room .ensures)
 

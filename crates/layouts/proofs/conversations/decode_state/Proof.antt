@@ -2,7 +2,7 @@
 -- Assumes nothing.
 use mathlib.Core.Path.{ap, _∙_}
 use borrow.Author.Needs.{needs}
-use Rattle.layouts.specs.Records.{isFlag, decodeAccount}
+use Rattle.layouts.specs.Records.{isFlag, decodeEntry}
 use Rattle.layouts.specs.LastAnswers.{decodeLast}
 use Rattle.layouts.specs.Conversations.{phaseOf, decodeState}
 use Rattle.layouts.proofs.ConversationLaws.{conversation-same}
@@ -24,7 +24,7 @@ returns c =
     (limit .octet3 .ensures) (id .octet4 .ensures) (challenge .eight-at .ensures)
     (retries .octet5 .ensures)
     (phase .phase-of .ensures ∙ ap phaseOf (phase .before .octet .ensures))
-    (kept .decode-account .ensures ∙ ap decodeAccount (kept .before .part-of .ensures))
+    (kept .decode-entry .ensures ∙ ap decodeEntry (kept .before .part-of .ensures))
     (c .decode-last .ensures ∙ ap decodeLast (c .before .part-of2 .ensures))
 
 pub decode-state-spec : {M : Type 1} → statement M

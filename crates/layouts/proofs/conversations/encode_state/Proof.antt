@@ -5,9 +5,9 @@ use mathlib.Core.List.{[], _∷_}
 use borrow.Author.Needs.{needs}
 use lib.ListN.{length}
 use Rattle.octets.specs.Parts.{over}
-use Rattle.layouts.specs.Records.{flag, encodeAccount}
+use Rattle.layouts.specs.Records.{flag, encodeEntry}
 use Rattle.layouts.specs.LastAnswers.{encodeLast}
-use Rattle.layouts.proofs.RecordLaws.{SizedAccount, length-account}
+use Rattle.layouts.proofs.RecordLaws.{SizedEntry, length-entry}
 use Rattle.layouts.proofs.Putting.{first, next, last}
 use Rattle.layouts.proofs.ConversationLaws.{state-pieces}
 use Rattle.layouts.proofs.conversations.encode_state.Statement.{statement}
@@ -16,7 +16,7 @@ use Rattle.layouts.proofs.conversations.encode_state.Tie as tie
 long : (c : tie.Start) → length (c .args .conversation .challenge) ≡ 8
 long c = search needs
 
-kept-sized : (c : tie.Start) → SizedAccount (c .args .conversation .kept)
+kept-sized : (c : tie.Start) → SizedEntry (c .args .conversation .kept)
 kept-sized c = record { nt = search needs; lm = search needs }
 
 -- each field in turn, the last first
@@ -41,8 +41,8 @@ returns c =
     let s₅ = next s₄ (v .retries ∷ []) 1 refl (retries .put-byte4 .ensures) in
     let s₆ = next s₅ (v .challenge) 8 (long start) (challenge .put-eight .ensures) in
     let s₇ =
-    next s₆ (encodeAccount (v .kept)) 39 (length-account (v .kept) (kept-sized start))
-    (kept .encode-account .ensures) in
+    next s₆ (encodeEntry (v .kept)) 39 (length-entry (v .kept) (kept-sized start))
+    (kept .encode-entry .ensures) in
     last s₇ (encodeLast (v .last)) (c .encode-last .ensures)
     ∙ ap₂ over (state-pieces v (code .awaited-code .ensures)) (empty .empty-room .ensures)
 

@@ -1,33 +1,59 @@
 -- `layouts::records::put_record` meets its contract.
 -- Assumes nothing.
-use mathlib.Core.Path.{ap, _∙_}
-use native.Mathlib.Omega.{arith}
+use mathlib.Core.List.{List, _++_}
+use mathlib.Core.Path.{_≡_, refl, sym, ap, _∙_}
+use Prim.Native.Nat.{ℕ}
+use borrow.Author.Needs.{needs}
+use borrow.Author.Tests.{eq-eqb, ne-eqb}
+use lib.ListN.{length}
 use Rattle.octets.specs.Parts.{over}
-use Rattle.layouts.specs.Values.{recordKind}
-use Rattle.layouts.specs.Records.{encodeLookup}
-use Rattle.layouts.proofs.RecordLaws.{SizedAccount, length-lookup}
-use Rattle.layouts.proofs.Putting.{filled}
+use Rattle.octets.proofs.Laid.{first, next, laid-whole}
+use Rattle.accounts.specs.Account.{entryOf, entryLookupOf}
+use Rattle.accounts.specs.declared.EntryLookup.{EntryLookup}
+use Rattle.layouts.specs.Records.{recordHead}
+use Rattle.layouts.proofs.KeyLaws.{length-schedules}
+use Rattle.layouts.proofs.RecordLaws.{SizedEntry, length-head}
 use Rattle.layouts.proofs.records.put_record.Statement.{statement}
 use Rattle.layouts.proofs.records.put_record.Tie as tie
-use borrow.Author.Needs.{needs}
 
-sized : (c : tie.Start) → SizedAccount (c .args .lookup .account)
+sized : (c : tie.Start) → SizedEntry (entryOf (c .args .lookup .account))
 sized c = record { nt = search needs; lm = search needs }
 
+nt-numbers : (c : tie.Start) → length (c .args .lookup .account .«nt_keys» .keys) ≡ 48
+nt-numbers c = search needs
+
+lm-numbers : (c : tie.Start) → length (c .args .lookup .account .«lm_keys» .keys) ≡ 48
+lm-numbers c = search needs
+
 returns : tie.Need-returns
-returns c =
+returns c = record { number = simp (ne-eqb _ _ (c .if1 .taken)); bytes = refl }
+
+returns-2 : tie.Need-returns-2
+returns-2 c =
     let put = c .before .before in
-    let encoded = put .before .before in
-    let empty = encoded .before in
-    let start = empty .before .before in
-    let v = start .args .lookup in
-    filled recordKind 40 (omega arith) (encodeLookup v) (length-lookup v (sized start))
-    (encoded .encode-lookup .ensures ∙ ap (over (encodeLookup v)) (empty .empty-room .ensures))
-    (put .put-value .ensures)
+    let head = put .before .before .before .before .before in
+    let entry = head .before .before in
+    let keys = entry .before in
+    let else = keys .before .before in
+    let start = else .before .before in
+    let l = start .args .lookup in
+    let s₁ = first 42 (length-head (entryLookupOf l) (sized start))
+    (head .put-record-head .ensures
+    ∙ ap (λ (x : EntryLookup). over (recordHead x) (start .args .out .now))
+    (entry .entry-lookup-of .ensures)) in
+    let made = keys .encode-schedules .ensures in
+    let s₂ = next s₁ (keys .encode-schedules .result) 768
+    (ap length made ∙ length-schedules (l .account) (nt-numbers start) (lm-numbers start))
+    (put .copy-at .ensures) in
+    record {
+      number = simp (eq-eqb _ _ (else .if1 .left));
+      bytes = laid-whole s₂ (else .if1 .left)
+          ∙ ap (λ (x : List ℕ). recordHead (entryLookupOf l) ++ x) made;
+    }
 
 pub put-record-spec : {M : Type 1} → statement M
 put-record-spec =
     tie.close
     (tie.spec
-    (λ c κs. search needs) (λ c κs. search needs) (λ c κs. search needs) (λ c. search needs)
-    returns)
+    returns (λ c κs. search needs) (λ c κs. search needs) (λ c κs. search needs)
+    (λ c. search needs) (λ c κs. search needs) (λ c. search needs) returns-2)

@@ -1,4 +1,4 @@
--- `layouts::records::encode_account` meets its contract.
+-- `layouts::records::encode_entry` meets its contract.
 -- Assumes nothing.
 use mathlib.Core.Path.{refl, ap, _∙_}
 use mathlib.Core.List.{List, [], _∷_}
@@ -7,11 +7,11 @@ use borrow.Author.Needs.{needs}
 use Rattle.octets.specs.Parts.{overAt}
 use Rattle.layouts.specs.Records.{flag, encodeHash}
 use Rattle.layouts.proofs.Putting.{first, next, last}
-use Rattle.layouts.proofs.RecordLaws.{SizedAccount, account-pieces}
-use Rattle.layouts.proofs.records.encode_account.Statement.{statement}
-use Rattle.layouts.proofs.records.encode_account.Tie as tie
+use Rattle.layouts.proofs.RecordLaws.{SizedEntry, entry-pieces}
+use Rattle.layouts.proofs.records.encode_entry.Statement.{statement}
+use Rattle.layouts.proofs.records.encode_entry.Tie as tie
 
-sized : (c : tie.Start) → SizedAccount (c .args .account)
+sized : (c : tie.Start) → SizedEntry (c .args .entry)
 sized c = record { nt = search needs; lm = search needs }
 
 -- each field in turn, the last first
@@ -25,7 +25,7 @@ returns c =
     let nt = lm .before in
     let start = nt .before .before .before in
     let a = start .args in
-    let account = a .account in
+    let account = a .entry in
     let room = a .room .bytes in
     let s₁ =
     first (a .at) room (encodeHash (account .nt)) 17 (ap suc (sized start .nt))
@@ -37,10 +37,10 @@ returns c =
     let s₅ = next s₄ (flag (account .«dialin_denied») ∷ []) 1 refl (dialin .put-flag3 .ensures) in
     let s₆ = next s₅ (flag (account .expired) ∷ []) 1 refl (expired .put-flag4 .ensures) in
     last s₆ (account .failures ∷ []) (c .put-byte .ensures)
-    ∙ ap (λ (l : List ℕ). overAt (a .at) l room) (account-pieces account)
+    ∙ ap (λ (l : List ℕ). overAt (a .at) l room) (entry-pieces account)
 
-pub encode-account-spec : {M : Type 1} → statement M
-encode-account-spec =
+pub encode-entry-spec : {M : Type 1} → statement M
+encode-entry-spec =
     tie.close
     (tie.spec
     (λ c κs. search needs) (λ c. search needs) (λ c κs. search needs) (λ c. search needs)

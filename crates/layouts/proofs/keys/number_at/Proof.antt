@@ -1,0 +1,31 @@
+-- `layouts::keys::number_at` meets its contract.
+-- Assumes nothing.
+use mathlib.Core.Path.{_≡_, sym, ap, _∙_}
+use mathlib.Core.List.{_∷_}
+use Prim.Native.Nat.{ℕ, _+_, _≤_}
+use native.Mathlib.Omega.{arith}
+use lib.ListN.{length, getD}
+use Rattle.octets.specs.Parts.{part}
+use Rattle.octets.specs.Numbers.{fromBe}
+use Rattle.layouts.proofs.KeyLaws.{listedFrom, part-from}
+use Rattle.layouts.proofs.keys.number_at.Statement.{statement}
+use Rattle.layouts.proofs.keys.number_at.Tie as tie
+use borrow.Author.Needs.{needs}
+
+returns : tie.Need-returns
+returns c =
+    let s = c .before .before .before .before .before .before .before .before .before .before in
+    let b = s .args .bytes .now in
+    let at = s .args .at in
+    let place : at + 0 ≡ at = omega arith in
+    let room : at + 8 ≤ length b = s .pre in
+    c .u64-from-be .ensures
+    ∙ ap (λ (k : ℕ). fromBe (getD b k 0 ∷ listedFrom b at 1 7)) (sym place)
+    ∙ ap fromBe (sym (part-from 8 0 at b (omega arith)))
+    ∙ ap (λ (k : ℕ). fromBe (part k 8 b)) place
+
+pub number-at-spec : {M : Type 1} → statement M
+number-at-spec =
+    tie.close
+    (tie.spec
+    (λ c. search needs) (λ c. search needs) (λ c. search needs) (λ c. search needs) (λ c. search needs) (λ c. search needs) (λ c. search needs) (λ c. search needs) (λ c. search needs) (λ c. search needs) (λ c. search needs) (λ c. search needs) (λ c. search needs) (λ c. search needs) (λ c. search needs) (λ c κs. search needs) returns)
