@@ -1,9 +1,11 @@
 // An account file in a buffer of C's: an account looked up, a changed record written back, the
 // accounts counted. What a call returns and leaves is said here; `mschap` exports the three under
 // their names in C. Every public function is total.
+use accounts::no_schedules;
+use accounts::with_schedules;
 use layouts::BAD_ARGUMENT;
 use layouts::RECORD_SIZE;
-use layouts::decode_record;
+use layouts::decode_head;
 use layouts::is_encoded_record;
 use layouts::put_record;
 use smbpasswd::Place;
@@ -68,8 +70,8 @@ fn write_back(
     smbpasswd::refusal_of(place) as u32
 }
 
-// Writes a record back into the line of its name, but for its count. 102: it is the record of no
-// account.
+// Writes a record back into the line of its name, but for its count and its round keys, for which a
+// file has no place: so none are decoded. 102: it is the record of no account.
 pub fn write_account(
     file: &mut [u8],
     name: &[u8],
@@ -83,11 +85,12 @@ pub fn write_account(
     if !is_encoded_record(bytes) {
         return BAD_ARGUMENT;
     }
-    let lookup = decode_record(bytes);
+    let lookup = decode_head(bytes);
     if !lookup.found {
         return 102;
     }
-    let account = lookup.account;
+    let entry = lookup.entry;
+    let account = with_schedules(entry, no_schedules(), no_schedules());
     write_back(file, name, account, present, offset)
 }
 

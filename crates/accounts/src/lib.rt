@@ -99,7 +99,8 @@ pub fn no_hash() -> Hash
 
 // ---- round keys
 
-fn no_schedules() -> Schedules
+// None: zeros.
+pub fn no_schedules() -> Schedules
     ensures { λ r. ⌜ r ≡ noSchedules ⌝ }
 {
     Schedules {

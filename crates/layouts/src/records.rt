@@ -1,5 +1,6 @@
 // The layout of an entry, which is an account without its round keys, and of a record.
 use crate::buffers::BAD_ARGUMENT;
+use crate::buffers::wide;
 use crate::keys::BOTH_KEYS_SIZE;
 use crate::keys::encode_schedules;
 use crate::room::Room;
@@ -177,13 +178,16 @@ pub fn put_record_head(head: EntryLookup, out: &mut [u8])
     lay_value(RECORD_KIND, body, RECORD_HEAD_SIZE, out);
 }
 
-// Fills out with a record.
-pub fn put_record(lookup: Lookup, out: &mut [u8]) -> u32
-    ensures { λ r. ⌜ Fills (sized recordSize (now (out .entry))) 0 (encodeRecord lookup)
+// Fills out with a record, unless there is a refusal.
+pub fn put_record(refusal: u8, lookup: Lookup, out: &mut [u8]) -> u32
+    ensures { λ r. ⌜ Fills (sized recordSize (now (out .entry))) refusal (encodeRecord lookup)
         (now (out .entry)) r (now (out .exit)) ⌝ }
 {
     if out.len() != RECORD_SIZE {
         return BAD_ARGUMENT;
+    }
+    if refusal != 0 {
+        return wide(refusal);
     }
     let account = lookup.account;
     let keys = encode_schedules(account);

@@ -1,16 +1,21 @@
--- A record from C: made of flags and hashes, read, and its count read and set.
+-- A record from C: made of flags and hashes, read, its count read and set, and its response.
 -- Assumes nothing: these are definitions.
-use mathlib.Core.Bool.{Bool, _&&_}
-use mathlib.Core.List.{List}
+use mathlib.Core.Bool.{Bool, cond, _&&_, _||_}
+use mathlib.Core.List.{List, _++_}
 use mathlib.Core.Path.{_≡_}
 use Prim.Native.Nat.{ℕ}
-use lib.Dec.{ltb}
-use Rattle.packets.specs.Sizes.{hashSize}
-use Rattle.accounts.specs.Account.{lookupOf, withFailures}
-use Rattle.accounts.specs.declared.Lookup.{Lookup}
+use lib.Dec.{eqb, ltb}
+use Rattle.credentials.specs.Credentials.{responseUnder}
+use Rattle.packets.specs.Sizes.{hashSize, challengeSize, answerSize}
+use Rattle.accounts.specs.Account.{entryFailures}
+use Rattle.accounts.specs.declared.EntryLookup.{EntryLookup}
+use Rattle.accounts.specs.declared.Hash.{Hash}
+use Rattle.accounts.specs.declared.Schedules.{Schedules}
 use Rattle.layouts.specs.Call.{Fills, sized, numbered, afterCall}
-use Rattle.layouts.specs.Records.{recordSize, encodeRecord, decodeRecord, isEncodedRecord}
-use Rattle.numbers.specs.Flags.{recordArguments, recordFrom, flagsOf}
+use Rattle.layouts.specs.Keys.{keysAt}
+use Rattle.layouts.specs.Records.{recordSize, ntKeysAt, lmKeysAt, recordHead, recordKeys}
+use Rattle.layouts.specs.Records.{encodeRecord, decodeHead, isEncodedRecord}
+use Rattle.numbers.specs.Flags.{ntFlag, lmFlag, recordArguments, recordFrom, flagsOf}
 use Rattle.mschap.specs.Sizes.{valueOr}
 
 -- what making a record returns (r) and leaves
@@ -29,14 +34,14 @@ readRecordArguments bytes nt lm =
 pub record ReadRecordCall (bytes : List ℕ) (flags : ℕ) (nt lm : List ℕ) (r flagsAfter : ℕ)
     (ntAfter lmAfter : List ℕ) : Type 0 where
   pub number : r ≡ numbered (readRecordArguments bytes nt lm) 0
-  pub says : flagsAfter ≡ afterCall r (flagsOf (decodeRecord bytes)) flags
-  pub ntHash : ntAfter ≡ afterCall r (decodeRecord bytes .account .nt .octets) nt
-  pub lmHash : lmAfter ≡ afterCall r (decodeRecord bytes .account .lm .octets) lm
+  pub says : flagsAfter ≡ afterCall r (flagsOf (decodeHead bytes)) flags
+  pub ntHash : ntAfter ≡ afterCall r (decodeHead bytes .entry .nt .octets) nt
+  pub lmHash : lmAfter ≡ afterCall r (decodeHead bytes .entry .lm .octets) lm
 
 -- ---- its count of invalid Responses in a row (document 02, request 2026-09)
 
 unfoldable pub recordFailures : List ℕ → ℕ
-recordFailures bytes = valueOr (isEncodedRecord bytes) (decodeRecord bytes .account .failures)
+recordFailures bytes = valueOr (isEncodedRecord bytes) (decodeHead bytes .entry .failures)
 
 -- counts are below this
 abbrev pub failuresEnd : ℕ
@@ -46,11 +51,39 @@ unfoldable pub setFailuresArguments : List ℕ → ℕ → Bool
 setFailuresArguments bytes n = isEncodedRecord bytes && ltb n failuresEnd
 
 -- the record that is encoded, with another count; one of no account stays one
-abbrev pub failuresSet : List ℕ → ℕ → Lookup
+abbrev pub failuresSet : List ℕ → ℕ → EntryLookup
 failuresSet bytes n =
-    lookupOf (decodeRecord bytes .found) (withFailures n (decodeRecord bytes .account))
+    record {
+      found = decodeHead bytes .found;
+      entry = entryFailures n (decodeHead bytes .entry);
+    }
 
--- what setting it returns (r) and leaves in the record
+-- what setting it returns (r) and leaves in the record: the round keys are those that were there
 abbrev pub SetFailuresCall : List ℕ → ℕ → ℕ → List ℕ → Type 0
 SetFailuresCall bytes n r bytesAfter =
-    Fills (setFailuresArguments bytes n) 0 (encodeRecord (failuresSet bytes n)) bytes r bytesAfter
+    Fills (setFailuresArguments bytes n) 0 (recordHead (failuresSet bytes n) ++ recordKeys bytes)
+    bytes r bytesAfter
+
+-- ---- the response of its round keys (document 02, request 2026-10)
+
+-- of which hash, by its flag
+abbrev pub isOneHash : ℕ → Bool
+isOneHash hash = eqb hash ntFlag || eqb hash lmFlag
+
+unfoldable pub recordResponseArguments : List ℕ → ℕ → List ℕ → Bool
+recordResponseArguments bytes hash challenge =
+    isEncodedRecord bytes && (isOneHash hash && sized challengeSize challenge)
+
+abbrev pub namedHash : List ℕ → ℕ → Hash
+namedHash bytes hash =
+    cond (eqb hash ntFlag) (decodeHead bytes .entry .nt) (decodeHead bytes .entry .lm)
+
+abbrev pub namedKeys : List ℕ → ℕ → Schedules
+namedKeys bytes hash = cond (eqb hash ntFlag) (keysAt ntKeysAt bytes) (keysAt lmKeysAt bytes)
+
+-- 102: there is no such hash
+abbrev pub RecordResponseCall : List ℕ → ℕ → List ℕ → List ℕ → ℕ → List ℕ → Type 0
+RecordResponseCall bytes hash challenge out r outAfter =
+    Fills (recordResponseArguments bytes hash challenge && sized answerSize out)
+    (cond (namedHash bytes hash .present) 0 102)
+    (responseUnder (namedKeys bytes hash .keys) challenge) out r outAfter

@@ -1,15 +1,19 @@
 -- The step from C, over encodings, and what its answer and a conversation tell.
 -- Assumes nothing: these are definitions.
-use mathlib.Core.Bool.{Bool, _&&_}
-use mathlib.Core.List.{List}
+use mathlib.Core.Bool.{Bool, cond, _&&_}
+use mathlib.Core.List.{List, _++_}
 use mathlib.Core.Path.{_≡_}
 use Prim.Native.Nat.{ℕ}
+use Rattle.accounts.specs.Account.{entryOf, accountOf}
 use Rattle.authenticator.specs.Conversation.{awaitedCode}
-use Rattle.authenticator.specs.Step.{Outcome, step, refusalIn}
+use Rattle.authenticator.specs.Step.{Outcome, step, refusalIn, steppedOf, handsBack}
 use Rattle.verify.specs.Faults.{faultNumber}
 use Rattle.layouts.specs.Call.{Fills, sized, numbered, afterCall}
-use Rattle.layouts.specs.Records.{flag, recordSize, encodeRecord, decodeRecord, isEncodedRecord}
-use Rattle.layouts.specs.Answers.{answerSize, encodeAnswer, decodeAnswer, isEncodedAnswer}
+use Rattle.layouts.specs.Keys.{encodeSchedules}
+use Rattle.layouts.specs.Records.{flag, recordSize, recordHead, recordKeys, decodeRecord}
+use Rattle.layouts.specs.Records.{isEncodedRecord}
+use Rattle.layouts.specs.Answers.{answerSize, encodeAnswer, decodeAnswer, answerKeys}
+use Rattle.layouts.specs.Answers.{isEncodedAnswer}
 use Rattle.layouts.specs.Conversations.{encodeConversation, decodeConversation}
 use Rattle.layouts.specs.Conversations.{isEncodedConversation}
 use Rattle.numbers.specs.Results.{resultOf, noRecordRefusal}
@@ -26,6 +30,15 @@ unfoldable pub stepArguments : List ℕ → List ℕ → List ℕ → Bool
 stepArguments conversation account out =
     isEncodedConversation conversation && (isEncodedRecord account && sized answerSize out)
 
+-- The bytes of the round keys of the record that is handed out: those of the record that was
+-- passed, where it is handed back with its count; else those of its own hashes. That they are the
+-- round keys of the step's record is proved (proofs/Fitting `record-tells`).
+abbrev pub handedKeys : List ℕ → List ℕ → List ℕ → List ℕ → List ℕ
+handedKeys conversation packet account buffer =
+    let a = stepOf conversation packet account buffer .answer in
+    cond (handsBack (decodeConversation conversation .phase) (a .kind)) (recordKeys account)
+    (encodeSchedules (accountOf (entryOf (a .updated .account))))
+
 -- what the call returns (r) and leaves in the conversation, the reply buffer and the answer
 pub record StepCall (conversation packet account buffer out : List ℕ) (r : ℕ)
     (conversationAfter bufferAfter outAfter : List ℕ) : Type 0 where
@@ -37,7 +50,9 @@ pub record StepCall (conversation packet account buffer out : List ℕ) (r : ℕ
       conversation
   pub sent : bufferAfter ≡ afterCall r (stepOf conversation packet account buffer .buffer) buffer
   pub found : outAfter
-      ≡ afterCall r (encodeAnswer (resultOf (stepOf conversation packet account buffer .answer)))
+      ≡ afterCall r
+      (encodeAnswer (resultOf (steppedOf (stepOf conversation packet account buffer .answer)))
+      (handedKeys conversation packet account buffer))
       out
 
 -- ---- what an answer tells
@@ -61,7 +76,7 @@ answerRecordArguments answer out = isEncodedAnswer answer && sized recordSize ou
 abbrev pub AnswerRecordCall : List ℕ → List ℕ → ℕ → List ℕ → Type 0
 AnswerRecordCall answer out r outAfter =
     Fills (answerRecordArguments answer out) (noRecordRefusal (decodeAnswer answer .updated))
-    (encodeRecord (decodeAnswer answer .updated)) out r outAfter
+    (recordHead (decodeAnswer answer .updated) ++ answerKeys answer) out r outAfter
 
 -- ---- what a conversation tells
 

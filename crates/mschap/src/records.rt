@@ -1,9 +1,14 @@
 // A record: made of flags and hashes, read, and its count read and set.
 use crate::INVALID;
 use layouts::BAD_ARGUMENT;
-use layouts::decode_record;
+use layouts::decode_head;
 use layouts::is_encoded_record;
+use layouts::KEYS_SIZE;
+use layouts::RECORD_HEAD_SIZE;
+use layouts::keys_at;
 use layouts::put_record;
+use layouts::put_record_head;
+use layouts::wide;
 use numbers::are_record_arguments;
 use numbers::flags_of;
 use numbers::record_from;
@@ -54,10 +59,10 @@ pub extern "C" fn mschap_read_record(
     if !are_read_record_arguments(account, nt, lm) {
         return BAD_ARGUMENT;
     }
-    let lookup = decode_record(account);
-    let found = lookup.account;
-    let nt_hash = found.nt.octets;
-    let lm_hash = found.lm.octets;
+    let lookup = decode_head(account);
+    let entry = lookup.entry;
+    let nt_hash = entry.nt.octets;
+    let lm_hash = entry.lm.octets;
     *flags = flags_of(lookup);
     octets::copy(nt, &nt_hash);
     octets::copy(lm, &lm_hash);
@@ -74,7 +79,7 @@ pub extern "C" fn mschap_record_failures(account: &[u8]) -> u32
     if !is_encoded_record(account) {
         return INVALID;
     }
-    decode_record(account).account.failures as u32
+    decode_head(account).entry.failures as u32
 }
 
 fn are_set_failures_arguments(account: &[u8], failures: u32) -> bool
@@ -83,7 +88,8 @@ fn are_set_failures_arguments(account: &[u8], failures: u32) -> bool
     both(is_encoded_record(account), failures < FAILURES_END)
 }
 
-// Sets the count of a record, at most 255. With 0 the account is unlocked.
+// Sets the count of a record, at most 255. With 0 the account is unlocked. Its round keys stay where
+// they are.
 #[no_mangle]
 pub extern "C" fn mschap_set_failures(account: &mut [u8], failures: u32) -> u32
     ensures { λ r. ⌜ SetFailuresCall (now (account .entry)) failures r (now (account .exit)) ⌝ }
@@ -91,8 +97,13 @@ pub extern "C" fn mschap_set_failures(account: &mut [u8], failures: u32) -> u32
     if !are_set_failures_arguments(account, failures) {
         return BAD_ARGUMENT;
     }
-    let lookup = decode_record(account);
-    let before = lookup.account;
-    let after = accounts::with_failures(before, failures as u8);
-    put_record(0, accounts::lookup_of(lookup.found, after), account)
+    let lookup = decode_head(account);
+    let before = lookup.entry;
+    let entry = entry_failures(before, failures as u8);
+    let after = EntryLookup {
+        found: lookup.found,
+        entry,
+    };
+    put_record_head(after, account);
+    0
 }

@@ -1,18 +1,29 @@
 // The authenticator takes one step for each packet, and what its answer tells.
 use crate::INVALID;
-use authenticator::Answer;
+use accounts::EntryLookup;
+use accounts::Hash;
+use accounts::account_of;
+use authenticator::Conversation;
+use authenticator::Phase;
+use authenticator::Stepped;
+use authenticator::hands_back;
+use layouts::ANSWER_HEAD_SIZE;
 use layouts::ANSWER_SIZE;
 use layouts::BAD_ARGUMENT;
+use layouts::BOTH_KEYS_SIZE;
+use layouts::RECORD_HEAD_SIZE;
 use layouts::RECORD_SIZE;
 use layouts::decode_answer;
 use layouts::decode_conversation;
-use layouts::decode_record;
+use layouts::decode_head;
+use layouts::encode_schedules;
+use layouts::is_conversation;
 use layouts::is_encoded_answer;
-use layouts::is_encoded_conversation;
-use layouts::is_encoded_record;
+use layouts::is_record;
+use layouts::keys_at;
 use layouts::put_answer;
 use layouts::put_conversation;
-use layouts::put_record;
+use layouts::put_record_head;
 use layouts::wide;
 use numbers::no_record_refusal;
 use numbers::number_of;
@@ -20,36 +31,74 @@ use numbers::result_of;
 use refusals::both;
 use verify::fault_number;
 ghost use mathlib.Core.Path.{_≡_};
+ghost use mathlib.Core.Bool.{cond};
 ghost use lib.ListN.{length};
 ghost use Rattle.layouts.specs.Answers.{answerSize};
 ghost use Rattle.layouts.specs.Conversations.{conversationSize};
-ghost use Rattle.mschap.specs.Step.{stepArguments, StepCall, answerReason, answerRepeated};
+ghost use Rattle.layouts.specs.Records.{recordSize, ntKeysAt, lmKeysAt};
+ghost use Rattle.verify.specs.Response.{usesNt};
+ghost use Rattle.mschap.specs.Step.{StepCall, answerReason, answerRepeated};
 ghost use Rattle.mschap.specs.Step.{answerFault, answerRecordArguments, AnswerRecordCall};
-ghost use Rattle.mschap.specs.Inner.{AnswerPut};
+ghost use Rattle.mschap.specs.Inner.{AnswerPut, stepArgumentsAs};
 
-fn are_step_arguments(conversation: &[u8], account: &[u8], out: &[u8]) -> bool
-    ensures { λ r. ⌜ r
-        ≡ stepArguments (now (conversation .entry)) (now (account .entry)) (now (out .entry)) ⌝ }
+// Whether what was decoded encodes to what was passed. It is decoded once, for this and for the
+// step.
+fn are_step_arguments(
+    before: Conversation,
+    lookup: EntryLookup,
+    conversation: &[u8],
+    account: &[u8],
+    out: &[u8],
+) -> bool
+    ensures { λ r. ⌜ r ≡ stepArgumentsAs before lookup (now (conversation .entry))
+        (now (account .entry)) (now (out .entry)) ⌝ }
 {
     both(
-        is_encoded_conversation(conversation),
-        both(is_encoded_record(account), out.len() == ANSWER_SIZE),
+        is_conversation(before, conversation),
+        both(is_record(lookup, account), out.len() == ANSWER_SIZE),
     )
 }
 
-// Writes the next conversation and the answer, unless the packet is refused.
-fn put_stepped(answer: Answer, conversation: &mut [u8], out: &mut [u8]) -> u32
+// Where the round keys begin that judge a Response, in a record, chosen without a branch.
+fn judging_at(flag: u8, nt: Hash) -> usize
+    ensures { λ r. ⌜ r ≡ cond (usesNt flag nt) ntKeysAt lmKeysAt ⌝ }
+{
+    RECORD_HEAD_SIZE + 8 * octets::where_both(flag == 1, nt.present, 0, 48) as usize
+}
+
+// Writes the next conversation and the answer, unless the packet is refused. The round keys of a
+// record that is handed back are copied as they are.
+fn put_stepped(
+    phase: Phase,
+    stepped: Stepped,
+    account: &[u8],
+    conversation: &mut [u8],
+    out: &mut [u8],
+) -> u32
+    requires { ⌜ length (now account) ≡ recordSize ⌝ }
     requires { ⌜ length (now conversation) ≡ conversationSize ⌝ }
     requires { ⌜ length (now out) ≡ answerSize ⌝ }
-    ensures { λ r. ⌜ AnswerPut answer (now (conversation .entry)) (now (out .entry)) r
-        (now (conversation .exit)) (now (out .exit)) ⌝ }
+    ensures { λ r. ⌜ AnswerPut phase stepped (now (account .entry)) (now (conversation .entry))
+        (now (out .entry)) r (now (conversation .exit)) (now (out .exit)) ⌝ }
 {
-    let kind = answer.kind;
-    let next = answer.next;
+    let kind = stepped.kind;
     let number = number_of(kind);
-    let result = result_of(answer);
-    put_conversation(number, next, conversation);
-    put_answer(number, result, out)
+    if number != 0 {
+        return wide(number);
+    }
+    let next = stepped.next;
+    let result = result_of(stepped);
+    put_conversation(0, next, conversation);
+    if hands_back(phase, kind) {
+        let keys = octets::part_of(account, RECORD_HEAD_SIZE, BOTH_KEYS_SIZE);
+        put_answer(result, keys, out);
+        return 0;
+    }
+    let updated = stepped.updated;
+    let entry = updated.entry;
+    let made = encode_schedules(account_of(entry));
+    put_answer(result, &made, out);
+    0
 }
 
 // One step of a conversation: a packet, the record of the named account or none, and a reply
@@ -69,13 +118,16 @@ pub extern "C" fn mschap_step(
         (now (account .entry)) (now (reply .entry)) (now (answer .entry)) r
         (now (conversation .exit)) (now (reply .exit)) (now (answer .exit)) ⌝ }
 {
-    if !are_step_arguments(conversation, account, answer) {
+    let before = decode_conversation(conversation);
+    let lookup = decode_head(account);
+    if !are_step_arguments(before, lookup, conversation, account, answer) {
         return BAD_ARGUMENT;
     }
-    let before = decode_conversation(conversation);
-    let lookup = decode_record(account);
-    let stepped = before.step(packet, lookup, reply);
-    put_stepped(stepped, conversation, answer)
+    let phase = before.phase;
+    let nt = lookup.entry.nt;
+    let at = judging_at(packets::octet(packet, packets::FLAG_OFFSET), nt);
+    let stepped = before.step_by(packet, lookup, keys_at(account, at), reply);
+    put_stepped(phase, stepped, account, conversation, answer)
 }
 
 // ---- what an answer tells
@@ -132,5 +184,15 @@ pub extern "C" fn mschap_answer_record(answer: &[u8], out: &mut [u8]) -> u32
         return BAD_ARGUMENT;
     }
     let lookup = decode_answer(answer).updated;
-    put_record(no_record_refusal(lookup), lookup, out)
+    let refusal = no_record_refusal(lookup);
+    if refusal != 0 {
+        return wide(refusal);
+    }
+    put_record_head(lookup, out);
+    octets::copy_at(
+        out,
+        RECORD_HEAD_SIZE,
+        octets::part_of(answer, ANSWER_HEAD_SIZE, BOTH_KEYS_SIZE),
+    );
+    0
 }

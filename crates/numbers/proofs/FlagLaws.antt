@@ -2,31 +2,57 @@
 -- its count among it, makes the same record.
 -- Assumes nothing.
 use mathlib.Core.Path.{_≡_, refl, ap, _∙_}
-use mathlib.Core.Bool.{Bool, true, false}
+use mathlib.Core.Bool.{Bool, true, false, cond}
 use mathlib.Core.List.{List}
 use Prim.Native.Nat.{ℕ, zero, suc, _+_, _*_, _/_, _%_, _<_, _≤_}
 use native.Mathlib.Omega.{arith}
+use lib.ListN.{length, length-replicate}
 use Rattle.octets.specs.Parts.{part}
 use Rattle.octets.proofs.Parts.{length-fixed, fixed-whole}
-use Rattle.accounts.specs.Account.{lookupOf, withFailures}
-use Rattle.accounts.specs.declared.Lookup.{Lookup}
-use Rattle.layouts.specs.Records.{flag, isFlag, encodeRecord, decodeRecord, isEncodedRecord}
-use Rattle.layouts.proofs.RecordLaws.{SizedAccount, flag-back, record-fits, record-back}
-use Rattle.layouts.proofs.RecordLaws.{hash-same, account-same, lookup-same}
+use Rattle.credentials.specs.Credentials.{schedulesOf}
+use Rattle.credentials.proofs.Laws.{length-schedules-of}
+use Rattle.accounts.specs.Account.{noSchedules, schedulesFor, accountOf, entryOf}
+use Rattle.accounts.specs.Account.{lookupOf, entryLookupOf, withFailures}
+use Rattle.accounts.specs.declared.Entry.{Entry}
+use Rattle.accounts.specs.declared.EntryLookup.{EntryLookup}
+use Rattle.accounts.specs.declared.Hash.{Hash}
+use Rattle.accounts.specs.declared.Schedules.{Schedules}
+use Rattle.layouts.specs.Keys.{bothKeysSize, encodeSchedules}
+use Rattle.layouts.specs.Records.{flag, isFlag, encodeRecord, decodeHead, isEncodedRecord}
+use Rattle.layouts.proofs.KeyLaws.{length-schedules}
+use Rattle.layouts.proofs.RecordLaws.{SizedEntry, flag-back, record-fits, head-back}
+use Rattle.layouts.proofs.RecordLaws.{hash-same, entry-same, entry-lookup-same}
 use Rattle.numbers.specs.Flags.{flagsOf, recordFrom}
 
-made-sized : (flags : ℕ) (nt lm : List ℕ) → SizedAccount (recordFrom flags nt lm .account)
+made-sized : (flags : ℕ) (nt lm : List ℕ) → SizedEntry (entryOf (recordFrom flags nt lm .account))
 unfolding recordFrom
 made-sized flags nt lm =
     record { nt = length-fixed 16 (part 0 16 nt); lm = length-fixed 16 (part 0 16 lm) }
 
--- a record that was made is valid, and is decoded as it was made
+-- the 48 round keys of a hash, or zeros
+forty-eight : (h : Hash) → length (schedulesFor h .keys) ≡ 48
+forty-eight h = which (h .present)
+  where
+    which : (p : Bool)
+        → length (cond {A = Schedules} p (record { keys = schedulesOf (h .octets) }) noSchedules .keys)
+        ≡ 48
+    which true = length-schedules-of (h .octets)
+    which false = length-replicate {A = ℕ} 48 0
+
+pub made-keys : (e : Entry) → length (encodeSchedules (accountOf e)) ≡ bothKeysSize
+made-keys e = length-schedules (accountOf e) (forty-eight (e .nt)) (forty-eight (e .lm))
+
+-- a record that was made is valid, and is decoded as it was made, but for its round keys
 pub record-made : (flags : ℕ) (nt lm : List ℕ)
     → (isEncodedRecord (encodeRecord (recordFrom flags nt lm)) ≡ true)
-    × (decodeRecord (encodeRecord (recordFrom flags nt lm)) ≡ recordFrom flags nt lm)
+    × (decodeHead (encodeRecord (recordFrom flags nt lm)) ≡ entryLookupOf (recordFrom flags nt lm))
+unfolding recordFrom
 record-made flags nt lm =
     let s = made-sized flags nt lm in
-    (record-fits (recordFrom flags nt lm) s, record-back (recordFrom flags nt lm) s)
+    let l = recordFrom flags nt lm in (
+      record-fits (entryLookupOf l) (encodeSchedules (l .account)) s (made-keys (entryOf (l .account))),
+      head-back (entryLookupOf l) (encodeSchedules (l .account)) s,
+    )
 
 small : (b : Bool) → flag b ≤ 1
 small true = omega arith
@@ -73,26 +99,27 @@ module _ (a b c d e f g : ℕ) where
 
 -- the flags of a record that was made are those that it was made of
 pub flags-back : (flags : ℕ) (nt lm : List ℕ) → flags < 128
-    → flagsOf (recordFrom flags nt lm) ≡ flags
+    → flagsOf (entryLookupOf (recordFrom flags nt lm)) ≡ flags
 unfolding flagsOf recordFrom
 flags-back flags nt lm h =
     together _ _ _ _ _ _ _ flags h (bit (flags / 1)) (bit (flags / 2)) (bit (flags / 4))
     (bit (flags / 8)) (bit (flags / 16)) (bit (flags / 32)) (bit (flags / 64))
 
--- what is read of a record makes the same record, once its count is set
-pub record-again : (l : Lookup) → SizedAccount (l .account)
-    → let made = recordFrom (flagsOf l) (l .account .nt .octets) (l .account .lm .octets) in
-    lookupOf (made .found) (withFailures (l .account .failures) (made .account)) ≡ l
+-- what is read of a record makes the same record, once its count is set, but for round keys that
+-- were not those of its hashes
+pub record-again : (l : EntryLookup) → SizedEntry (l .entry)
+    → let made = recordFrom (flagsOf l) (l .entry .nt .octets) (l .entry .lm .octets) in
+    entryLookupOf (lookupOf (made .found) (withFailures (l .entry .failures) (made .account))) ≡ l
 unfolding flagsOf recordFrom
 record-again l s =
-    let a = l .account in
+    let a = l .entry in
     let bits =
     apart (flag (l .found)) (flag (a .nt .present)) (flag (a .lm .present)) (flag (a .disabled))
     (flag (a .«hours_denied»)) (flag (a .«dialin_denied»)) (flag (a .expired)) (small (l .found))
     (small (a .nt .present)) (small (a .lm .present)) (small (a .disabled))
     (small (a .«hours_denied»)) (small (a .«dialin_denied»)) (small (a .expired)) in
-    lookup-same (ap isFlag (bits .0) ∙ flag-back (l .found))
-    (account-same
+    entry-lookup-same (ap isFlag (bits .0) ∙ flag-back (l .found))
+    (entry-same
     (hash-same (ap isFlag (bits .1) ∙ flag-back (a .nt .present))
     (fixed-whole 16 (a .nt .octets) (s .nt)))
     (hash-same (ap isFlag (bits .2) ∙ flag-back (a .lm .present))

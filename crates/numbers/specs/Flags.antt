@@ -7,6 +7,7 @@ use lib.Dec.{ltb}
 use Rattle.octets.specs.Parts.{part, fixed}
 use Rattle.packets.specs.Sizes.{hashSize}
 use Rattle.accounts.specs.Account.{hashIf, accountWith, lookupOf}
+use Rattle.accounts.specs.declared.EntryLookup.{EntryLookup}
 use Rattle.accounts.specs.declared.Lookup.{Lookup}
 use Rattle.layouts.specs.Call.{sized}
 use Rattle.layouts.specs.Records.{flag, isFlag}
@@ -41,15 +42,15 @@ flagsEnd = 128
 abbrev pub isSet : ℕ → ℕ → Bool
 isSet theFlag flags = isFlag (flags / theFlag % 2)
 
-unfoldable pub flagsOf : Lookup → ℕ
+unfoldable pub flagsOf : EntryLookup → ℕ
 flagsOf l =
     foundFlag * flag (l .found)
-    + (ntFlag * flag (l .account .nt .present)
-    + (lmFlag * flag (l .account .lm .present)
-    + (disabledFlag * flag (l .account .disabled)
-    + (hoursDeniedFlag * flag (l .account .«hours_denied»)
-    + (dialinDeniedFlag * flag (l .account .«dialin_denied»)
-    + expiredFlag * flag (l .account .expired))))))
+    + (ntFlag * flag (l .entry .nt .present)
+    + (lmFlag * flag (l .entry .lm .present)
+    + (disabledFlag * flag (l .entry .disabled)
+    + (hoursDeniedFlag * flag (l .entry .«hours_denied»)
+    + (dialinDeniedFlag * flag (l .entry .«dialin_denied»)
+    + expiredFlag * flag (l .entry .expired))))))
 
 -- ---- made
 

@@ -6,15 +6,15 @@ use Rattle.message.specs.declared.Call.{Call}
 use Rattle.message.specs.declared.Call.the-variants.{Retry, ChangeTwo, ChangeOne, End}
 use Rattle.message.specs.declared.Verdict.{Verdict}
 use Rattle.message.specs.declared.Verdict.the-variants.{Success, Failure, Refused}
-use Rattle.accounts.specs.declared.Lookup.{Lookup}
+use Rattle.accounts.specs.declared.EntryLookup.{EntryLookup}
 use Rattle.authenticator.specs.Step.{reasonIn, isRepeated}
-use Rattle.authenticator.specs.declared.Answer.{Answer}
+use Rattle.authenticator.specs.declared.Stepped.{Stepped}
 use Rattle.layouts.specs.declared.StepResult.{StepResult}
 
 -- ---- a step
 
--- what C keeps of an answer
-abbrev pub resultOf : Answer → StepResult
+-- what C keeps of an answer, but for the round keys of its record
+abbrev pub resultOf : Stepped → StepResult
 resultOf a =
     record {
       repeated = isRepeated (a .kind);
@@ -24,7 +24,7 @@ resultOf a =
     }
 
 -- 102: there is no record to be stored
-abbrev pub noRecordRefusal : Lookup → ℕ
+abbrev pub noRecordRefusal : EntryLookup → ℕ
 noRecordRefusal l = cond (l .found) 0 102
 
 -- ---- a reply

@@ -1,4 +1,5 @@
 // A record as C makes and reads it: flags and hashes. One that is made counts no failures.
+use accounts::EntryLookup;
 use accounts::Lookup;
 use packets::HASH_SIZE;
 use refusals::both;
@@ -75,14 +76,14 @@ fn weighed(weight: u32, b: bool) -> u32
     0
 }
 
-pub fn flags_of(lookup: Lookup) -> u32
+pub fn flags_of(lookup: EntryLookup) -> u32
     ensures { λ r. ⌜ r ≡ flagsOf lookup ⌝ }
 {
-    let account = lookup.account;
-    let nt = account.nt;
-    let lm = account.lm;
-    let marks = weighed(HOURS_DENIED, account.hours_denied)
-        + (weighed(DIALIN_DENIED, account.dialin_denied) + weighed(EXPIRED, account.expired));
-    let hashes = weighed(LM, lm.present) + (weighed(DISABLED, account.disabled) + marks);
+    let entry = lookup.entry;
+    let nt = entry.nt;
+    let lm = entry.lm;
+    let marks = weighed(HOURS_DENIED, entry.hours_denied)
+        + (weighed(DIALIN_DENIED, entry.dialin_denied) + weighed(EXPIRED, entry.expired));
+    let hashes = weighed(LM, lm.present) + (weighed(DISABLED, entry.disabled) + marks);
     weighed(FOUND, lookup.found) + (weighed(NT, nt.present) + hashes)
 }

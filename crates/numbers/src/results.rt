@@ -1,7 +1,7 @@
 // What a step and a reply say, as C gets it.
-use accounts::Lookup;
-use authenticator::Answer;
+use accounts::EntryLookup;
 use authenticator::Kind;
+use authenticator::Stepped;
 use layouts::StepResult;
 use message::Call;
 use message::Verdict;
@@ -45,8 +45,8 @@ fn is_repeated(kind: Kind) -> bool
     }
 }
 
-// What C keeps of an answer.
-pub fn result_of(answer: Answer) -> StepResult
+// What C keeps of an answer, but for the round keys of its record.
+pub fn result_of(answer: Stepped) -> StepResult
     ensures { λ r. ⌜ r ≡ resultOf answer ⌝ }
 {
     let kind = answer.kind;
@@ -63,7 +63,7 @@ pub fn result_of(answer: Answer) -> StepResult
 }
 
 // 102: there is no record to be stored.
-pub fn no_record_refusal(lookup: Lookup) -> u8
+pub fn no_record_refusal(lookup: EntryLookup) -> u8
     ensures { λ r. ⌜ r ≡ noRecordRefusal lookup ⌝ }
 {
     refuse_if(!lookup.found, 102, 0)

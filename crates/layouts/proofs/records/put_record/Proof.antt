@@ -28,13 +28,23 @@ lm-numbers c = search needs
 returns : tie.Need-returns
 returns c = record { number = simp (ne-eqb _ _ (c .if1 .taken)); bytes = refl }
 
+-- a refusal
 returns-2 : tie.Need-returns-2
 returns-2 c =
+    let number = c .wide .ensures in
+    record {
+      number = simp (eq-eqb _ _ (c .before .before .if1 .left)) number;
+      bytes = simp (number, ne-eqb _ _ (c .before .if2 .taken));
+    }
+
+returns-3 : tie.Need-returns-3
+returns-3 c =
     let put = c .before .before in
     let head = put .before .before .before .before .before in
     let entry = head .before .before in
     let keys = entry .before in
-    let else = keys .before .before in
+    let none = keys .before .before in
+    let else = none .before in
     let start = else .before .before in
     let l = start .args .lookup in
     let s₁ = first 42 (length-head (entryLookupOf l) (sized start))
@@ -46,7 +56,7 @@ returns-2 c =
     (ap length made ∙ length-schedules (l .account) (nt-numbers start) (lm-numbers start))
     (put .copy-at .ensures) in
     record {
-      number = simp (eq-eqb _ _ (else .if1 .left));
+      number = simp (eq-eqb _ _ (else .if1 .left), none .if2 .left);
       bytes = laid-whole s₂ (else .if1 .left)
           ∙ ap (λ (x : List ℕ). recordHead (entryLookupOf l) ++ x) made;
     }
@@ -55,5 +65,6 @@ pub put-record-spec : {M : Type 1} → statement M
 put-record-spec =
     tie.close
     (tie.spec
-    returns (λ c κs. search needs) (λ c κs. search needs) (λ c κs. search needs)
-    (λ c. search needs) (λ c κs. search needs) (λ c. search needs) returns-2)
+    returns (λ c κs. search needs) returns-2 (λ c κs. search needs) (λ c κs. search needs)
+    (λ c κs. search needs) (λ c. search needs) (λ c κs. search needs) (λ c. search needs)
+    returns-3)

@@ -1,7 +1,8 @@
 -- `numbers::flags::record_from` meets its contract.
 -- Assumes nothing.
-use mathlib.Core.Path.{refl, _∙_}
-use Rattle.layouts.proofs.RecordLaws.{hash-same, account-same, lookup-same}
+use mathlib.Core.Path.{refl, ap, ap₂, _∙_}
+use Rattle.accounts.specs.Account.{lookupOf, accountOf}
+use Rattle.layouts.proofs.RecordLaws.{hash-same, entry-same}
 use Rattle.numbers.specs.Flags.{recordFrom}
 use Rattle.numbers.proofs.flags.record_from.Statement.{statement}
 use Rattle.numbers.proofs.flags.record_from.Tie as tie
@@ -20,15 +21,15 @@ returns c =
     let lm = disabled .before in
     let nt = lm .before .before .before in
     c .lookup-of .ensures
-    ∙ lookup-same (found .is-set7 .ensures)
+    ∙ ap₂ lookupOf (found .is-set7 .ensures)
     (account .account-with .ensures
-    ∙ account-same
+    ∙ ap accountOf (entry-same
     (nt .hash-if .ensures ∙ hash-same (nt .before .before .is-set .ensures)
     (nt .before .sixteen-at .ensures))
     (lm .hash-if2 .ensures ∙ hash-same (lm .before .before .is-set2 .ensures)
     (lm .before .sixteen-at2 .ensures))
     (disabled .is-set3 .ensures) (hours .is-set4 .ensures) (dialin .is-set5 .ensures)
-    (expired .is-set6 .ensures) refl)
+    (expired .is-set6 .ensures) refl))
 
 pub record-from-spec : {M : Type 1} → statement M
 record-from-spec =
