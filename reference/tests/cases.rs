@@ -2,7 +2,7 @@
 //! print. The text is compared with the stored file, which both programs run;
 //! `WRITE_CASES=1 cargo test --release --offline --test cases` writes that file anew.
 
-use reference::authenticator::{Account, Fault, Phase};
+use reference::authenticator::{Account, Entry, Fault, Phase};
 use reference::hashes;
 use reference::packet::{self, ChangeFields};
 use reference::peer::{self, Turn};
@@ -3719,7 +3719,7 @@ fn malformed_lines() {
 #[test]
 fn conversations_made_by_hand() {
     use reference::authenticator::{step, Conversation, Last, Reply};
-    let kept = Account {
+    let kept = Entry {
         nt: Some(array(H)),
         lm: Some(array(L)),
         disabled: true,
@@ -3739,7 +3739,7 @@ fn conversations_made_by_hand() {
     };
     let mut buffer = [0xAA; 20];
     let answer = step(&conversation, &change(8, &CH, P, Q), None, &mut buffer);
-    let handed = Account {
+    let handed = Entry {
         nt: Some(array(HQ)),
         lm: None,
         expired: false,
@@ -3748,7 +3748,7 @@ fn conversations_made_by_hand() {
     };
     assert_eq!(
         (answer.refusal, answer.reason, answer.fault, answer.record),
-        (0, 0, None, Some(handed))
+        (0, 0, None, Some(handed.keyed()))
     );
     assert_eq!(
         answer.conversation,
@@ -3762,11 +3762,11 @@ fn conversations_made_by_hand() {
             ..conversation
         }
     );
-    conversation.phase = Phase::Change(Account::default());
+    conversation.phase = Phase::Change(Entry::default());
     let answer = step(
         &conversation,
         &change(8, &CH, P, Q),
-        Some(&kept),
+        Some(&kept.keyed()),
         &mut buffer,
     );
     assert_eq!(
