@@ -326,7 +326,7 @@ enum Taken {
     /// It draws the last reply again.
     Repeat(Last),
     /// It is judged.
-    Judged(Judgement),
+    Judged(Box<Judgement>),
 }
 
 /// One step: a packet, the record of the account it names or none, and the reply buffer.
@@ -399,7 +399,8 @@ fn take(
             return Ok(Taken::Repeat(last));
         }
     }
-    judge(conversation, &frame, record).map(Taken::Judged)
+    let judgement = judge(conversation, &frame, record)?;
+    Ok(Taken::Judged(Box::new(judgement)))
 }
 
 /// The refusals 1 and 4 to 7 in their order, then the rules of the phase.

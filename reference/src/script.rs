@@ -97,6 +97,11 @@ impl Session {
         self.account.as_ref()
     }
 
+    /// The record that the last step handed out.
+    pub fn handed_out(&self) -> Option<&Account> {
+        self.handed_out.as_ref()
+    }
+
     /// Runs the lines of a text; each line of the output ends in a line feed.
     pub fn run(&mut self, input: &str) -> String {
         let mut output = String::new();
