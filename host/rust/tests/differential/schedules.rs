@@ -23,12 +23,24 @@ struct Passwords {
     lm: Vec<u8>,
 }
 
+/// A password that no other one here is like.
+fn password(random: &mut Random) -> Vec<u8> {
+    let size = 2 * match random.below(20) {
+        0 => random.between(9, 256),
+        _ => random.between(5, 9),
+    };
+    random.octets(size)
+}
+
 impl Passwords {
     fn drawn(random: &mut Random) -> Passwords {
-        let size = random.between(1, 14);
+        let nt = password(random);
+        let size = random.between(8, 14);
+        // octets that LM does not change
+        let lm = random.octets(size).into_iter().map(|octet| octet | 0x80);
         Passwords {
-            nt: packets::password(random),
-            lm: random.octets(size),
+            nt,
+            lm: lm.collect(),
         }
     }
 
@@ -316,7 +328,7 @@ fn change(
     let Phase::Change(entry) = talk.theirs.phase else {
         unreachable!("a change is awaited");
     };
-    let new = packets::password(random);
+    let new = password(random);
     let turn = Turn {
         id: talk.theirs.id,
         challenge: talk.theirs.challenge,
