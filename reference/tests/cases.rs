@@ -513,8 +513,10 @@ fn cases() {
     // The whole file, run afresh, gives the lines that were checked.
     let again = reference::script::run(&sheet.text);
     assert_eq!(again.lines().count(), sheet.text.lines().count());
-    // The program `vectors` reads no more than 1,048,576 octets.
-    assert!(sheet.text.len() < 1_040_000, "{}", sheet.text.len());
+    // The program `vectors` reads no more than 1,048,576 octets, and rt lets a program write no more
+    // than so many; the published vectors come out before these.
+    assert!(sheet.text.len() < 1_000_000, "{}", sheet.text.len());
+    assert!(again.len() < 1_000_000, "{}", again.len());
     let stored = concat!(
         env!("CARGO_MANIFEST_DIR"),
         "/../crates/vectors/data/cases.txt"
@@ -3756,12 +3758,10 @@ fn schedules_of_hashes(s: &mut Sheet) {
         "CR10-1, -3: the schedules of a hash: three keys, sixteen rounds; its response by them",
     );
     s.copied(":keys");
-    for (hash, response) in [(H, NR), (HC, NC), (HQ, NQ), (L, LR), (LC, CR)] {
+    for (hash, response) in [(H, NR), (HC, NC), (L, LR), (LC, CR)] {
         s.vector(&format!("{hash} {CHX} {} {response}", keys_of(hash)));
     }
-    for (challenge, response) in [(CH23, NR23), (CH46, NR46)] {
-        s.vector(&format!("{H} {challenge} {} {response}", keys_of(H)));
-    }
+    s.vector(&format!("{HQ} {CH23} {} {NQ23}", keys_of(HQ)));
     s.note("octets 14 and 15 and five zeros: the third key alone, in the last sixteen numbers");
     let third = format!("{}{}", "00".repeat(14), &H[28..]);
     let numbers = keys_of(&third);
@@ -3773,15 +3773,10 @@ fn schedules_of_hashes(s: &mut Sheet) {
     s.vector(&format!("- {CHX} - {ZR}"));
     s.vector(&format!("00*384 {CHX} - {ZR}"));
     s.note("the numbers themselves; of each octet the low six bits are read");
-    for (numbers, response) in [
-        (keys_of(H), NR),
-        (with_other_bits(&keys_of(H)), NR),
-        (any_numbers(), ANY),
-        (with_other_bits(&any_numbers()), ANY),
-    ] {
+    for (numbers, response) in [(with_other_bits(&keys_of(H)), NR), (any_numbers(), ANY)] {
         s.vector(&format!("{numbers} {CHX} {numbers} {response}"));
     }
-    for (octet, response) in [("FF", ONES), ("3F", ONES), ("C0", ZR)] {
+    for (octet, response) in [("FF", ONES), ("C0", ZR)] {
         let numbers = octet.repeat(384);
         s.vector(&format!("{octet}*384 {CHX} {numbers} {response}"));
     }
@@ -3796,7 +3791,6 @@ fn own_schedules(s: &mut Sheet) {
         (H, L, kh, kl),
         ("-", L, "-", kl),
         ("-", "-", "-", "-"),
-        (L, H, kl, kh),
         ("00*16", "00*16", "-", "-"),
     ] {
         s.account(nt, lm, "0000");
@@ -3809,12 +3803,9 @@ fn own_schedules(s: &mut Sheet) {
         s.keyed([H, L, "0000"], 0, nt_keys, lm_keys);
         s.open7_lm();
         s.success(&nt_try(7, NR));
-        s.schedules(kh, kl);
-        s.open7_lm();
-        s.success(&lm_try(7, LR));
-        s.schedules(kh, kl);
         s.open7_lm();
         s.failure(&nt_try(7, NC), "691", 1);
+        s.success(&lm_try(8, LR23));
         s.schedules(kh, kl);
     }
     s.note("the word for LM may be missing: its own");
@@ -3823,9 +3814,6 @@ fn own_schedules(s: &mut Sheet) {
     let answer = s.failure(&nt_try(7, NR), "648", 0);
     assert_eq!(answer.record, format!("{H}/{L}/0001/0"));
     s.schedules(kh, kl);
-    let answer = s.success(&change(8, &CH, P, Q));
-    assert_eq!(answer.record, format!("{HQ}/-/0000/0"));
-    s.schedules(&keys_of(HQ), "-");
 }
 
 fn anothers_schedules(s: &mut Sheet) {
@@ -3847,7 +3835,6 @@ fn anothers_schedules(s: &mut Sheet) {
         s.is("relend", "");
         let answer = s.success(&nt_try(9, NC46));
         assert_eq!(answer.record, format!("{H}/-/0000/0"));
-        s.schedules(kc, "-");
     }
     s.note("the other way round: clientPass's hash with MyPw's schedules");
     s.keyed([HC, "-", "0000"], 0, H, "-");
@@ -3869,7 +3856,6 @@ fn anothers_schedules(s: &mut Sheet) {
         }
         s.open7();
         s.success(&nt_try(7, &response));
-        s.schedules(&mixed, "-");
     }
     s.title("CR10-4: zeros beside a hash: judged by them, not made anew");
     s.keyed([H, L, "0000"], 0, "-", "-");
@@ -3894,7 +3880,6 @@ fn anothers_lm_schedules(s: &mut Sheet) {
         s.open7_lm();
         let answer = s.success(&lm_try(7, CR));
         assert_eq!(answer.record, format!("{nt}/{L}/0000/0"));
-        s.schedules(shown, kc);
         s.is("relend", "");
         s.open7_lm();
         let answer = s.failure(&lm_try(7, LR), "691", 1);
@@ -3906,7 +3891,6 @@ fn anothers_lm_schedules(s: &mut Sheet) {
         s.open7();
         s.failure(&lm_try(7, CR), "691", 1);
         s.failure(&lm_try(8, LR23), "691", 1);
-        s.schedules(shown, kc);
     }
     s.note("each hash by the schedules beside it: here they are exchanged");
     s.keyed([H, L, "0000"], 0, L, H);
@@ -3921,8 +3905,8 @@ fn anothers_lm_schedules(s: &mut Sheet) {
             true => s.success(&packet),
             false => s.failure(&packet, "691", 1),
         };
-        s.schedules(&keys_of(L), kh);
     }
+    s.schedules(&keys_of(L), kh);
     s.note("with flag 1 and an NT hash no way to LM, whatever schedules stand there");
     s.keyed([H, L, "0000"], 0, HC, LC);
     s.open7_lm();
@@ -3931,24 +3915,19 @@ fn anothers_lm_schedules(s: &mut Sheet) {
 }
 
 fn schedules_handed_out(s: &mut Sheet) {
-    let (kc, klc) = (&*keys_of(HC), &*keys_of(LC));
+    let kc = &*keys_of(HC);
     s.title("CR10-5: handed out with the schedules that were lent, whatever the reason is");
     for (marks, reason) in [
         ("1000", "647"),
         ("0100", "646"),
         ("0010", "649"),
         ("0001", "648"),
-        ("1111", "647"),
     ] {
-        s.keyed([H, L, marks], 3, HC, LC);
+        s.keyed([H, "-", marks], 3, HC, "-");
         s.open7();
         let answer = s.failure(&nt_try(7, NC), reason, 0);
-        assert_eq!(answer.record, format!("{H}/{L}/{marks}/0"));
-        s.schedules(kc, klc);
-        s.open7();
-        let answer = s.failure(&nt_try(7, NR), "691", 1);
-        assert_eq!(answer.record, format!("{H}/{L}/{marks}/4"));
-        s.schedules(kc, klc);
+        assert_eq!(answer.record, format!("{H}/-/{marks}/0"));
+        s.schedules(kc, "-");
     }
     s.note("nothing for a repeat and a refusal, nor where no record was lent");
     s.keyed([H, "-", "0000"], 0, HC, "-");
@@ -3986,16 +3965,15 @@ fn schedules_and_counts(s: &mut Sheet) {
         (nt_try(7, NC), "691", "4"),
     ] {
         assert_eq!(s.count_after(&packet, reason), count);
-        s.schedules(kc, "-");
         s.is("relend", "");
     }
+    s.schedules(kc, "-");
     s.note("to at most 255; at the limit by LM too");
     s.keyed([H, "-", "0000"], 255, HC, "-");
     assert_eq!(s.count_after(&nt_try(7, NR), "691"), "255");
     s.keyed([H, L, "0000"], 3, H, LC);
     s.open7_lm();
     assert!(s.locked(&lm_try(7, CR), 1).record.ends_with("/3"));
-    s.schedules(&keys_of(H), &keys_of(LC));
     s.limit(255);
 }
 
@@ -4006,17 +3984,18 @@ fn schedules_and_changes(s: &mut Sheet) {
         "CR10-7, -8: R0x with clientPass's schedules: clientPass draws 648, MyPw is the old one",
     );
     s.note("the new record has the schedules of its new hash, and zeros beside no LM hash");
-    for (new, hash, keys) in [(CLIENT_PASS, HC, kc), (Q, HQ, kq)] {
-        for (lm, lm_keys, shown) in [("-", "-", "-"), (L, LC, klc)] {
-            s.keyed([H, lm, "0001"], 1, HC, lm_keys);
-            s.open7();
-            let answer = s.failure(&nt_try(7, NC), "648", 0);
-            assert_eq!(answer.conversation, kept(lm));
-            s.schedules(kc, shown);
-            let answer = s.success(&change(8, &CH, P, new));
-            assert_eq!(answer.record, format!("{hash}/-/0000/0"));
-            s.schedules(keys, "-");
-        }
+    for (new, hash, keys, lm, lm_keys, shown) in [
+        (CLIENT_PASS, HC, kc, "-", "-", "-"),
+        (Q, HQ, kq, L, LC, klc),
+    ] {
+        s.keyed([H, lm, "0001"], 1, HC, lm_keys);
+        s.open7();
+        let answer = s.failure(&nt_try(7, NC), "648", 0);
+        assert_eq!(answer.conversation, kept(lm));
+        s.schedules(kc, shown);
+        let answer = s.success(&change(8, &CH, P, new));
+        assert_eq!(answer.record, format!("{hash}/-/0000/0"));
+        s.schedules(keys, "-");
     }
     s.note("the new password gets in with it, and the old one does not, nor clientPass");
     s.is("relend", "");
@@ -4026,7 +4005,6 @@ fn schedules_and_changes(s: &mut Sheet) {
     s.is("relend", "");
     s.open7();
     s.success(&nt_try(7, NQ));
-    s.schedules(kq, "-");
     s.note("MyPw draws 691 before the change");
     s.keyed([H, "-", "0001"], 0, HC, "-");
     s.open7();
@@ -4043,7 +4021,6 @@ fn schedules_and_changes(s: &mut Sheet) {
         s.keyed([H, L, "0001"], 0, HC, LC);
         s.open7();
         s.failure(&nt_try(7, NC), "648", 0);
-        s.schedules(kc, klc);
     };
     expired(s);
     s.bad_change(&change(8, &CH, CLIENT_PASS, Q), Fault::Over);
@@ -4055,26 +4032,15 @@ fn schedules_and_changes(s: &mut Sheet) {
     assert_eq!(hex(&right[520..536]), "71BD6CBA24586C0A1354F1B611CB4CAF");
     s.bad_change(&with(&right, &[(520, &under_lent)]), Fault::OldHash);
     s.no_schedules();
-    s.note("the response under the schedules that were lent, and that of the old hash");
-    for response in [NC, NR] {
-        expired(s);
-        assert_eq!(hex(&right[1092..1116]), NQ);
-        s.bad_change(&with(&right, &[(1092, &bytes(response))]), Fault::Response);
-        s.no_schedules();
-    }
+    s.note("the response under the schedules that were lent");
+    expired(s);
+    assert_eq!(hex(&right[1092..1116]), NQ);
+    s.bad_change(&with(&right, &[(1092, &bytes(NC))]), Fault::Response);
     s.note("what is lent with a change has no effect, the schedules neither");
-    for (nt_keys, lm_keys) in [(HQ, "-"), ("-", "FF*384"), ("FF*384", LC)] {
-        expired(s);
-        s.keyed([HC, LC, "1111"], 9, nt_keys, lm_keys);
-        let answer = s.success(&right);
-        assert_eq!(answer.record, format!("{HQ}/-/0000/0"));
-        s.schedules(kq, "-");
-    }
-    s.note("by LM's schedules to 648, and then by the NT hash alone");
-    s.keyed([H, L, "0001"], 0, "FF*384", LC);
-    s.open7_lm();
-    s.failure(&lm_try(7, CR), "648", 0);
-    s.success(&right);
+    expired(s);
+    s.keyed([HC, LC, "1111"], 9, "FF*384", L);
+    let answer = s.success(&right);
+    assert_eq!(answer.record, format!("{HQ}/-/0000/0"));
     s.schedules(kq, "-");
     s.note("no NT hash, but schedules beside it: 709");
     s.keyed(["-", L, "0001"], 0, H, L);
@@ -4099,8 +4065,8 @@ fn numbers_of_no_hash(s: &mut Sheet) {
             true => s.success(&packet),
             false => s.failure(&packet, "691", 1),
         };
-        s.schedules(&with_bits, &with_other_bits(&keys_of(L)));
     }
+    s.schedules(&with_bits, &with_other_bits(&keys_of(L)));
     s.note("and each bit that is read counts: one of a number's lowest, of each key");
     for (place, response) in [
         (0, "EDF79779B5E91D905BF4D3246791956CA4C351AB409A3D61"),
@@ -4116,40 +4082,34 @@ fn numbers_of_no_hash(s: &mut Sheet) {
         s.failure(&nt_try(7, NR), "691", 1);
         s.open7();
         s.success(&nt_try(7, response));
-        s.schedules(&numbers, "-");
     }
     s.title("CR10-4, O-10c: numbers of no hash, and ones alone");
-    for numbers in [&any, &any_with_bits] {
-        s.keyed([H, L, "0000"], 0, numbers, numbers);
-        s.open7_lm();
-        s.failure(&nt_try(7, NR), "691", 1);
-        s.success(&nt_try(8, ANY23));
-        s.schedules(numbers, numbers);
-        s.open7_lm();
-        s.success(&lm_try(7, ANY));
-        s.schedules(numbers, numbers);
-    }
-    for octet in ["FF", "3F"] {
-        let numbers = octet.repeat(384);
-        s.keyed([H, "-", "0000"], 0, &format!("{octet}*384"), "-");
+    s.keyed([H, L, "0000"], 0, &any, &any_with_bits);
+    s.open7_lm();
+    s.failure(&nt_try(7, NR), "691", 1);
+    s.success(&nt_try(8, ANY23));
+    s.schedules(&any, &any_with_bits);
+    s.open7_lm();
+    s.success(&lm_try(7, ANY));
+    for octets in ["FF*384", "3F*384"] {
+        s.keyed([H, "-", "0000"], 0, octets, "-");
         s.open7();
         s.failure(&nt_try(7, NR), "691", 1);
         s.open7();
         s.success(&nt_try(7, ONES));
-        s.schedules(&numbers, "-");
     }
+    s.schedules(&"3F".repeat(384), "-");
     s.note("nothing in the bits that are read: as zeros, but handed out as they were lent");
     s.keyed([H, "-", "0000"], 0, "C0*384", "-");
     s.open7();
     s.success(&nt_try(7, ZR));
     s.schedules(&"C0".repeat(384), "-");
-    s.note("expired: numbers of no hash to 648, and the change by the hash");
+    s.note("expired: numbers of no hash draw 648, and the record kept has none");
     s.keyed([H, "-", "0001"], 0, &any, "-");
     s.open7();
-    s.failure(&nt_try(7, ANY), "648", 0);
-    s.schedules(&any, "-");
-    s.success(&change(8, &CH, P, CLIENT_PASS));
-    s.schedules(&keys_of(HC), "-");
+    let answer = s.failure(&nt_try(7, ANY), "648", 0);
+    let kept = format!("8 {CHX} 2 no 255 change {H}/-/0001/0");
+    assert_eq!(answer.conversation, kept);
 }
 
 fn absent_hashes(s: &mut Sheet) {
@@ -4160,14 +4120,13 @@ fn absent_hashes(s: &mut Sheet) {
         s.open7_lm();
         let answer = s.failure(&packet, "691", 1);
         assert_eq!(answer.record, "-/-/0000/1");
-        s.schedules(kh, kl);
     }
+    s.schedules(kh, kl);
     s.note("no NT hash: flag 1 goes to LM, by LM's schedules");
     s.keyed(["-", L, "0000"], 0, H, L);
     s.open7_lm();
     s.failure(&nt_try(7, NR), "691", 1);
     s.success(&resp(8, LR23, NR23, 1, b"u"));
-    s.schedules(kh, kl);
     s.note("no LM hash: flag 0 is never valid");
     s.keyed([H, "-", "0000"], 0, H, L);
     s.open7_lm();
@@ -4194,9 +4153,9 @@ fn schedules_from_call_to_call(s: &mut Sheet) {
     for (verdict, count) in [(retry, 1), (retry, 2), ("failure 691 0 - 2 end", 3)] {
         let answer = peer.respond(s, P, verdict);
         assert_eq!(answer.record, format!("{H}/-/0000/{count}"));
-        s.schedules(kc, "-");
         s.is("relend", "");
     }
+    s.schedules(kc, "-");
     s.title("CR10-6: r + 2 replies that are no repeats cover it too: r is 2, and then refusal 1");
     s.keyed([H, "-", "0001"], 0, HC, "-");
     let mut peer = Peer::meet(s, 7, "2");
@@ -4217,7 +4176,6 @@ fn schedules_from_call_to_call(s: &mut Sheet) {
     let mut peer = Peer::meet(s, 9, "0");
     let answer = peer.respond(s, Q, "success");
     assert_eq!(answer.record, format!("{HQ}/-/0000/0"));
-    s.schedules(kq, "-");
 
     s.title(
         "CR10-5: after a conversation that ended, the record goes to the next with what it had",
@@ -4238,9 +4196,9 @@ fn schedules_from_call_to_call(s: &mut Sheet) {
             true => s.success(&packet),
             false => s.failure(&packet, "691", 1),
         };
-        s.schedules(kc, &keys_of(LC));
         s.is("relend", "");
     }
+    s.schedules(kc, &keys_of(LC));
     s.note("a change that draws 709 leaves it as it was");
     s.keyed([H, "-", "0001"], 0, HC, "-");
     s.open7();
