@@ -513,8 +513,8 @@ fn cases() {
     // The whole file, run afresh, gives the lines that were checked.
     let again = reference::script::run(&sheet.text);
     assert_eq!(again.lines().count(), sheet.text.lines().count());
-    // The program `vectors` reads no more than 1,048,576 octets, and rt lets a program write no more
-    // than so many; the published vectors come out before these.
+    // The program `vectors` reads no more than 1,048,576 octets, and rt lets a program write no
+    // more than so many; the published vectors come out before these.
     assert!(sheet.text.len() < 1_000_000, "{}", sheet.text.len());
     assert!(again.len() < 1_000_000, "{}", again.len());
     let stored = concat!(

@@ -64,8 +64,7 @@ fn lend(record: Lookup, mut state: ScriptState) -> ScriptState {
     state
 }
 
-// account -, account NT LM MARKS, account NT LM MARKS COUNT, and with NTKEYS or NTKEYS LMKEYS behind
-// it
+// account -, account NT LM MARKS, account NT LM MARKS COUNT, and this with NTKEYS or NTKEYS LMKEYS
 pub(crate) fn account(line: &[u8], state: ScriptState) -> ScriptState {
     lend(records::lookup(line), state)
 }

@@ -25,8 +25,9 @@ pub fn plain<T>(result: Result<T, Refusal>) -> Result<T, u8> {
     result.map_err(|refusal| u8::try_from(refusal.number()).expect("a number"))
 }
 
-/// An account of theirs as one of ours, which has no schedules: those of theirs are its own, as they
-/// are in every record that the wrapper makes. Others are passed by bytes alone (schedules.rs).
+/// An account of theirs as one of ours, which has no schedules: those of theirs are its own, as
+/// they are in every record that the wrapper makes. Others are passed by bytes alone
+/// (schedules.rs).
 pub fn our_account(account: &their::Account) -> mschap::Account {
     mschap::Account {
         nt_hash: account.nt.map(NtHash),
