@@ -3752,6 +3752,7 @@ fn schedules_of_hashes(s: &mut Sheet) {
     ] {
         assert_eq!(sha256(&bytes(&keys_of(hash))), digest);
     }
+    s.title("CR10-4: the hashes of clientPass, whose schedules stand beside another's below");
     s.is(&format!("nthash {}", hex(CLIENT_PASS)), HC);
     s.is(&format!("lmhash {}", text("clientPass")), LC);
     s.title(
