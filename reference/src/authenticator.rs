@@ -4,6 +4,7 @@ use crate::hashes::{self, Opened as OpenedBlock};
 use crate::issued::{entries_of, Issued};
 use crate::message;
 use crate::packet::{self, ChangeFields, Frame, ResponseFields};
+use crate::schedules::Schedules;
 use crate::{grown, next_identifier};
 
 /// An account record.
@@ -23,6 +24,78 @@ pub struct Account {
     pub expired: bool,
     /// How many Responses in a row were invalid (request 2026-09): "0 in a record newly made".
     pub failures: u8,
+    /// The schedules beside the NT hash (request 2026-10), by which its Responses are judged. They
+    /// need not be the hash's own.
+    pub nt_keys: Schedules,
+    /// Those beside the LAN Manager hash.
+    pub lm_keys: Schedules,
+}
+
+impl Account {
+    /// The same with the schedules that agree with its hashes, as in every record that is made
+    /// here: zeros beside a hash that is absent.
+    pub fn keyed(self) -> Account {
+        Account {
+            nt_keys: Schedules::beside(&self.nt),
+            lm_keys: Schedules::beside(&self.lm),
+            ..self
+        }
+    }
+
+    /// The same without its schedules.
+    pub fn entry(&self) -> Entry {
+        Entry {
+            nt: self.nt,
+            lm: self.lm,
+            disabled: self.disabled,
+            hours: self.hours,
+            no_dialin: self.no_dialin,
+            expired: self.expired,
+            failures: self.failures,
+        }
+    }
+}
+
+/// An account record without its schedules: what is kept for a change, which goes by the octets of
+/// the NT hash alone.
+#[derive(Clone, Copy, Debug, Default, PartialEq, Eq)]
+pub struct Entry {
+    /// The NT hash, or none.
+    pub nt: Option<[u8; 16]>,
+    /// The LAN Manager hash, or none.
+    pub lm: Option<[u8; 16]>,
+    /// Disabled.
+    pub disabled: bool,
+    /// Barred by hours.
+    pub hours: bool,
+    /// No dial-in.
+    pub no_dialin: bool,
+    /// Expired.
+    pub expired: bool,
+    /// How many Responses in a row were invalid.
+    pub failures: u8,
+}
+
+impl Entry {
+    /// The record with any schedules.
+    pub fn with(&self, nt_keys: Schedules, lm_keys: Schedules) -> Account {
+        Account {
+            nt: self.nt,
+            lm: self.lm,
+            disabled: self.disabled,
+            hours: self.hours,
+            no_dialin: self.no_dialin,
+            expired: self.expired,
+            failures: self.failures,
+            nt_keys,
+            lm_keys,
+        }
+    }
+
+    /// The record with the schedules that agree with its hashes.
+    pub fn keyed(&self) -> Account {
+        self.with(Schedules::beside(&self.nt), Schedules::beside(&self.lm))
+    }
 }
 
 /// What a conversation awaits.
@@ -31,7 +104,7 @@ pub enum Phase {
     /// A Response.
     Response,
     /// A change; the kept record goes with it.
-    Change(Account),
+    Change(Entry),
     /// Nothing more.
     Ended,
 }
@@ -175,8 +248,9 @@ pub struct Answer {
     pub written: usize,
     /// The next conversation; on refusal and for a repeat the one given.
     pub conversation: Conversation,
-    /// The record handed out: after a judged Response the one lent, if any, with its new count;
-    /// by an accepted change the new one; none with every other answer.
+    /// The record handed out: after a judged Response the one lent, if any, with its new count and
+    /// the schedules it was lent with; by an accepted change the new one, with its own schedules;
+    /// none with every other answer.
     pub record: Option<Account>,
 }
 
@@ -252,7 +326,7 @@ enum Taken {
     /// It draws the last reply again.
     Repeat(Last),
     /// It is judged.
-    Judged(Judgement),
+    Judged(Box<Judgement>),
 }
 
 /// One step: a packet, the record of the account it names or none, and the reply buffer.
@@ -325,7 +399,8 @@ fn take(
             return Ok(Taken::Repeat(last));
         }
     }
-    judge(conversation, &frame, record).map(Taken::Judged)
+    let judgement = judge(conversation, &frame, record)?;
+    Ok(Taken::Judged(Box::new(judgement)))
 }
 
 /// The refusals 1 and 4 to 7 in their order, then the rules of the phase.
@@ -386,7 +461,7 @@ fn judge_response(
         }
         (648, Some(account)) => {
             // The record kept is the one handed out, so that its count is 0.
-            let phase = Phase::Change(account);
+            let phase = Phase::Change(account.entry());
             (
                 false,
                 Conversation {
@@ -432,7 +507,8 @@ fn locked(conversation: &Conversation, account: &Account) -> bool {
     account.failures >= conversation.limit
 }
 
-/// The record handed out after a judged Response: the one lent, with only its count changed.
+/// The record handed out after a judged Response: the one lent, with only its count changed. Its
+/// hashes stay, so by request 2026-10 its schedules do, whatever they are.
 fn counted(conversation: &Conversation, fields: &ResponseFields<'_>, account: &Account) -> Account {
     let is_valid = valid(conversation, fields, account);
     let failures = match (is_valid, locked(conversation, account)) {
@@ -449,28 +525,31 @@ fn counted(conversation: &Conversation, fields: &ResponseFields<'_>, account: &A
     }
 }
 
-/// Whether a Response is valid for a record, whatever its count.
+/// Whether a Response is valid for a record, whatever its count. Whether a hash is there decides
+/// which response counts; "A record lent with other schedules is judged by those it carries", so
+/// the octets of the hash have no effect.
 fn valid(conversation: &Conversation, fields: &ResponseFields<'_>, account: &Account) -> bool {
-    let right = |hash: &[u8; 16]| hashes::challenge_response(hash, &conversation.challenge);
-    match (fields.flag, &account.nt, &account.lm) {
-        (true, Some(nt), _) => fields.nt == right(nt),
-        (_, _, Some(lm)) => conversation.lm && fields.lm == right(lm),
-        (_, _, None) => false,
+    let right = |keys: &Schedules| keys.response(&conversation.challenge);
+    match (fields.flag, account.nt.is_some(), account.lm.is_some()) {
+        (true, true, _) => fields.nt == right(&account.nt_keys),
+        (_, _, true) => conversation.lm && fields.lm == right(&account.lm_keys),
+        (_, _, false) => false,
     }
 }
 
-fn judge_change(conversation: &Conversation, fields: &ChangeFields, kept: &Account) -> Judgement {
+fn judge_change(conversation: &Conversation, fields: &ChangeFields, kept: &Entry) -> Judgement {
     let (reason, fault, record) = match checked(conversation, fields, kept) {
         Err(fault) => (709, Some(fault), None),
         Ok(hash) => {
-            let record = Account {
+            let record = Entry {
                 nt: Some(hash),
                 lm: None,
                 expired: false,
                 failures: 0,
                 ..*kept
             };
-            (0, None, Some(record))
+            // The hash is a new one, and so are the schedules: its own.
+            (0, None, Some(record.keyed()))
         }
     };
     Judgement {
@@ -483,11 +562,12 @@ fn judge_change(conversation: &Conversation, fields: &ChangeFields, kept: &Accou
 }
 
 /// The new NT hash of a change that is accepted, or what is wrong with it: each is asked in the
-/// order of [`Fault`], so that the first is told.
+/// order of [`Fault`], so that the first is told. The old hash is that of the kept record, octet by
+/// octet, and the new response that of the new hash: no schedules that were lent have an effect.
 fn checked(
     conversation: &Conversation,
     fields: &ChangeFields,
-    kept: &Account,
+    kept: &Entry,
 ) -> Result<[u8; 16], Fault> {
     let old_hash = kept.nt.ok_or(Fault::NoNtHash)?;
     if fields.flags & 1 == 0 {

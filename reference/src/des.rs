@@ -239,6 +239,16 @@ pub fn decrypt(key7: &[u8; 7], block: &[u8; 8]) -> [u8; 8] {
     decrypt_with_parity(&expand(key7), block)
 }
 
+/// The sixteen round keys of a seven-octet key, the first round's first.
+pub fn round_keys(key7: &[u8; 7]) -> [[u8; 48]; 16] {
+    schedule(&expand(key7))
+}
+
+/// Encryption under any sixteen round keys.
+pub fn encrypt_with(keys: &[[u8; 48]; 16], block: &[u8; 8]) -> [u8; 8] {
+    run(block, keys.iter())
+}
+
 /// One block under the three seven-octet keys that 21 octets hold, joined to 24 octets.
 pub fn encrypt_three(key21: &[u8; 21], block: &[u8; 8]) -> [u8; 24] {
     let mut out = [0u8; 24];

@@ -15,6 +15,7 @@ pub mod packet;
 pub mod peer;
 pub mod random;
 pub mod rc4;
+pub mod schedules;
 pub mod script;
 pub mod smbpasswd;
 

@@ -1,10 +1,11 @@
 //! The command interpreter. Each line of the input gives one line of the output.
 
-use crate::authenticator::{self, Account, Conversation, Fault, Last, Phase};
+use crate::authenticator::{self, Account, Conversation, Entry, Fault, Last, Phase};
 use crate::hashes;
 use crate::issued::{self, Issued};
 use crate::message::{self, Call, Fields};
 use crate::peer::{self, Turn, Verdict, Written};
+use crate::schedules::Schedules;
 use crate::{des, md4, packet, rc4};
 
 /// The most octets that `HH*N` may name, and the greatest offset into a keystream.
@@ -25,6 +26,7 @@ enum Section {
     Md4,
     Rc4,
     Des,
+    Keys,
 }
 
 /// The state that goes from line to line.
@@ -95,6 +97,11 @@ impl Session {
         self.account.as_ref()
     }
 
+    /// The record that the last step handed out.
+    pub fn handed_out(&self) -> Option<&Account> {
+        self.handed_out.as_ref()
+    }
+
     /// Runs the lines of a text; each line of the output ends in a line feed.
     pub fn run(&mut self, input: &str) -> String {
         let mut output = String::new();
@@ -119,6 +126,7 @@ impl Session {
             ":md4" => Some(Section::Md4),
             ":rc4" => Some(Section::Rc4),
             ":des" => Some(Section::Des),
+            ":keys" => Some(Section::Keys),
             _ => None,
         };
         if let Some(section) = marked {
@@ -137,6 +145,7 @@ impl Session {
             Section::Md4 => md4_vector(&words),
             Section::Rc4 => rc4_vector(&words),
             Section::Des => des_vector(&words),
+            Section::Keys => keys_vector(&words),
         };
         vector.unwrap_or_else(|| format!("{line} = error"))
     }
@@ -195,11 +204,11 @@ impl Session {
                 return Some(None);
             }
             ["account", nt, lm, marks] => {
-                self.account = Some(account(nt, lm, marks, "0")?);
+                self.account = Some(account(nt, lm, marks, "0", &[])?);
                 return Some(None);
             }
-            ["account", nt, lm, marks, count] => {
-                self.account = Some(account(nt, lm, marks, count)?);
+            ["account", nt, lm, marks, count, ref keys @ ..] => {
+                self.account = Some(account(nt, lm, marks, count, keys)?);
                 return Some(None);
             }
             ["limit", limit] => {
@@ -225,6 +234,10 @@ impl Session {
                 }
                 return Some(None);
             }
+            ["schedules"] => self.handed_out.map_or("-".to_string(), |record| {
+                let (nt, lm) = (show_keys(&record.nt_keys), show_keys(&record.lm_keys));
+                format!("{nt} {lm}")
+            }),
             ["challenge", packet] => refused_or(peer::read_challenge(&octets(packet)?), |turn| {
                 show_turn(&turn)
             }),
@@ -333,7 +346,9 @@ impl Session {
             answer.written,
             hex(&buffer),
             show_conversation(&self.conversation),
-            answer.record.as_ref().map_or("-".to_string(), show_account)
+            answer
+                .record
+                .map_or("-".to_string(), |record| show_entry(&record.entry()))
         ))
     }
 }
@@ -377,6 +392,22 @@ fn des_vector(words: &[&str]) -> Option<String> {
     ))
 }
 
+/// `KEYS CHALLENGE NUMBERS RESPONSE`: the numbers that KEYS names, and the response under them.
+fn keys_vector(words: &[&str]) -> Option<String> {
+    let [named, challenge, numbers, response] = *words else {
+        return None;
+    };
+    keys(numbers)?;
+    fixed::<24>(response)?;
+    let keys = keys(named)?;
+    let computed = keys.response(&fixed(challenge)?);
+    Some(format!(
+        "{named} {challenge} {} {}",
+        show_keys(&keys),
+        hex(&computed)
+    ))
+}
+
 /// Octets as upper-case hexadecimal digits, `-` for none.
 pub fn hex(octets: &[u8]) -> String {
     if octets.is_empty() {
@@ -411,25 +442,28 @@ fn show_written(answer: &Written, buffer: &[u8]) -> String {
     format!("{} {} {}", answer.refusal, answer.written, hex(buffer))
 }
 
-fn show_account(account: &Account) -> String {
+fn show_entry(entry: &Entry) -> String {
     let hash = |hash: &Option<[u8; 16]>| hash.map_or("-".to_string(), |hash| hex(&hash));
-    let marks: String = [
-        account.disabled,
-        account.hours,
-        account.no_dialin,
-        account.expired,
-    ]
-    .iter()
-    .map(|mark| if *mark { '1' } else { '0' })
-    .collect();
-    let (nt, lm, count) = (hash(&account.nt), hash(&account.lm), account.failures);
+    let marks: String = [entry.disabled, entry.hours, entry.no_dialin, entry.expired]
+        .iter()
+        .map(|mark| if *mark { '1' } else { '0' })
+        .collect();
+    let (nt, lm, count) = (hash(&entry.nt), hash(&entry.lm), entry.failures);
     format!("{nt}/{lm}/{marks}/{count}")
+}
+
+/// The numbers as octets, `-` where all are 0.
+fn show_keys(keys: &Schedules) -> String {
+    match *keys == Schedules::default() {
+        true => "-".to_string(),
+        false => hex(&keys.octets()),
+    }
 }
 
 fn show_conversation(conversation: &Conversation) -> String {
     let (phase, kept) = match &conversation.phase {
         Phase::Response => ("response", "-".to_string()),
-        Phase::Change(kept) => ("change", show_account(kept)),
+        Phase::Change(kept) => ("change", show_entry(kept)),
         Phase::Ended => ("ended", "-".to_string()),
     };
     format!(
@@ -546,7 +580,18 @@ fn list(buffer: &str, used: &str, counts: &str) -> Option<List> {
     })
 }
 
-fn account(nt: &str, lm: &str, marks: &str, count: &str) -> Option<Account> {
+/// The schedules that a word names: `-` zeros, a hash its own, or the numbers themselves.
+fn keys(word: &str) -> Option<Schedules> {
+    let octets = octets(word)?;
+    match octets.len() {
+        0 => Some(Schedules::default()),
+        16 => Some(Schedules::of(&octets.try_into().ok()?)),
+        _ => Some(Schedules::of_octets(&octets.try_into().ok()?)),
+    }
+}
+
+/// The record that the words name, with its own schedules where no word names others.
+fn account(nt: &str, lm: &str, marks: &str, count: &str, named: &[&str]) -> Option<Account> {
     let hash = |word: &str| match word {
         "-" => Some(None),
         given => Some(Some(fixed::<16>(given)?)),
@@ -559,7 +604,7 @@ fn account(nt: &str, lm: &str, marks: &str, count: &str) -> Option<Account> {
     let [disabled, hours, no_dialin, expired] = *marks.as_bytes() else {
         return None;
     };
-    Some(Account {
+    let entry = Entry {
         nt: hash(nt)?,
         lm: hash(lm)?,
         disabled: mark(disabled)?,
@@ -567,7 +612,14 @@ fn account(nt: &str, lm: &str, marks: &str, count: &str) -> Option<Account> {
         no_dialin: mark(no_dialin)?,
         expired: mark(expired)?,
         failures: octet(count)?,
-    })
+    };
+    let own = entry.keyed();
+    match *named {
+        [] => Some(own),
+        [nt] => Some(entry.with(keys(nt)?, own.lm_keys)),
+        [nt, lm] => Some(entry.with(keys(nt)?, keys(lm)?)),
+        _ => None,
+    }
 }
 
 #[cfg(test)]
@@ -634,6 +686,53 @@ mod tests {
         assert_eq!(session.account().unwrap().failures, 3);
         session.run("limit 0\nopen 3 02*8 8 no AA*16\n");
         assert_eq!(session.conversation(), &authenticator::REFUSED);
+    }
+
+    #[test]
+    fn schedules_go_with_the_record() {
+        const MYPW: &str = "FC156AF7EDCD6C0EDDE3337D427F4EAC";
+        let own = Schedules::of(&fixed(MYPW).unwrap());
+        let digits = hex(&own.octets());
+        let mut session = Session::new();
+        assert_eq!(session.line("schedules"), "schedules = -");
+        for (words, nt, lm) in [
+            ("", own, Schedules::default()),
+            (" 00*16", Schedules::default(), Schedules::default()),
+            (" -", Schedules::default(), Schedules::default()),
+            (" FF*384", Schedules([u64::MAX; 48]), Schedules::default()),
+            (&format!(" - {digits}"), Schedules::default(), own),
+            (&format!(" {MYPW} {MYPW}"), own, own),
+        ] {
+            session.line(&format!("account {MYPW} - 0000 0{words}"));
+            let account = session.account().unwrap();
+            assert_eq!((account.nt_keys, account.lm_keys), (nt, lm), "{words}");
+        }
+        for malformed in ["00*15", "00*17", "00*383", "00*385", "0", "- - -", "- 00"] {
+            let line = format!("account - - 0000 0 {malformed}");
+            assert_eq!(session.line(&line), format!("{line} = error"));
+        }
+        session.run("open 3 00*8 0 no AA*17\n");
+        session.line(&format!("step 0203003731{}0175 AA*17", "00".repeat(48)));
+        let both = format!("schedules = {digits} {digits}");
+        assert_eq!(session.line("schedules"), both);
+        session.run("account -\nrelend\n");
+        assert_eq!(session.account().unwrap().lm_keys, own);
+        session.line(&format!("account {MYPW} - 0000 0 - 01*384"));
+        session.run("open 3 01*8 0 no AA*17\n");
+        session.line(&format!("step 0203003731{}0175 AA*17", "00".repeat(48)));
+        let numbers = format!("schedules = - {}", "01".repeat(384));
+        assert_eq!(session.line("schedules"), numbers);
+        session.run("step - AA*17\n");
+        assert_eq!(session.line("schedules"), "schedules = -");
+        assert_eq!(
+            session.run(&format!(
+                ":keys\n{MYPW} 102DB5DF085D3041 - 00*24\n- 00*8 - 00*23\n"
+            )),
+            format!(
+                ":keys\n{MYPW} 102DB5DF085D3041 {digits} \
+                 4E9D3C8F9CFD385D5BF4D3246791956CA4C351AB409A3D61\n- 00*8 - 00*23 = error\n"
+            )
+        );
     }
 
     #[test]

@@ -2,7 +2,7 @@
 //! it says of a name, the write of a changed line, and what the program `acctsum` prints.
 //! Sentences in quotes are the request's.
 
-use crate::authenticator::Account;
+use crate::authenticator::{Account, Entry};
 
 pub mod samples;
 
@@ -32,10 +32,11 @@ pub struct Record {
 }
 
 impl Record {
-    /// The record as the box takes it: "the hours and dial-in marks are clear", and by request
-    /// 2026-09 the count is "0 in a record newly made or read from the account file".
+    /// The record as the box takes it: "the hours and dial-in marks are clear", by request 2026-09
+    /// the count is "0 in a record newly made or read from the account file", and by request
+    /// 2026-10 the schedules agree with the hashes: "the account file's reader included".
     pub fn account(&self) -> Account {
-        Account {
+        let entry = Entry {
             nt: self.nt,
             lm: self.lm,
             disabled: self.disabled,
@@ -43,7 +44,8 @@ impl Record {
             no_dialin: false,
             expired: self.expired,
             failures: 0,
-        }
+        };
+        entry.keyed()
     }
 }
 

@@ -2,11 +2,12 @@
 //! print. The text is compared with the stored file, which both programs run;
 //! `WRITE_CASES=1 cargo test --release --offline --test cases` writes that file anew.
 
-use reference::authenticator::{Account, Fault, Phase};
+use reference::authenticator::{Account, Entry, Fault, Phase};
 use reference::hashes;
 use reference::packet::{self, ChangeFields};
 use reference::peer::{self, Turn};
 use reference::rc4::rc4;
+use reference::schedules::Schedules;
 use reference::script::{hex, Session};
 
 /// Fixed octets: the challenge, the password `MyPw` with its hash H and its response NR are those
@@ -323,13 +324,20 @@ impl Sheet {
         self.judged += usize::from(judged);
         // CR09-6, -12: with a judged Response the record lent, the same but for its count; with an
         // accepted change one; with nothing else.
+        // CR10-5, -7: the former with the schedules that were lent, the latter with its own.
         let record = words[14];
+        let handed = self.session.handed_out().copied();
         match (judged, packet.first(), lent) {
             (true, Some(2), Some(lent)) => {
                 let (but_count, _) = record.rsplit_once('/').unwrap();
                 assert_eq!(but_count, uncounted(&lent), "{result}");
+                let keys = handed.map(|record| (record.nt_keys, record.lm_keys));
+                assert_eq!(keys, Some((lent.nt_keys, lent.lm_keys)), "{result}");
             }
-            (true, Some(6), _) => assert_eq!(record == "-", words[1] == "709", "{result}"),
+            (true, Some(6), _) => {
+                assert_eq!(record == "-", words[1] == "709", "{result}");
+                assert_eq!(handed, handed.map(Account::keyed), "{result}");
+            }
             _ => assert_eq!(record, "-", "{result}"),
         }
         // CR04-2, -5, -6: a fault beside each 709 that is no repeat, and beside nothing else.
@@ -500,12 +508,15 @@ fn cases() {
     faults(&mut sheet);
     faulty_handsets(&mut sheet);
     guesses(&mut sheet);
+    schedules(&mut sheet);
 
     // The whole file, run afresh, gives the lines that were checked.
     let again = reference::script::run(&sheet.text);
     assert_eq!(again.lines().count(), sheet.text.lines().count());
-    // The program `vectors` reads no more than 524,288 octets.
-    assert!(sheet.text.len() < 520_000, "{}", sheet.text.len());
+    // The program `vectors` reads no more than 1,048,576 octets, and rt lets a program write no
+    // more than so many; the published vectors come out before these.
+    assert!(sheet.text.len() < 1_000_000, "{}", sheet.text.len());
+    assert!(again.len() < 1_000_000, "{}", again.len());
     let stored = concat!(
         env!("CARGO_MANIFEST_DIR"),
         "/../crates/vectors/data/cases.txt"
@@ -3638,6 +3649,576 @@ fn limits(s: &mut Sheet) {
     s.success(&right);
 }
 
+/// Request 2026-10. HC and LC are the hashes of `clientPass`, NC and CR its responses by NT and by
+/// LM, which OpenSSL computed as the others; the SHA-256 of each hash's schedules, and the
+/// responses under numbers that are no hash's, were computed by a program in Python that reads and
+/// writes round keys by the request's text and whose DES agrees with OpenSSL's.
+const CLIENT_PASS: &[u8] = b"c\0l\0i\0e\0n\0t\0P\0a\0s\0s\0";
+const HC: &str = "44EBBA8D5312B8D611474411F56989AE";
+const LC: &str = "76A152936096D7830E2390227404AFD2";
+const NC: &str = "54F22AC5AA6C5CBF7E60531821852087D681F1CC9E1BB36E";
+const NC23: &str = "816E88B4C7E1D70DE6D61F7B8AF0462D25F989430FEDFB08";
+const NC46: &str = "A3403C2AECA82BE89FD9CC97408311234A757F1A519F73BD";
+const CR: &str = "EDBAC3D1B2BC24BDA687A4EBDE1F18943F4A329D5C372A8F";
+const CR23: &str = "52B319D3F9F9F41A896373629EFCF62387B314D728E514A3";
+/// The response under numbers of ones only, and under those of [`any_numbers`].
+const ONES: &str = "39241611A0FB157B39241611A0FB157B39241611A0FB157B";
+const ANY: &str = "EDE5A99093F02655D725DCE0E9AE80B6BC072A5994D30600";
+const ANY23: &str = "84365483BFD5BF6D268995623F2FAF583CA1E0622DF88FB2";
+
+/// The schedules of a hash.
+fn keys_of(hash: &str) -> String {
+    hex(&Schedules::of(&array(hash)).octets())
+}
+
+/// Numbers of no hash, with bits that are not read.
+fn any_numbers() -> String {
+    let octets: Vec<u8> = (0..384)
+        .map(|i| ((167 * i + 41 + 13 * (i / 8)) % 256) as u8)
+        .collect();
+    hex(&octets)
+}
+
+/// The same numbers with each bit set that is not read.
+fn with_other_bits(numbers: &str) -> String {
+    let octets: Vec<u8> = bytes(numbers).iter().map(|octet| octet | 0xC0).collect();
+    hex(&octets)
+}
+
+impl Sheet {
+    /// A record with schedules, named by a hash or by the numbers.
+    fn keyed(&mut self, record: [&str; 3], count: u8, nt_keys: &str, lm_keys: &str) {
+        let [nt, lm, marks] = record;
+        let words = format!("{nt} {lm} {marks} {count} {nt_keys} {lm_keys}");
+        self.is(&format!("account {words}"), "");
+    }
+
+    /// The schedules of the record that the last step handed out.
+    fn schedules(&mut self, nt: &str, lm: &str) {
+        self.is("schedules", &format!("{nt} {lm}"));
+    }
+
+    /// The last step handed out no record.
+    fn no_schedules(&mut self) {
+        self.is("schedules", "-");
+    }
+}
+
+/// Request 2026-10: the schedules that a record carries.
+fn schedules(s: &mut Sheet) {
+    schedules_of_hashes(s);
+    own_schedules(s);
+    anothers_schedules(s);
+    anothers_lm_schedules(s);
+    schedules_handed_out(s);
+    schedules_and_counts(s);
+    schedules_and_changes(s);
+    numbers_of_no_hash(s);
+    absent_hashes(s);
+    schedules_from_call_to_call(s);
+}
+
+/// Responses by NT and by LM, with the identifiers of a first one and of a retry.
+fn nt_try(id: u8, response: &str) -> Vec<u8> {
+    resp(id, Z24, response, 1, b"u")
+}
+
+fn lm_try(id: u8, response: &str) -> Vec<u8> {
+    resp(id, response, Z24, 0, b"u")
+}
+
+fn schedules_of_hashes(s: &mut Sheet) {
+    for (hash, digest) in [
+        (
+            H,
+            "98c3c3bf59dd640e6c28be0a4e47d994abca5f1c272fcc76a2b9cec0d9823a8e",
+        ),
+        (
+            HC,
+            "76ad9cc338b0d5eea7e1336e9fc545a8ff937f8c651f26ae91708bd984f05656",
+        ),
+        (
+            HQ,
+            "d2a38e8f54392f9b165c58a256a948f8acd73553790ca4de5568d18fdf05b6d4",
+        ),
+        (
+            L,
+            "cb31fdc26228f21c13bd27d27d6eace0993e28f5f7b09686682ebd7c9b14636e",
+        ),
+        (
+            LC,
+            "4f6edbe4417d8a141c58a2a136946e5a309c4eb7306e96b00379628504ef6a06",
+        ),
+    ] {
+        assert_eq!(sha256(&bytes(&keys_of(hash))), digest);
+    }
+    s.title("CR10-4: the hashes of clientPass, whose schedules stand beside another's below");
+    s.is(&format!("nthash {}", hex(CLIENT_PASS)), HC);
+    s.is(&format!("lmhash {}", text("clientPass")), LC);
+    s.title(
+        "CR10-1, -3: the schedules of a hash: three keys, sixteen rounds; its response by them",
+    );
+    s.copied(":keys");
+    for (hash, response) in [(H, NR), (HC, NC), (L, LR), (LC, CR)] {
+        s.vector(&format!("{hash} {CHX} {} {response}", keys_of(hash)));
+    }
+    s.vector(&format!("{HQ} {CH23} {} {NQ23}", keys_of(HQ)));
+    s.note("octets 14 and 15 and five zeros: the third key alone, in the last sixteen numbers");
+    let third = format!("{}{}", "00".repeat(14), &H[28..]);
+    let numbers = keys_of(&third);
+    assert!(numbers[..512] == "0".repeat(512) && numbers[512..] == keys_of(H)[512..]);
+    let response = format!("{}{}", &ZR[..32], &NR[32..]);
+    s.vector(&format!("{third} {CHX} {numbers} {response}"));
+    s.note("a hash of octets 0 has zeros, and `-` names them");
+    s.vector(&format!("00*16 {CHX} - {ZR}"));
+    s.vector(&format!("- {CHX} - {ZR}"));
+    s.vector(&format!("00*384 {CHX} - {ZR}"));
+    s.note("the numbers themselves; of each octet the low six bits are read");
+    for (numbers, response) in [(with_other_bits(&keys_of(H)), NR), (any_numbers(), ANY)] {
+        s.vector(&format!("{numbers} {CHX} {numbers} {response}"));
+    }
+    for (octet, response) in [("FF", ONES), ("C0", ZR)] {
+        let numbers = octet.repeat(384);
+        s.vector(&format!("{octet}*384 {CHX} {numbers} {response}"));
+    }
+    s.copied(":cases");
+}
+
+fn own_schedules(s: &mut Sheet) {
+    let (kh, kl) = (&*keys_of(H), &*keys_of(L));
+    s.title("CR10-1, -2, O-10a: a record made without schedules has its hashes' own, else zeros");
+    for (nt, lm, nt_keys, lm_keys) in [
+        (H, "-", kh, "-"),
+        (H, L, kh, kl),
+        ("-", L, "-", kl),
+        ("-", "-", "-", "-"),
+        ("00*16", "00*16", "-", "-"),
+    ] {
+        s.account(nt, lm, "0000");
+        s.open7();
+        s.failure(&nt_try(7, BAD), "691", 1);
+        s.schedules(nt_keys, lm_keys);
+    }
+    s.title("CR10-2: its own schedules named, by the hash or by the numbers: all as without them");
+    for (nt_keys, lm_keys) in [(H, L), (kh, kl)] {
+        s.keyed([H, L, "0000"], 0, nt_keys, lm_keys);
+        s.open7_lm();
+        s.success(&nt_try(7, NR));
+        s.open7_lm();
+        s.failure(&nt_try(7, NC), "691", 1);
+        s.success(&lm_try(8, LR23));
+        s.schedules(kh, kl);
+    }
+    s.note("the word for LM may be missing: its own");
+    s.is(&format!("account {H} {L} 0001 2 {H}"), "");
+    s.open7();
+    let answer = s.failure(&nt_try(7, NR), "648", 0);
+    assert_eq!(answer.record, format!("{H}/{L}/0001/0"));
+    s.schedules(kh, kl);
+}
+
+fn anothers_schedules(s: &mut Sheet) {
+    let kc = &*keys_of(HC);
+    s.title("CR10-4, -5: R0's hash with clientPass's schedules: clientPass is valid, MyPw is not");
+    for named in [HC, kc] {
+        s.keyed([H, "-", "0000"], 0, named, "-");
+        s.open7();
+        let answer = s.success(&nt_try(7, NC));
+        assert_eq!(answer.record, format!("{H}/-/0000/0"));
+        s.schedules(kc, "-");
+        s.is("relend", "");
+        s.open7();
+        let answer = s.failure(&nt_try(7, NR), "691", 1);
+        assert_eq!(answer.record, format!("{H}/-/0000/1"));
+        s.schedules(kc, "-");
+        s.is("relend", "");
+        s.failure(&nt_try(8, NR23), "691", 1);
+        s.is("relend", "");
+        let answer = s.success(&nt_try(9, NC46));
+        assert_eq!(answer.record, format!("{H}/-/0000/0"));
+    }
+    s.note("the other way round: clientPass's hash with MyPw's schedules");
+    s.keyed([HC, "-", "0000"], 0, H, "-");
+    s.open7();
+    s.failure(&nt_try(7, NC), "691", 1);
+    let answer = s.success(&nt_try(8, NR23));
+    assert_eq!(answer.record, format!("{HC}/-/0000/0"));
+    s.schedules(&keys_of(H), "-");
+    s.note("one of the three schedules alone is another's: neither password is valid");
+    for third in 0..3 {
+        let mut mixed = keys_of(H);
+        mixed.replace_range(256 * third..256 * (third + 1), &kc[256 * third..][..256]);
+        let mut response = NR.to_string();
+        response.replace_range(16 * third..16 * (third + 1), &NC[16 * third..][..16]);
+        s.keyed([H, "-", "0000"], 0, &mixed, "-");
+        for wrong in [NR, NC] {
+            s.open7();
+            s.failure(&nt_try(7, wrong), "691", 1);
+        }
+        s.open7();
+        s.success(&nt_try(7, &response));
+    }
+    s.title("CR10-4: zeros beside a hash: judged by them, not made anew");
+    s.keyed([H, L, "0000"], 0, "-", "-");
+    s.open7_lm();
+    s.failure(&nt_try(7, NR), "691", 1);
+    s.failure(&lm_try(8, LR23), "691", 1);
+    s.schedules("-", "-");
+    s.open7_lm();
+    s.success(&nt_try(7, ZR));
+    s.schedules("-", "-");
+    s.open7_lm();
+    s.success(&lm_try(7, ZR));
+}
+
+fn anothers_lm_schedules(s: &mut Sheet) {
+    let (kh, kc) = (&*keys_of(H), &*keys_of(LC));
+    s.title("CR10-4, -5: the same by LM, where LM is allowed");
+    for (nt, nt_keys, flag) in [(H, H, 0), ("-", "-", 1), ("-", "-", 0)] {
+        let shown = if nt == "-" { "-" } else { kh };
+        let lm_try = |id, response| resp(id, response, Z24, flag, b"u");
+        s.keyed([nt, L, "0000"], 0, nt_keys, LC);
+        s.open7_lm();
+        let answer = s.success(&lm_try(7, CR));
+        assert_eq!(answer.record, format!("{nt}/{L}/0000/0"));
+        s.is("relend", "");
+        s.open7_lm();
+        let answer = s.failure(&lm_try(7, LR), "691", 1);
+        assert_eq!(answer.record, format!("{nt}/{L}/0000/1"));
+        s.schedules(shown, kc);
+        s.is("relend", "");
+        s.success(&lm_try(8, CR23));
+        s.note("and where it is not, neither");
+        s.open7();
+        s.failure(&lm_try(7, CR), "691", 1);
+        s.failure(&lm_try(8, LR23), "691", 1);
+    }
+    s.note("each hash by the schedules beside it: here they are exchanged");
+    s.keyed([H, L, "0000"], 0, L, H);
+    for (packet, is_right) in [
+        (nt_try(7, LR), true),
+        (lm_try(7, NR), true),
+        (nt_try(7, NR), false),
+        (lm_try(7, LR), false),
+    ] {
+        s.open7_lm();
+        match is_right {
+            true => s.success(&packet),
+            false => s.failure(&packet, "691", 1),
+        };
+    }
+    s.schedules(&keys_of(L), kh);
+    s.note("with flag 1 and an NT hash no way to LM, whatever schedules stand there");
+    s.keyed([H, L, "0000"], 0, HC, LC);
+    s.open7_lm();
+    s.failure(&resp(7, CR, NR, 1, b"u"), "691", 1);
+    s.success(&resp(8, BAD, NC23, 1, b"u"));
+}
+
+fn schedules_handed_out(s: &mut Sheet) {
+    let kc = &*keys_of(HC);
+    s.title("CR10-5: handed out with the schedules that were lent, whatever the reason is");
+    for (marks, reason) in [
+        ("1000", "647"),
+        ("0100", "646"),
+        ("0010", "649"),
+        ("0001", "648"),
+    ] {
+        s.keyed([H, "-", marks], 3, HC, "-");
+        s.open7();
+        let answer = s.failure(&nt_try(7, NC), reason, 0);
+        assert_eq!(answer.record, format!("{H}/-/{marks}/0"));
+        s.schedules(kc, "-");
+    }
+    s.note("nothing for a repeat and a refusal, nor where no record was lent");
+    s.keyed([H, "-", "0000"], 0, HC, "-");
+    s.open7();
+    s.failure(&nt_try(7, NR), "691", 1);
+    s.schedules(kc, "-");
+    s.repeats(&nt_try(7, NC), B, &format!("04070011{E691R1}"), "691");
+    s.no_schedules();
+    s.refused(&nt_try(7, NC)[..54], B, "3");
+    s.no_schedules();
+    s.refused(&nt_try(9, NC), B, "5");
+    s.no_schedules();
+    s.is("account -", "");
+    s.failure(&nt_try(8, NC23), "691", 1);
+    s.no_schedules();
+    s.note("relend: none was handed out, so the record stays: none");
+    s.is("relend", "");
+    assert_eq!(s.failure(&nt_try(9, NC46), "691", 0).record, "-");
+}
+
+fn schedules_and_counts(s: &mut Sheet) {
+    let kc = &*keys_of(HC);
+    s.title("CR10-4, CR09-2 to -5: other schedules, and the counts and the limit as ever; limit 3");
+    s.limit(3);
+    s.keyed([H, "-", "0000"], 0, HC, "-");
+    for (packet, reason, count) in [
+        (nt_try(7, NR), "691", "1"),
+        (nt_try(7, NR), "691", "2"),
+        (nt_try(7, NC), "0", "0"),
+        (nt_try(7, NR), "691", "1"),
+        (nt_try(7, BAD), "691", "2"),
+        (nt_try(7, NR), "691", "3"),
+        (nt_try(7, NC), "691", "3"),
+        (nt_try(7, NR), "691", "4"),
+        (nt_try(7, NC), "691", "4"),
+    ] {
+        assert_eq!(s.count_after(&packet, reason), count);
+        s.is("relend", "");
+    }
+    s.schedules(kc, "-");
+    s.note("to at most 255; at the limit by LM too");
+    s.keyed([H, "-", "0000"], 255, HC, "-");
+    assert_eq!(s.count_after(&nt_try(7, NR), "691"), "255");
+    s.keyed([H, L, "0000"], 3, H, LC);
+    s.open7_lm();
+    assert!(s.locked(&lm_try(7, CR), 1).record.ends_with("/3"));
+    s.limit(255);
+}
+
+fn schedules_and_changes(s: &mut Sheet) {
+    let (kc, kq, klc) = (&*keys_of(HC), &*keys_of(HQ), &*keys_of(LC));
+    let kept = |lm: &str| format!("8 {CHX} 2 no 255 change {H}/{lm}/0001/0");
+    s.title(
+        "CR10-7, -8: R0x with clientPass's schedules: clientPass draws 648, MyPw is the old one",
+    );
+    s.note("the new record has the schedules of its new hash, and zeros beside no LM hash");
+    for (new, hash, keys, lm, lm_keys, shown) in [
+        (CLIENT_PASS, HC, kc, "-", "-", "-"),
+        (Q, HQ, kq, L, LC, klc),
+    ] {
+        s.keyed([H, lm, "0001"], 1, HC, lm_keys);
+        s.open7();
+        let answer = s.failure(&nt_try(7, NC), "648", 0);
+        assert_eq!(answer.conversation, kept(lm));
+        s.schedules(kc, shown);
+        let answer = s.success(&change(8, &CH, P, new));
+        assert_eq!(answer.record, format!("{hash}/-/0000/0"));
+        s.schedules(keys, "-");
+    }
+    s.note("the new password gets in with it, and the old one does not, nor clientPass");
+    s.is("relend", "");
+    s.open7();
+    s.failure(&nt_try(7, NR), "691", 1);
+    s.failure(&nt_try(8, NC23), "691", 1);
+    s.is("relend", "");
+    s.open7();
+    s.success(&nt_try(7, NQ));
+    s.note("MyPw draws 691 before the change");
+    s.keyed([H, "-", "0001"], 0, HC, "-");
+    s.open7();
+    s.failure(&nt_try(7, NR), "691", 1);
+    s.note("after a retry: 648, and the challenge in force is the second");
+    let answer = s.failure(&nt_try(8, NC23), "648", 0);
+    let after = format!("9 {CH23} 1 no 255 change {H}/-/0001/0");
+    assert_eq!(answer.conversation, after);
+    s.success(&change(9, &array(CH23), P, Q));
+    s.schedules(kq, "-");
+
+    s.title("CR10-8: clientPass as the old password draws 709: the block is opened by the hash");
+    let expired = |s: &mut Sheet| {
+        s.keyed([H, L, "0001"], 0, HC, LC);
+        s.open7();
+        s.failure(&nt_try(7, NC), "648", 0);
+    };
+    expired(s);
+    s.bad_change(&change(8, &CH, CLIENT_PASS, Q), Fault::Over);
+    s.no_schedules();
+    s.note("the old hash under the keys that were lent, in place of the new hash's");
+    expired(s);
+    let right = change(8, &CH, P, Q);
+    let under_lent = bytes("541C7CFCF62B50A7AB045A388A154861");
+    assert_eq!(hex(&right[520..536]), "71BD6CBA24586C0A1354F1B611CB4CAF");
+    s.bad_change(&with(&right, &[(520, &under_lent)]), Fault::OldHash);
+    s.no_schedules();
+    s.note("the response under the schedules that were lent");
+    expired(s);
+    assert_eq!(hex(&right[1092..1116]), NQ);
+    s.bad_change(&with(&right, &[(1092, &bytes(NC))]), Fault::Response);
+    s.note("what is lent with a change has no effect, the schedules neither");
+    expired(s);
+    s.keyed([HC, LC, "1111"], 9, "FF*384", L);
+    let answer = s.success(&right);
+    assert_eq!(answer.record, format!("{HQ}/-/0000/0"));
+    s.schedules(kq, "-");
+    s.note("no NT hash, but schedules beside it: 709");
+    s.keyed(["-", L, "0001"], 0, H, L);
+    s.open7_lm();
+    s.failure(&lm_try(7, LR), "648", 0);
+    s.bad_change(&right, Fault::NoNtHash);
+}
+
+fn numbers_of_no_hash(s: &mut Sheet) {
+    let (own, any) = (keys_of(H), any_numbers());
+    let (with_bits, any_with_bits) = (with_other_bits(&own), with_other_bits(&any));
+    s.title("O-10c: each bit set that is not read: judged as without, handed out as it was lent");
+    s.keyed([H, L, "0000"], 0, &with_bits, &with_other_bits(&keys_of(L)));
+    for (packet, is_right) in [
+        (nt_try(7, NR), true),
+        (lm_try(7, LR), true),
+        (nt_try(7, NC), false),
+        (lm_try(7, BAD), false),
+    ] {
+        s.open7_lm();
+        match is_right {
+            true => s.success(&packet),
+            false => s.failure(&packet, "691", 1),
+        };
+    }
+    s.schedules(&with_bits, &with_other_bits(&keys_of(L)));
+    s.note("and each bit that is read counts: one of a number's lowest, of each key");
+    for (place, response) in [
+        (0, "EDF79779B5E91D905BF4D3246791956CA4C351AB409A3D61"),
+        (15, "4E8D3CCF9CFC385D5BF4D3246791956CA4C351AB409A3D61"),
+        (16, "4E9D3C8F9CFD385D80B6BAED6B293B88A4C351AB409A3D61"),
+        (47, "4E9D3C8F9CFD385D5BF4D3246791956CA4D351AB409B3D61"),
+    ] {
+        let mut octets = bytes(&own);
+        octets[8 * place + 7] ^= 1;
+        let numbers = hex(&octets);
+        s.keyed([H, "-", "0000"], 0, &numbers, "-");
+        s.open7();
+        s.failure(&nt_try(7, NR), "691", 1);
+        s.open7();
+        s.success(&nt_try(7, response));
+    }
+    s.title("CR10-4, O-10c: numbers of no hash, and ones alone");
+    s.keyed([H, L, "0000"], 0, &any, &any_with_bits);
+    s.open7_lm();
+    s.failure(&nt_try(7, NR), "691", 1);
+    s.success(&nt_try(8, ANY23));
+    s.schedules(&any, &any_with_bits);
+    s.open7_lm();
+    s.success(&lm_try(7, ANY));
+    for octets in ["FF*384", "3F*384"] {
+        s.keyed([H, "-", "0000"], 0, octets, "-");
+        s.open7();
+        s.failure(&nt_try(7, NR), "691", 1);
+        s.open7();
+        s.success(&nt_try(7, ONES));
+    }
+    s.schedules(&"3F".repeat(384), "-");
+    s.note("nothing in the bits that are read: as zeros, but handed out as they were lent");
+    s.keyed([H, "-", "0000"], 0, "C0*384", "-");
+    s.open7();
+    s.success(&nt_try(7, ZR));
+    s.schedules(&"C0".repeat(384), "-");
+    s.note("expired: numbers of no hash draw 648, and the record kept has none");
+    s.keyed([H, "-", "0001"], 0, &any, "-");
+    s.open7();
+    let answer = s.failure(&nt_try(7, ANY), "648", 0);
+    let kept = format!("8 {CHX} 2 no 255 change {H}/-/0001/0");
+    assert_eq!(answer.conversation, kept);
+}
+
+fn absent_hashes(s: &mut Sheet) {
+    let (kh, kl) = (&*keys_of(H), &*keys_of(L));
+    s.title("O-10a: schedules beside an absent hash have no effect, and are handed out as lent");
+    s.keyed(["-", "-", "0000"], 0, H, L);
+    for packet in [nt_try(7, NR), lm_try(7, LR), resp(7, LR, NR, 1, b"u")] {
+        s.open7_lm();
+        let answer = s.failure(&packet, "691", 1);
+        assert_eq!(answer.record, "-/-/0000/1");
+    }
+    s.schedules(kh, kl);
+    s.note("no NT hash: flag 1 goes to LM, by LM's schedules");
+    s.keyed(["-", L, "0000"], 0, H, L);
+    s.open7_lm();
+    s.failure(&nt_try(7, NR), "691", 1);
+    s.success(&resp(8, LR23, NR23, 1, b"u"));
+    s.note("no LM hash: flag 0 is never valid");
+    s.keyed([H, "-", "0000"], 0, H, L);
+    s.open7_lm();
+    s.failure(&lm_try(7, LR), "691", 1);
+    s.success(&nt_try(8, NR23));
+    s.schedules(kh, kl);
+    s.note("the response of zeros neither, where nothing is there at all");
+    s.account("-", "-", "0000");
+    s.open7_lm();
+    s.failure(&nt_try(7, ZR), "691", 1);
+    s.schedules("-", "-");
+    s.open7_lm();
+    s.failure(&lm_try(7, ZR), "691", 1);
+    s.schedules("-", "-");
+}
+
+fn schedules_from_call_to_call(s: &mut Sheet) {
+    let (kc, kq) = (&*keys_of(HC), &*keys_of(HQ));
+    let retry = "failure 691 1 - 2 retry";
+    let renew = "failure 648 0 - 2 change2";
+    s.title("CR10-6: our peer with MyPw at the record of CR10-4: the rightful user is not let in");
+    s.keyed([H, "-", "0000"], 0, HC, "-");
+    let mut peer = Peer::meet(s, 7, "2");
+    for (verdict, count) in [(retry, 1), (retry, 2), ("failure 691 0 - 2 end", 3)] {
+        let answer = peer.respond(s, P, verdict);
+        assert_eq!(answer.record, format!("{H}/-/0000/{count}"));
+        s.is("relend", "");
+    }
+    s.schedules(kc, "-");
+    s.title("CR10-6: r + 2 replies that are no repeats cover it too: r is 2, and then refusal 1");
+    s.keyed([H, "-", "0001"], 0, HC, "-");
+    let mut peer = Peer::meet(s, 7, "2");
+    let judged = s.judged;
+    for (password, verdict) in [(P, retry), (Q, retry), (CLIENT_PASS, renew)] {
+        peer.respond(s, password, verdict);
+        s.is("relend", "");
+        peer.again(s, verdict);
+    }
+    peer.change(s, P, Q, "success");
+    s.schedules(kq, "-");
+    s.is("relend", "");
+    peer.again(s, "success");
+    s.no_schedules();
+    assert_eq!(s.judged - judged, 4);
+    s.refused(&nt_try(11, NC), B, "1");
+    s.note("the conversation after it: the new password, by the record's own schedules");
+    let mut peer = Peer::meet(s, 9, "0");
+    let answer = peer.respond(s, Q, "success");
+    assert_eq!(answer.record, format!("{HQ}/-/0000/0"));
+
+    s.title(
+        "CR10-5: after a conversation that ended, the record goes to the next with what it had",
+    );
+    s.keyed([H, L, "0000"], 0, HC, LC);
+    s.open7_lm();
+    s.success(&nt_try(7, NC));
+    s.is("relend", "");
+    s.refused(&nt_try(8, NC23), B, "1");
+    s.no_schedules();
+    for (packet, is_right) in [
+        (lm_try(7, CR), true),
+        (nt_try(7, NR), false),
+        (nt_try(7, NC), true),
+    ] {
+        s.open7_lm();
+        match is_right {
+            true => s.success(&packet),
+            false => s.failure(&packet, "691", 1),
+        };
+        s.is("relend", "");
+    }
+    s.schedules(kc, &keys_of(LC));
+    s.note("a change that draws 709 leaves it as it was");
+    s.keyed([H, "-", "0001"], 0, HC, "-");
+    s.open7();
+    s.failure(&nt_try(7, NC), "648", 0);
+    s.is("relend", "");
+    s.bad_change(&change(8, &CH, BADPW, Q), Fault::Over);
+    s.is("relend", "");
+    s.open7();
+    s.failure(&nt_try(7, NR), "691", 1);
+    s.failure(&nt_try(8, NC23), "648", 0);
+    s.schedules(kc, "-");
+    s.title("O-10d: the same hashes read again from the account file have their own schedules");
+    s.account(H, "-", "0001");
+    s.open7();
+    s.failure(&nt_try(7, NC), "691", 1);
+    s.failure(&nt_try(8, NR23), "648", 0);
+    s.schedules(&keys_of(H), "-");
+}
+
 /// A line that is no command draws an error; the stored scripts have none.
 #[test]
 fn malformed_lines() {
@@ -3675,6 +4256,13 @@ fn malformed_lines() {
         "account - - 0000 x",
         "account - - 0000 256",
         "account - - 0000 1 1",
+        "account - - 0000 0 00*15",
+        "account - - 0000 0 00*17",
+        "account - - 0000 0 00*383",
+        "account - - 0000 0 - 00*385",
+        "account - - 0000 0 - - -",
+        "account - - 0000 - - -",
+        "schedules now",
         "account - - 1",
         "limit",
         "limit -",
@@ -3719,7 +4307,7 @@ fn malformed_lines() {
 #[test]
 fn conversations_made_by_hand() {
     use reference::authenticator::{step, Conversation, Last, Reply};
-    let kept = Account {
+    let kept = Entry {
         nt: Some(array(H)),
         lm: Some(array(L)),
         disabled: true,
@@ -3739,7 +4327,7 @@ fn conversations_made_by_hand() {
     };
     let mut buffer = [0xAA; 20];
     let answer = step(&conversation, &change(8, &CH, P, Q), None, &mut buffer);
-    let handed = Account {
+    let handed = Entry {
         nt: Some(array(HQ)),
         lm: None,
         expired: false,
@@ -3748,7 +4336,7 @@ fn conversations_made_by_hand() {
     };
     assert_eq!(
         (answer.refusal, answer.reason, answer.fault, answer.record),
-        (0, 0, None, Some(handed))
+        (0, 0, None, Some(handed.keyed()))
     );
     assert_eq!(
         answer.conversation,
@@ -3762,11 +4350,11 @@ fn conversations_made_by_hand() {
             ..conversation
         }
     );
-    conversation.phase = Phase::Change(Account::default());
+    conversation.phase = Phase::Change(Entry::default());
     let answer = step(
         &conversation,
         &change(8, &CH, P, Q),
-        Some(&kept),
+        Some(&kept.keyed()),
         &mut buffer,
     );
     assert_eq!(

@@ -4,7 +4,7 @@
 //! each 709 stands what is wrong with the change, and `docs/SLIPS.md` shows no octets that no
 //! program has written.
 
-use reference::authenticator::{open, step, Account, Answer, Conversation, Fault, Phase};
+use reference::authenticator::{open, step, Account, Answer, Conversation, Entry, Fault, Phase};
 use reference::hashes::{challenge_response, lm_hash, nt_hash};
 use reference::issued::Issued;
 use reference::peer::{write_change, Turn};
@@ -156,6 +156,7 @@ fn lm_is_judged_where_the_box_was_asked_for_it() {
         lm: Some(lm_hash(b"MyPw").unwrap()),
         ..Account::default()
     };
+    let account = account.keyed();
     let mut told = Vec::new();
     for (place, line) in lines.iter().enumerate() {
         let beside = line.contains("with the right LM response beside it");
@@ -215,6 +216,7 @@ fn the_count_goes_from_call_to_call() {
         nt: Some(hash("MyPw")),
         ..Account::default()
     };
+    let first = first.keyed();
     let mut record = first;
     let mut conversation = None;
     let mut opened = None;
@@ -314,10 +316,10 @@ fn shown_change(lines: &[&str], place: usize, challenge: [u8; 8]) -> Vec<u8> {
 
 /// What the independent program answers to it, where the account's password is `MyPw` and expired.
 fn answered(packet: &[u8], challenge: [u8; 8]) -> Answer {
-    let kept = Account {
+    let kept = Entry {
         nt: Some(hash("MyPw")),
         expired: true,
-        ..Account::default()
+        ..Entry::default()
     };
     let conversation = Conversation {
         id: packet[1],

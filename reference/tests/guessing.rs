@@ -22,31 +22,40 @@ const LM: [u8; 16] = [
 const CLIENT_PASS: [u8; 16] = [
     0x44, 0xEB, 0xBA, 0x8D, 0x53, 0x12, 0xB8, 0xD6, 0x11, 0x47, 0x44, 0x11, 0xF5, 0x69, 0x89, 0xAE,
 ];
-/// The record R0 of the list of rules.
-const R0: Account = Account {
-    nt: Some(NT),
-    lm: None,
-    disabled: false,
-    hours: false,
-    no_dialin: false,
-    expired: false,
-    failures: 0,
-};
-const R0X: Account = Account {
-    expired: true,
-    ..R0
-};
-/// The last has no hash at all.
-const RECORDS: [Account; 4] = [
-    R0,
-    Account { lm: Some(LM), ..R0 },
+/// The record R0 of the list of rules, and the same expired.
+fn r0() -> Account {
+    let record = Account {
+        nt: Some(NT),
+        ..Account::default()
+    };
+    record.keyed()
+}
+
+fn r0x() -> Account {
     Account {
-        nt: None,
-        lm: Some(LM),
-        ..R0
-    },
-    Account { nt: None, ..R0 },
-];
+        expired: true,
+        ..r0()
+    }
+}
+
+/// The last has no hash at all.
+fn records() -> [Account; 4] {
+    [
+        (Some(NT), None),
+        (Some(NT), Some(LM)),
+        (None, Some(LM)),
+        (None, None),
+    ]
+    .map(|(nt, lm)| {
+        let record = Account {
+            nt,
+            lm,
+            ..Account::default()
+        };
+        record.keyed()
+    })
+}
+
 /// Limits with their neighbours.
 const LIMITS: [u8; 9] = [1, 2, 3, 4, 127, 128, 129, 254, 255];
 
@@ -210,8 +219,8 @@ fn cr09_2() {
         let conversation = boxed(2, limit);
         let packet = wrong(&conversation);
         for before in 0..=255 {
-            let drawn = judged(&conversation, &packet, &count(before, R0));
-            assert_eq!(drawn, (691, Some(count(one_more(before), R0))));
+            let drawn = judged(&conversation, &packet, &count(before, r0()));
+            assert_eq!(drawn, (691, Some(count(one_more(before), r0()))));
         }
     }
 }
@@ -221,14 +230,14 @@ fn cr09_2() {
 fn cr09_3() {
     let conversation = boxed(2, 3);
     let packet = right(&conversation);
-    let disabled = marked(8, R0);
+    let disabled = marked(8, r0());
     assert_eq!(
         judged(&conversation, &packet, &count(2, disabled)),
         (647, Some(disabled))
     );
     let mut drawn = Vec::new();
     for marks in 0..16 {
-        let record = marked(marks, R0);
+        let record = marked(marks, r0());
         for before in 0..3 {
             let (reason, handed) = judged(&conversation, &packet, &count(before, record));
             assert_eq!((reason, handed), (reason_by_marks(&record), Some(record)));
@@ -246,20 +255,20 @@ fn cr09_3() {
 fn cr09_4() {
     let conversation = boxed(2, 3);
     let packet = right(&conversation);
-    assert_eq!(judged(&conversation, &packet, &count(3, R0)).0, 691);
-    assert_eq!(judged(&conversation, &packet, &count(2, R0)).0, 0);
+    assert_eq!(judged(&conversation, &packet, &count(3, r0())).0, 691);
+    assert_eq!(judged(&conversation, &packet, &count(2, r0())).0, 0);
     for limit in LIMITS {
         let conversation = boxed(2, limit);
         let packet = right(&conversation);
         for before in 0..=255 {
-            let (reason, _) = judged(&conversation, &packet, &count(before, R0));
+            let (reason, _) = judged(&conversation, &packet, &count(before, r0()));
             assert_eq!(reason, if before < limit { 0 } else { 691 });
         }
     }
     for marks in 0..16 {
         for r in 0..3 {
             let conversation = boxed(r, 3);
-            let record = count(3, marked(marks, R0));
+            let record = count(3, marked(marks, r0()));
             let (answer, _) = draw(&conversation, &right(&conversation), Some(&record));
             assert_eq!(answer.reason, 691);
             let retry = Conversation {
@@ -283,21 +292,21 @@ fn cr09_4() {
 #[test]
 fn cr09_5() {
     let conversation = boxed(2, 3);
-    let locked = count(3, R0);
+    let locked = count(3, r0());
     assert_eq!(
         judged(&conversation, &right(&conversation), &locked).1,
-        Some(count(3, R0))
+        Some(count(3, r0()))
     );
     assert_eq!(
         judged(&conversation, &wrong(&conversation), &locked).1,
-        Some(count(4, R0))
+        Some(count(4, r0()))
     );
     for limit in LIMITS {
         let conversation = boxed(2, limit);
         let packet = right(&conversation);
         for before in limit..=255 {
-            let (_, handed) = judged(&conversation, &packet, &count(before, R0));
-            assert_eq!(handed, Some(count(before, R0)));
+            let (_, handed) = judged(&conversation, &packet, &count(before, r0()));
+            assert_eq!(handed, Some(count(before, r0())));
         }
     }
 }
@@ -308,12 +317,15 @@ fn cr09_5() {
 fn cr09_6() {
     let conversation = boxed(2, 3);
     let packet = wrong(&conversation);
-    assert_eq!(judged(&conversation, &packet, &R0).1, Some(count(1, R0)));
+    assert_eq!(
+        judged(&conversation, &packet, &r0()).1,
+        Some(count(1, r0()))
+    );
     for packet in [&packet, &right(&conversation)] {
         let (answer, _) = draw(&conversation, packet, None);
         assert_eq!((answer.reason, answer.record), (691, None));
     }
-    for record in RECORDS {
+    for record in records() {
         for marks in 0..16 {
             let record = marked(marks, record);
             let (reason, handed) = judged(&conversation, &packet, &count(1, record));
@@ -328,21 +340,22 @@ fn cr09_7() {
     let (old, new) = (characters("MyPw"), characters("clientPass"));
     let handed = Account {
         nt: Some(CLIENT_PASS),
-        ..R0
+        ..r0()
     };
+    let handed = handed.keyed();
     for (kept_count, limit) in [(5, 255), (5, 3), (255, 1), (0, 3)] {
         let conversation = Conversation {
-            phase: Phase::Change(count(kept_count, R0X)),
+            phase: Phase::Change(count(kept_count, r0x()).entry()),
             ..boxed(2, limit)
         };
         let packet = change(&conversation, &old, &new);
-        for lent in [None, Some(count(255, R0))] {
+        for lent in [None, Some(count(255, r0()))] {
             let (answer, _) = draw(&conversation, &packet, lent.as_ref());
             assert_eq!((answer.reason, answer.record), (0, Some(handed)));
         }
         // One that draws 709 hands out none.
         let packet = change(&conversation, &characters("bad"), &new);
-        let (answer, _) = draw(&conversation, &packet, Some(&R0));
+        let (answer, _) = draw(&conversation, &packet, Some(&r0()));
         assert_eq!((answer.reason, answer.record), (709, None));
     }
 }
@@ -352,14 +365,14 @@ fn cr09_7() {
 #[test]
 fn a_change_that_is_awaited_is_not_barred() {
     let conversation = boxed(2, 3);
-    let (answer, _) = draw(&conversation, &right(&conversation), Some(&count(2, R0X)));
-    assert_eq!((answer.reason, answer.record), (648, Some(R0X)));
-    assert_eq!(answer.conversation.phase, Phase::Change(R0X));
+    let (answer, _) = draw(&conversation, &right(&conversation), Some(&count(2, r0x())));
+    assert_eq!((answer.reason, answer.record), (648, Some(r0x())));
+    assert_eq!(answer.conversation.phase, Phase::Change(r0x().entry()));
     let mut other = boxed(2, 3);
-    let mut record = R0X;
+    let mut record = r0x();
     for n in 1..=3 {
         let (answer, _) = draw(&other, &wrong(&other), Some(&record));
-        assert_eq!(answer.record, Some(count(n, R0X)));
+        assert_eq!(answer.record, Some(count(n, r0x())));
         (other, record) = (answer.conversation, answer.record.unwrap());
     }
     let awaited = answer.conversation;
@@ -382,7 +395,7 @@ fn cr09_8() {
                 assert_eq!((answer.reason, octets, later), (691, reply, none));
             };
             same(&wrong, None);
-            for record in RECORDS {
+            for record in records() {
                 for marks in 0..16 {
                     let record = marked(marks, record);
                     same(&wrong, Some(record));
@@ -398,7 +411,7 @@ fn cr09_8() {
 /// Gives the counts passed in and the last reason.
 fn tries(n: u8, k: u8, limit: u8) -> (Vec<u8>, u16) {
     let mut conversation = boxed(k, limit);
-    let mut record = count(n, R0);
+    let mut record = count(n, r0());
     let mut passed = Vec::new();
     for _ in 0..k {
         passed.push(record.failures);
@@ -483,10 +496,10 @@ fn cr09_11() {
 fn cr09_12() {
     let opened = boxed(2, 3);
     let packet = wrong(&opened);
-    let (answer, reply) = draw(&opened, &packet, Some(&R0));
-    assert_eq!(answer.record, Some(count(1, R0)));
+    let (answer, reply) = draw(&opened, &packet, Some(&r0()));
+    assert_eq!(answer.record, Some(count(1, r0())));
     let conversation = answer.conversation;
-    for lent in [None, Some(R0), Some(count(1, R0)), Some(count(3, R0))] {
+    for lent in [None, Some(r0()), Some(count(1, r0())), Some(count(3, r0()))] {
         for packet in [&packet, &right(&opened), &vec![2, 7, 0, 4]] {
             let (again, octets) = draw(&conversation, packet, lent.as_ref());
             assert_eq!((again.repeated, again.record, octets), (true, None, reply));
@@ -517,7 +530,7 @@ fn cr09_12() {
 fn cr09_13() {
     let conversation = boxed(0, 255);
     let packet = right(&conversation);
-    let (answer, _) = draw(&conversation, &packet, Some(&count(254, R0X)));
+    let (answer, _) = draw(&conversation, &packet, Some(&count(254, r0x())));
     assert_eq!(answer.reason, 648);
     let awaited = answer.conversation;
     let new = characters("clientPass");
@@ -534,7 +547,7 @@ fn cr09_13() {
 /// Tries by LM count as others do; where LM is off each of them is invalid.
 #[test]
 fn tries_by_lm_count() {
-    let [_, both, lm_only, _] = RECORDS;
+    let [_, both, lm_only, _] = records();
     for (record, flag) in [(both, 0), (lm_only, 0), (lm_only, 1)] {
         for before in [0, 2, 3, 4, 255] {
             let lent = count(before, record);
@@ -564,13 +577,13 @@ fn the_limit_is_the_conversations() {
     for limit in LIMITS {
         let mut conversation = boxed(2, limit);
         for _ in 0..3 {
-            let (answer, _) = draw(&conversation, &wrong(&conversation), Some(&R0));
+            let (answer, _) = draw(&conversation, &wrong(&conversation), Some(&r0()));
             conversation = answer.conversation;
             assert_eq!(conversation.limit, limit);
         }
         assert_eq!(conversation.phase, Phase::Ended);
         let conversation = boxed(2, limit);
-        let (answer, _) = draw(&conversation, &right(&conversation), Some(&R0X));
+        let (answer, _) = draw(&conversation, &right(&conversation), Some(&r0x()));
         let awaited = answer.conversation;
         let packet = change(&awaited, &characters("MyPw"), &characters("clientPass"));
         let (answer, _) = draw(&awaited, &packet, None);
@@ -634,7 +647,7 @@ impl Run {
         };
         Run {
             limit: random.pick(&[1, 2, 3, 3, 4, 5, 8, 12]),
-            record,
+            record: record.keyed(),
             password,
             conversation: REFUSED,
             last: Vec::new(),
@@ -799,7 +812,7 @@ impl User {
                 0 => self.last.clone(),
                 _ => vec![2, other_id, 0, 4],
             };
-            let record = count(random.octet(), R0);
+            let record = count(random.octet(), r0());
             let (answer, _) = draw(&self.conversation, &packet, Some(&record));
             assert!(!is_judged(&answer));
             assert_eq!(answer.record, None);
@@ -842,14 +855,15 @@ fn a_rightful_user_gets_in_below_the_limit() {
         let password = password(&mut random);
         let expired = random.chance(30);
         let opening = opening(random.octet(), &random.array(), r as u8, false, limit);
+        let record = Account {
+            nt: hashes::nt_hash(&password).ok(),
+            expired,
+            failures: n,
+            ..Account::default()
+        };
         let mut user = User {
             conversation: opening.conversation,
-            record: Account {
-                nt: hashes::nt_hash(&password).ok(),
-                expired,
-                failures: n,
-                ..Account::default()
-            },
+            record: record.keyed(),
             last: Vec::new(),
             judged: 0,
         };

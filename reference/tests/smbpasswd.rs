@@ -310,7 +310,7 @@ fn cr02_12() {
             lm: Some(LM),
             ..Account::default()
         };
-        assert_eq!(record.account(), clear, "{flags}");
+        assert_eq!(record.account(), clear.keyed(), "{flags}");
         assert!(!record.account().hours && !record.account().no_dialin);
     }
 }

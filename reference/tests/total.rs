@@ -1,10 +1,11 @@
 //! Every input draws an answer or a numbered refusal; a refusal changes nothing. The inputs come
 //! from a fixed generator, so each run is the same.
 
-use reference::authenticator::{self, Account, Conversation, Fault, Last, Phase, Reply};
+use reference::authenticator::{self, Account, Conversation, Entry, Fault, Last, Phase, Reply};
 use reference::issued::Issued;
 use reference::peer::{self, Turn, Verdict};
 use reference::rc4::rc4;
+use reference::schedules::Schedules;
 use reference::script::Session;
 use reference::{hashes, message, packet};
 
@@ -29,6 +30,10 @@ impl Random {
 
     fn array<const N: usize>(&mut self) -> [u8; N] {
         self.octets(N).try_into().unwrap()
+    }
+
+    fn numbers<const N: usize>(&mut self) -> [u64; N] {
+        [(); N].map(|()| u64::from_be_bytes(self.array()))
     }
 }
 
@@ -122,10 +127,12 @@ fn steps() {
             no_dialin: random.below(2) > 0,
             expired: random.below(2) > 0,
             failures: near_octet(&mut random),
+            nt_keys: Schedules(random.numbers()),
+            lm_keys: Schedules(random.numbers()),
         };
         let phase = match random.below(8) {
             0 | 1 => Phase::Ended,
-            2..=4 => Phase::Change(account),
+            2..=4 => Phase::Change(account.entry()),
             _ => Phase::Response,
         };
         let before = Conversation {
@@ -227,7 +234,7 @@ fn steps() {
 
 /// A change of which exactly those of the six hold that a set names, drawn at random for the rest,
 /// and the record kept for it. Bit k of the set is the one with number k + 1.
-fn change_with_faults(random: &mut Random, challenge: &[u8; 8], set: u8) -> (Account, Vec<u8>) {
+fn change_with_faults(random: &mut Random, challenge: &[u8; 8], set: u8) -> (Entry, Vec<u8>) {
     let holds = |k: u8| set >> k & 1 == 1;
     let old_hash: [u8; 16] = random.array();
     let most_over = [4, (1 << 31) - 300][random.below(2)];
@@ -258,11 +265,11 @@ fn change_with_faults(random: &mut Random, challenge: &[u8; 8], set: u8) -> (Acc
     if holds(5) {
         fields.nt_response[random.below(24)] ^= 1 << random.below(8);
     }
-    let kept = Account {
+    let kept = Entry {
         nt: (!holds(0)).then_some(old_hash),
         lm: (random.below(2) > 0).then(|| random.array()),
         failures: near_octet(random),
-        ..Account::default()
+        ..Entry::default()
     };
     (kept, packet::change(random.next() as u8, &fields))
 }
@@ -440,6 +447,7 @@ fn peer_to_box_and_back() {
             failures: random.below(limit.into()) as u8,
             ..Account::default()
         };
+        let record = record.keyed();
         let mut reply = [0u8; 17];
         let mut issued = Issued {
             list: &mut [0; 8],
@@ -469,7 +477,7 @@ fn peer_to_box_and_back() {
             ..record
         };
         assert_eq!(first.record, Some(reset));
-        assert_eq!(first.conversation.phase, Phase::Change(reset));
+        assert_eq!(first.conversation.phase, Phase::Change(reset.entry()));
         // The peer missed the reply, and sends the same packet again.
         let mut missed = [0u8; 17];
         let again = authenticator::step(&first.conversation, &out, None, &mut missed);
@@ -486,7 +494,7 @@ fn peer_to_box_and_back() {
             nt: hashes::nt_hash(&new).ok(),
             ..Account::default()
         };
-        assert_eq!(second.record, Some(renewed));
+        assert_eq!(second.record, Some(renewed.keyed()));
         assert_eq!(peer::read_reply(next.id, &reply), Ok(Verdict::Success));
         let again = authenticator::step(&second.conversation, &out, None, &mut reply);
         assert_eq!((again.repeated, again.record), (true, None));

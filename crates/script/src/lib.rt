@@ -1,7 +1,8 @@
-// The script language of the vectors (docs/VECTORS.md): the words of a line, octets and numbers
-// read from its digits, and what is written to standard output. Of a line that is not well-formed
-// anything may be read.
+// The script language of the vectors (docs/VECTORS.md): the words of a line, octets, numbers and
+// key schedules read from its digits, and what is written to standard output. Of a line that is
+// not well-formed anything may be read.
 mod digits;
+mod keys;
 mod words;
 mod writing;
 
@@ -11,6 +12,9 @@ pub use digits::sealed;
 pub use digits::seven;
 pub use digits::sixteen;
 pub use digits::twenty_one;
+pub use keys::names_hash;
+pub use keys::numbers;
+pub use keys::put_numbers;
 pub use words::command;
 pub use words::find;
 pub use words::number;

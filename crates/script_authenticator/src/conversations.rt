@@ -56,7 +56,7 @@ pub fn new_state() -> ScriptState {
     }
 }
 
-// ---- account and relend
+// ---- account, relend and schedules
 
 // The record is passed from now on.
 fn lend(record: Lookup, mut state: ScriptState) -> ScriptState {
@@ -64,7 +64,7 @@ fn lend(record: Lookup, mut state: ScriptState) -> ScriptState {
     state
 }
 
-// account -, account NT LM MARKS, account NT LM MARKS COUNT
+// account -, account NT LM MARKS, account NT LM MARKS COUNT, and this with NTKEYS or NTKEYS LMKEYS
 pub(crate) fn account(line: &[u8], state: ScriptState) -> ScriptState {
     lend(records::lookup(line), state)
 }
@@ -75,6 +75,14 @@ pub(crate) fn relend(state: ScriptState) -> ScriptState {
     if updated.found {
         return lend(updated, state);
     }
+    state
+}
+
+// schedules
+pub(crate) fn schedules(state: ScriptState) -> ScriptState {
+    let updated = state.updated;
+    script::put_equals();
+    records::put_schedules(updated);
     state
 }
 
@@ -240,7 +248,8 @@ fn put_answer(answer: Answer, reply: &[u8]) {
     records::put_lookup(updated)
 }
 
-// The next conversation becomes the current one, and the record is kept for `relend`.
+// The next conversation becomes the current one, and the record is kept for `relend` and
+// `schedules`.
 fn after_step(answer: Answer, mut state: ScriptState) -> ScriptState {
     let conversation = answer.next;
     state.conversation = conversation;

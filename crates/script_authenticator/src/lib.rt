@@ -1,5 +1,5 @@
 // The commands of the box (the authenticator): the name in a Response, the record, the limit and
-// the list that are passed, an opening and a step.
+// the list that are passed, an opening, a step, and the schedules of the record handed out.
 mod conversations;
 mod lists;
 mod names;
@@ -12,7 +12,10 @@ pub use lists::List;
 // Which of these commands a line has. (In `run` the literal would stand beside values of
 // ScriptState, and the check of a statement grows with what stands beside it.)
 fn command(line: &[u8]) -> usize {
-    script::command(line, b"name account relend list places open step limit")
+    script::command(
+        line,
+        b"name account relend list places open step limit schedules",
+    )
 }
 
 // Runs a line whose command is one of these: writes its result, and answers what goes on to the
@@ -30,6 +33,7 @@ pub fn run(line: &[u8], state: ScriptState) -> ScriptState {
         5 => conversations::open(line, state),
         6 => conversations::step(line, state),
         7 => conversations::limit(line, state),
+        8 => conversations::schedules(state),
         _ => state,
     }
 }

@@ -1,7 +1,9 @@
 // Account records and conversations, as they are read and written.
 use accounts::Account;
+use accounts::Entry;
 use accounts::Hash;
 use accounts::Lookup;
+use accounts::Schedules;
 use authenticator::Conversation;
 use authenticator::LastAnswer;
 use authenticator::Phase;
@@ -22,8 +24,36 @@ fn mark(line: &[u8], i: usize) -> bool {
     octets::agree(octets::part_of(script::word(line, 3), i, 1), b"1")
 }
 
-// The record that the words NT LM MARKS COUNT name, after the command; where there is no word
-// COUNT, it is 0.
+// The schedules that word k names: those of a hash, or the numbers themselves.
+fn named_keys(line: &[u8], k: usize) -> Schedules {
+    if script::names_hash(line, k) {
+        return accounts::schedules_for(accounts::hash_of(script::sixteen(line, k)));
+    }
+    let keys = script::numbers(line, k);
+    Schedules { keys }
+}
+
+// The same, or the record's own where there is no word k.
+fn keys_or(line: &[u8], k: usize, own: Schedules) -> Schedules {
+    if script::word(line, k).len() == 0 {
+        return own;
+    }
+    named_keys(line, k)
+}
+
+// The record with the schedules that the words NTKEYS LMKEYS name.
+fn keyed(line: &[u8], account: Account) -> Account {
+    let nt_keys = account.nt_keys;
+    let lm_keys = account.lm_keys;
+    accounts::with_schedules(
+        accounts::entry_of(account),
+        keys_or(line, 5, nt_keys),
+        keys_or(line, 6, lm_keys),
+    )
+}
+
+// The record that the words NT LM MARKS COUNT NTKEYS LMKEYS name, after the command; where there is
+// no word COUNT, it is 0.
 fn account(line: &[u8]) -> Account {
     let account = accounts::account_with(
         hash(line, 1),
@@ -33,7 +63,10 @@ fn account(line: &[u8]) -> Account {
         mark(line, 2),
         mark(line, 3),
     );
-    accounts::with_failures(account, script::octet(line, 4))
+    keyed(
+        line,
+        accounts::with_failures(account, script::octet(line, 4)),
+    )
 }
 
 // The same, or no record where there is one word only.
@@ -57,33 +90,51 @@ fn put_mark(mark: bool) {
     script::put_number(mark as u64)
 }
 
-fn put_marks(account: Account) {
-    put_mark(account.disabled);
-    put_mark(account.hours_denied);
-    put_mark(account.dialin_denied);
-    put_mark(account.expired)
+fn put_marks(entry: Entry) {
+    put_mark(entry.disabled);
+    put_mark(entry.hours_denied);
+    put_mark(entry.dialin_denied);
+    put_mark(entry.expired)
 }
 
 // NT/LM/MARKS/COUNT
-fn put_account(account: Account) {
-    let nt = account.nt;
-    let lm = account.lm;
+fn put_entry(entry: Entry) {
+    let nt = entry.nt;
+    let lm = entry.lm;
     put_hash(nt);
     script::put(b"/");
     put_hash(lm);
     script::put(b"/");
-    put_marks(account);
+    put_marks(entry);
     script::put(b"/");
-    script::put_number(account.failures as u64)
+    script::put_number(entry.failures as u64)
 }
 
 // The same, with `-` for no record.
 pub(crate) fn put_lookup(lookup: Lookup) {
     if lookup.found {
         let account = lookup.account;
-        return put_account(account);
+        return put_entry(accounts::entry_of(account));
     }
     script::put_none()
+}
+
+fn put_keys(keys: Schedules) {
+    let numbers = keys.keys;
+    script::put_numbers(numbers)
+}
+
+// NTKEYS LMKEYS, with `-` for no record.
+pub(crate) fn put_schedules(lookup: Lookup) {
+    if !lookup.found {
+        return script::put_none();
+    }
+    let account = lookup.account;
+    let nt_keys = account.nt_keys;
+    let lm_keys = account.lm_keys;
+    put_keys(nt_keys);
+    script::put_space();
+    put_keys(lm_keys)
 }
 
 // LM LIMIT
@@ -97,12 +148,12 @@ fn put_terms(terms: Terms) {
 }
 
 // PHASE KEPT
-fn put_phase(phase: Phase, kept: Account) {
+fn put_phase(phase: Phase, kept: Entry) {
     match phase {
         Phase::Response => script::put(b"response -"),
         Phase::Change => {
             script::put(b"change ");
-            put_account(kept)
+            put_entry(kept)
         }
         Phase::Ended => script::put(b"ended -"),
     }

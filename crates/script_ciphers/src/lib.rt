@@ -5,6 +5,7 @@ mod hashes;
 mod published;
 
 pub use published::des_line;
+pub use published::keys_line;
 pub use published::md4_line;
 pub use published::rc4_line;
 

@@ -38,3 +38,22 @@ pub fn des_line(line: &[u8]) {
     script::put_space();
     script::put_hex(&cipher)
 }
+
+// The schedules that word 0 names: those of a hash, or the numbers themselves.
+fn named_keys(line: &[u8]) -> [u64; 48] {
+    if script::names_hash(line, 0) {
+        return credentials::hash_schedules(script::sixteen(line, 0));
+    }
+    script::numbers(line, 0)
+}
+
+// KEYS CHALLENGE NUMBERS RESPONSE
+pub fn keys_line(line: &[u8]) {
+    put_given(line, 0);
+    put_given(line, 1);
+    let keys = named_keys(line);
+    script::put_numbers(keys);
+    script::put_space();
+    let response = credentials::scheduled_response(keys, script::eight(line, 1));
+    script::put_hex(&response)
+}

@@ -6,12 +6,12 @@ mod run;
 // The array is passed whole, as the check of a slice of one grows with its length.
 
 // Reads a script. Answers how many octets it has.
-fn read_script(fd: i32, script: &mut [u8; 524288]) -> usize {
+fn read_script(fd: i32, script: &mut [u8; 1048576]) -> usize {
     io::read_full(fd, script)
 }
 
 // Runs the first n octets of a script.
-fn run_part(script: &[u8; 524288], n: usize, session: run::Session) -> run::Session {
+fn run_part(script: &[u8; 1048576], n: usize, session: run::Session) -> run::Session {
     run::run_lines(octets::part_of(script, 0, n), session)
 }
 
@@ -22,7 +22,7 @@ fn run_script(path: &[u8], session: run::Session) -> run::Session {
         os::fail(path);
         return session;
     }
-    let mut script = [0u8; 524288];
+    let mut script = [0u8; 1048576];
     let n = read_script(fd, &mut script);
     libc::close(fd);
     run_part(&script, n, session)

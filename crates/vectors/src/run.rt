@@ -7,6 +7,7 @@ enum Section {
     Md4,
     Rc4,
     Des,
+    Keys,
 }
 
 // What goes on from line to line, and from script to script.
@@ -26,11 +27,12 @@ pub(crate) fn new_session() -> Session {
 
 // The section of the lines after this one.
 fn section_after(line: &[u8], section: Section) -> Section {
-    match script::which(b":cases :md4 :rc4 :des", line) {
+    match script::which(b":cases :md4 :rc4 :des :keys", line) {
         0 => Section::Cases,
         1 => Section::Md4,
         2 => Section::Rc4,
         3 => Section::Des,
+        4 => Section::Keys,
         _ => section,
     }
 }
@@ -73,6 +75,7 @@ fn put_published(line: &[u8], section: Section) {
         Section::Md4 => script_ciphers::md4_line(line),
         Section::Rc4 => script_ciphers::rc4_line(line),
         Section::Des => script_ciphers::des_line(line),
+        Section::Keys => script_ciphers::keys_line(line),
     }
 }
 

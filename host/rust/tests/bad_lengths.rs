@@ -93,14 +93,14 @@ fn passwords() {
 fn records() {
     let (nt, lm) = ([1; 16], [2; 16]);
     let (both, no_nt, no_lm) = (0x7f, 0x7d, 0x7b);
-    let mut record = [FILL; 42];
+    let mut record = [FILL; 810];
     for (flags, nt, lm) in [
         (both, &nt[..], &lm[..]),
         (no_nt, &[], &lm),
         (no_lm, &nt, &[]),
         (0x79, &[], &[]),
     ] {
-        bad_sizes(42, |record| sys::make_record(flags, nt, lm, record));
+        bad_sizes(810, |record| sys::make_record(flags, nt, lm, record));
         bad_sizes_of(nt, |nt| sys::make_record(flags, nt, lm, &mut record));
         bad_sizes_of(lm, |lm| sys::make_record(flags, nt, lm, &mut record));
         // other bits
@@ -109,7 +109,7 @@ fn records() {
             assert_eq!(number, sys::BAD_ARGUMENT, "bit {bit}");
         }
     }
-    assert_eq!(record, [FILL; 42]);
+    assert_eq!(record, [FILL; 810]);
 
     // all that can be made reads back
     for flags in 0..0x80 {
@@ -150,7 +150,7 @@ fn records() {
         assert_eq!((number, record), (sys::BAD_ARGUMENT, before), "{over}");
     }
     bad_sizes_of(&record, |record| sys::set_failures(record, 5));
-    for size in others(42) {
+    for size in others(810) {
         let mut bytes = record.to_vec();
         bytes.resize(size, 0);
         assert_eq!(sys::record_failures(&bytes), sys::INVALID, "{size}");
@@ -192,7 +192,7 @@ fn account_files() {
     ] {
         let (file, name) = (file.as_bytes(), name.as_bytes());
         let mut offset = usize::MAX;
-        bad_sizes(42, |record| {
+        bad_sizes(810, |record| {
             sys::find_account(file, name, 5, 5, record, &mut offset)
         });
         let mut after = file.to_vec();
@@ -438,24 +438,24 @@ fn steps() {
         bytes
     };
     for size in others(60) {
-        bad_step(&resized(&conversation, size), &nobody, 46);
+        bad_step(&resized(&conversation, size), &nobody, 814);
     }
-    for size in others(42) {
-        bad_step(&conversation, &resized(&nobody, size), 46);
+    for size in others(810) {
+        bad_step(&conversation, &resized(&nobody, size), 814);
     }
-    for size in others(46) {
+    for size in others(814) {
         bad_step(&conversation, &nobody, size);
     }
     // the right buffers draw an answer: the account is not found
     let mut reply = [FILL; 17];
-    let mut answer = [FILL; 46];
+    let mut answer = [FILL; 814];
     let number = sys::step(&mut conversation, &packet, &nobody, &mut reply, &mut answer);
     // by what it tells: the bytes of a record that there is not have no effect
     let plain = layout::to_answer(&layout::plain_answer(false, 691));
     assert_eq!((number, layout::to_answer(&answer)), (sys::OK, plain));
     assert_eq!(&reply, b"\x04\x07\x00\x11E=691 R=1 V=2");
     // and the same packet again the same reply, and nothing else
-    let (mut same, mut again, mut repeated) = (conversation, [FILL; 17], [FILL; 46]);
+    let (mut same, mut again, mut repeated) = (conversation, [FILL; 17], [FILL; 814]);
     let number = sys::step(&mut same, &packet, &nobody, &mut again, &mut repeated);
     assert_eq!(
         (number, repeated),
@@ -464,9 +464,9 @@ fn steps() {
     assert_eq!((same, again), (conversation, reply));
     // which wrong sizes do not get
     for size in others(60) {
-        bad_step(&resized(&conversation, size), &nobody, 46);
+        bad_step(&resized(&conversation, size), &nobody, 814);
     }
-    for size in others(46) {
+    for size in others(814) {
         bad_step(&conversation, &nobody, size);
     }
 
@@ -491,7 +491,7 @@ fn steps() {
     assert_eq!(told.map(|tell| tell(&answer)), [691, 0, 0]);
     assert_eq!(told.map(|tell| tell(&repeated)), [691, 1, 0]);
     assert_eq!(told.map(|tell| tell(&spoiled)), [709, 0, 6]);
-    for size in others(46) {
+    for size in others(814) {
         for answer in [&answer, &repeated, &spoiled] {
             let bytes = resized(answer, size);
             assert_eq!(told.map(|tell| tell(&bytes)), [sys::INVALID; 3]);
@@ -504,14 +504,14 @@ fn steps() {
         fault: 0,
         updated: Some(account),
     });
-    let mut record = [FILL; 42];
+    let mut record = [FILL; 810];
     for answer in [&answer, &updated] {
-        bad_sizes(42, |record| sys::answer_record(answer, record));
+        bad_sizes(810, |record| sys::answer_record(answer, record));
         bad_sizes_of(answer, |answer| sys::answer_record(answer, &mut record));
     }
     assert_eq!(sys::answer_record(&answer, &mut record), 102);
     assert_eq!(sys::answer_record(&repeated, &mut record), 102);
-    assert_eq!(record, [FILL; 42]);
+    assert_eq!(record, [FILL; 810]);
     assert_eq!(sys::answer_record(&updated, &mut record), sys::OK);
     assert_eq!(record, layout::record(Some(layout::account(&account))));
 }
@@ -586,7 +586,7 @@ fn null_with_no_bytes() {
     let mut hash = [0; 16];
     let mut same = [0; 16];
     let mut buffer = [FILL; 60];
-    let mut out = [FILL; 64];
+    let mut out = [FILL; 814];
     let mut password = [FILL; 516];
     let (conversation, packet) = opened();
     let mut next = conversation;
@@ -621,30 +621,30 @@ fn null_with_no_bytes() {
         assert_eq!(mschap_des_decrypt(n, 0, m, 0), BAD);
         assert_eq!(mschap_challenge_response(n, 0, n, 0, m, 0), BAD);
 
-        let mut record = [FILL; 42];
+        let mut record = [FILL; 810];
         let r = record.as_mut_ptr();
         assert_eq!(mschap_make_record(0, n, 0, n, 0, m, 0), BAD);
-        assert_eq!(mschap_make_record(0, n, 0, n, 0, r, 42), sys::OK);
+        assert_eq!(mschap_make_record(0, n, 0, n, 0, r, 810), sys::OK);
         let mut flags = 9;
         let f: *mut u32 = &mut flags;
         assert_eq!(mschap_read_record(n, 0, f, m, 0, m, 0), BAD);
-        assert_eq!(mschap_read_record(r, 42, f, m, 0, m, 0), BAD);
+        assert_eq!(mschap_read_record(r, 810, f, m, 0, m, 0), BAD);
         assert_eq!(*f, 9);
         assert_eq!(mschap_record_failures(n, 0), sys::INVALID);
         assert_eq!(mschap_set_failures(m, 0, 0), BAD);
-        assert_eq!(mschap_record_failures(r, 42), 0);
+        assert_eq!(mschap_record_failures(r, 810), 0);
 
         let mut at = 9;
         let o: *mut usize = &mut at;
         assert_eq!(mschap_find_account(n, 0, n, 0, 5, 5, m, 0, o), BAD);
         assert_eq!(mschap_write_account(m, 0, n, 0, n, 0, 5, o), BAD);
-        assert_eq!(mschap_write_account(m, 0, n, 0, r, 42, 5, o), 102);
+        assert_eq!(mschap_write_account(m, 0, n, 0, r, 810, 5, o), 102);
         assert_eq!(*o, 9);
-        assert_eq!(mschap_find_account(n, 0, n, 0, 5, 5, r, 42, o), sys::OK);
+        assert_eq!(mschap_find_account(n, 0, n, 0, 5, 5, r, 810, o), sys::OK);
         assert_eq!((*o, record), (0, layout::record(None)));
-        let (junk, found) = ([b'x'], layout::record(Some([0; 39])));
+        let (junk, found) = ([b'x'], layout::record(Some([0; 807])));
         let (j, r) = (junk.as_ptr(), found.as_ptr());
-        assert_eq!(mschap_write_account(m, 0, j, 1, r, 42, 5, o), 103);
+        assert_eq!(mschap_write_account(m, 0, j, 1, r, 810, 5, o), 103);
         let mut counts = [9; 5];
         let [a, b, c, d, e] = &mut counts;
         assert_eq!(mschap_count_accounts(n, 0, 5, 5, a, b, c, d, e), sys::OK);
@@ -661,15 +661,15 @@ fn null_with_no_bytes() {
         assert_eq!(mschap_open(7, TERMS, q, 8, m, 0, c, 60, o, 17), BAD);
         assert_eq!(mschap_open(7, TERMS, q, 8, full, 4, c, 60, m, 0), 2);
         assert_eq!(mschap_open(7, TERMS, q, 8, full, 4, c, 60, o, 17), 17);
-        assert_eq!((buffer, out), ([FILL; 60], [FILL; 64]));
+        assert_eq!((buffer, out), ([FILL; 60], [FILL; 814]));
 
         assert_eq!(mschap_step(m, 0, n, 0, n, 0, m, 0, m, 0), BAD);
         let (c, o) = (next.as_mut_ptr(), out.as_mut_ptr());
         let reply = buffer.as_mut_ptr();
-        assert_eq!(mschap_step(c, 60, n, 0, r, 42, reply, 17, o, 46), 3);
+        assert_eq!(mschap_step(c, 60, n, 0, r, 810, reply, 17, o, 814), 3);
         let packet = packet.as_ptr();
-        assert_eq!(mschap_step(c, 60, packet, 55, r, 42, m, 0, o, 46), 2);
-        assert_eq!((next, buffer, out), (conversation, [FILL; 60], [FILL; 64]));
+        assert_eq!(mschap_step(c, 60, packet, 55, r, 810, m, 0, o, 814), 2);
+        assert_eq!((next, buffer, out), (conversation, [FILL; 60], [FILL; 814]));
         assert_eq!(mschap_answer_reason(n, 0), sys::INVALID);
         assert_eq!(mschap_answer_repeated(n, 0), sys::INVALID);
         assert_eq!(mschap_answer_fault(n, 0), sys::INVALID);

@@ -5,10 +5,11 @@
 
 mod layout;
 
-use layout::{Told, KINDS, LIST_HEAD};
+use layout::{Told, ANSWER_SIZE, KINDS, LIST_HEAD, RECORD_SIZE};
 use mschap::sys;
 use mschap::{Refusal, Terms, Update};
-use reference::authenticator::{self as their, Account, Conversation, Fault, Last, Phase, Reply};
+use reference::authenticator::{self as their, Account, Conversation, Entry};
+use reference::authenticator::{Fault, Last, Phase, Reply};
 use reference::message::Call;
 use reference::peer::{self, Turn, Verdict};
 use reference::{hashes, issued, packet, smbpasswd};
@@ -37,6 +38,19 @@ impl Seen {
     }
 }
 
+/// What each byte of a value is changed by: to each other value. Of schedules, which may be any
+/// bytes and are most of a record and of an answer, each bit and all of them.
+fn changes(size: usize, place: usize) -> Vec<u8> {
+    let keys = match size {
+        RECORD_SIZE | ANSWER_SIZE => size - 2 * layout::KEYS_SIZE,
+        _ => size,
+    };
+    match place < keys {
+        true => (1..=255).collect(),
+        false => vec![1, 2, 4, 8, 16, 32, 64, 128, 255],
+    }
+}
+
 /// Calls `check` with the value and with all that is made of it; gives how many there were.
 fn spoiled(value: &[u8], mut check: impl FnMut(&[u8])) -> usize {
     let mut count = 0;
@@ -57,16 +71,17 @@ fn spoiled(value: &[u8], mut check: impl FnMut(&[u8])) -> usize {
         }
     }
     for place in 0..value.len() {
-        for change in 1..=255 {
+        for change in changes(value.len(), place) {
             let mut bytes = value.to_vec();
             bytes[place] ^= change;
             each(&bytes);
         }
     }
     // of another kind, with this one's size and with that one's
+    let own = value.len();
     for kind in KINDS {
-        for size in [value.len(), 21, 41, 42, 43, 44, 45, 46, 52, 58, 60, 516] {
-            for version in [0, 1, 2, 3, 4, 5, 255] {
+        for size in [own, 21, 41, 42, 43, 44, 45, 46, 52, 58, 60, 516, 810, 814] {
+            for version in [0, 1, 2, 3, 4, 5, 6, 255] {
                 let mut bytes = value.to_vec();
                 bytes.resize(size, 0);
                 bytes[..2].copy_from_slice(&[kind, version]);
@@ -81,8 +96,8 @@ fn spoiled(value: &[u8], mut check: impl FnMut(&[u8])) -> usize {
     count
 }
 
-fn account() -> Account {
-    Account {
+fn entry() -> Entry {
+    Entry {
         nt: hashes::nt_hash(PASSWORD).ok(),
         lm: Some([9; 16]),
         disabled: false,
@@ -91,6 +106,10 @@ fn account() -> Account {
         expired: true,
         failures: LIMIT - 2,
     }
+}
+
+fn account() -> Account {
+    entry().keyed()
 }
 
 /// The same account, locked.
@@ -126,17 +145,12 @@ fn answered(id: u8, phase: Phase, code: u8, reply: Reply) -> Conversation {
 /// Conversations in each phase, with no answer, and with the answer of each kind to one of the
 /// packets below or to neither.
 fn conversations_kept() -> Vec<Conversation> {
-    let mut all = [Phase::Response, Phase::Change(account()), Phase::Ended]
+    let mut all = [Phase::Response, Phase::Change(entry()), Phase::Ended]
         .map(conversation)
         .to_vec();
     all.extend([
         answered(8, Phase::Response, 2, Reply::failure(7, 691, true)),
-        answered(
-            8,
-            Phase::Change(account()),
-            2,
-            Reply::failure(7, 648, false),
-        ),
+        answered(8, Phase::Change(entry()), 2, Reply::failure(7, 648, false)),
         answered(7, Phase::Ended, 2, Reply::success(7)),
         answered(7, Phase::Ended, 6, Reply::failure(7, 709, false)),
         answered(7, Phase::Response, 9, Reply::failure(7, 691, true)),
@@ -161,13 +175,13 @@ fn packets() -> [Vec<u8>; 2] {
 
 /// A step with these bytes for conversation and record, against what they stand for.
 fn step(bytes: &[u8], record: &[u8], packet: &[u8], seen: &mut Seen) {
-    let (mut after, mut reply, mut answer) = (bytes.to_vec(), [FILL; 17], [FILL; 46]);
+    let (mut after, mut reply, mut answer) = (bytes.to_vec(), [FILL; 17], [FILL; ANSWER_SIZE]);
     let number = sys::step(&mut after, packet, record, &mut reply, &mut answer);
     let valid = layout::to_conversation(bytes).zip(layout::to_record(record));
     seen.note(valid.is_some());
     let Some((conversation, found)) = valid else {
         assert_eq!(number, sys::BAD_ARGUMENT, "{bytes:?} {record:?}");
-        let same = (bytes.to_vec(), [FILL; 17], [FILL; 46]);
+        let same = (bytes.to_vec(), [FILL; 17], [FILL; ANSWER_SIZE]);
         assert_eq!((after, reply, answer), same);
         return;
     };
@@ -197,7 +211,7 @@ fn step(bytes: &[u8], record: &[u8], packet: &[u8], seen: &mut Seen) {
         };
         assert_eq!(layout::to_answer(&answer), Some(expected));
     } else {
-        assert_eq!((after, answer), (bytes.to_vec(), [FILL; 46]));
+        assert_eq!((after, answer), (bytes.to_vec(), [FILL; ANSWER_SIZE]));
     }
 }
 
@@ -344,16 +358,16 @@ fn a_stored_conversation_repeats() {
 #[test]
 fn a_repeated_change_gives_no_record() {
     let [_, change] = packets();
-    let mut bytes = layout::conversation(&conversation(Phase::Change(account())));
+    let mut bytes = layout::conversation(&conversation(Phase::Change(entry())));
     let nobody = layout::record(None);
     let mut reply = [FILL; 17];
-    let mut answer = [FILL; 46];
+    let mut answer = [FILL; ANSWER_SIZE];
     let step = |bytes: &mut [u8], reply: &mut [u8], answer: &mut [u8]| {
         sys::step(bytes, &change, &nobody, reply, answer)
     };
     assert_eq!(step(&mut bytes, &mut reply, &mut answer), sys::OK);
     assert_eq!(reply[..4], [3, 7, 0, 4]);
-    let mut record = [FILL; 42];
+    let mut record = [FILL; RECORD_SIZE];
     assert_eq!(sys::answer_record(&answer, &mut record), sys::OK);
     assert_eq!(sys::record_failures(&record), 0);
     let after = bytes;
@@ -362,9 +376,9 @@ fn a_repeated_change_gives_no_record() {
         assert_eq!(step(&mut bytes, &mut reply, &mut answer), sys::OK);
         assert_eq!((&reply[..4], reply[4]), (&[3, 7, 0, 4][..], FILL));
         assert_eq!(answer, layout::plain_answer(true, 0));
-        let mut record = [FILL; 42];
+        let mut record = [FILL; RECORD_SIZE];
         assert_eq!(sys::answer_record(&answer, &mut record), 102);
-        assert_eq!((bytes, record), (after, [FILL; 42]));
+        assert_eq!((bytes, record), (after, [FILL; RECORD_SIZE]));
     }
 }
 
@@ -388,33 +402,36 @@ fn what_earlier_versions_stored() {
     let answer = [0, 2, 0xb3];
     for (kind, version, sizes, front) in [
         // 0.2.0 to 0.6.0
-        (b'R', 1, &[41, 42][..], &record[..]),
+        (b'R', 1, &[41, 42, 810][..], &record[..]),
         (b'C', 1, &[52, 58, 60], &conversation),
         (b'C', 2, &[58, 60], &conversation),
-        (b'A', 1, &[43, 44, 45, 46], &first),
-        (b'A', 2, &[44, 45, 46], &answer),
-        (b'A', 3, &[45, 46], &answer),
+        (b'A', 1, &[43, 44, 45, 46, 814], &first),
+        (b'A', 2, &[44, 45, 46, 814], &answer),
+        (b'A', 3, &[45, 46, 814], &answer),
+        // 0.7.0, before a record had schedules
+        (b'R', 2, &[42, 810], &record),
+        (b'A', 4, &[46, 814], &answer),
     ] {
         for size in sizes {
             refuses(kind, &stored(kind, version, *size, front));
         }
     }
     // and as this version they are what they are taken for
-    let bytes = stored(b'R', 2, 42, &record);
+    let bytes = stored(b'R', 3, 810, &record);
     assert_eq!(sys::record_failures(&bytes), 0);
     let bytes = stored(b'C', 3, 60, &conversation);
     assert_eq!(sys::conversation_awaits(&bytes), 2);
     assert_eq!(sys::conversation_identifier(&bytes), 2);
-    let bytes = stored(b'A', 4, 46, &answer);
+    let bytes = stored(b'A', 5, 814, &answer);
     assert_eq!(sys::answer_reason(&bytes), 691);
 }
 
 /// A value is refused by each function that takes one of its kind, and stays as it is.
 fn refuses(kind: u8, bytes: &[u8]) {
     let [response, _] = packets();
-    let (nobody, mut reply, mut answer) = (layout::record(None), [FILL; 17], [FILL; 46]);
+    let (nobody, mut reply, mut answer) = (layout::record(None), [FILL; 17], [FILL; ANSWER_SIZE]);
     let talk = layout::conversation(&conversation(Phase::Response));
-    let mut record = [FILL; 42];
+    let mut record = [FILL; RECORD_SIZE];
     let (mut flags, mut nt, mut lm) = (9, [FILL; 16], [FILL; 16]);
     match kind {
         b'R' => {
@@ -453,9 +470,43 @@ fn refuses(kind: u8, bytes: &[u8]) {
     }
     assert_eq!(
         (reply, answer, record),
-        ([FILL; 17], [FILL; 46], [FILL; 42])
+        ([FILL; 17], [FILL; ANSWER_SIZE], [FILL; RECORD_SIZE])
     );
     assert_eq!((flags, nt, lm), (9, [FILL; 16], [FILL; 16]));
+}
+
+/// A record as 0.7.0 stored it, and the same with the schedules behind it that it would have: each
+/// function that takes a record refuses it, and by nothing but its version.
+#[test]
+fn records_of_version_2() {
+    for found in [
+        Some(account()),
+        Some(locked()),
+        Some(Account::default()),
+        None,
+    ] {
+        let mut bytes = layout::record(found.as_ref().map(layout::account));
+        assert_eq!((bytes[1], sys::record_failures(&bytes) < 256), (3, true));
+        let short = [&[b'R', 2], &bytes[2..layout::NT_KEYS_AT]].concat();
+        assert_eq!(short.len(), 42);
+        refuses(b'R', &short);
+        bytes[1] = 2;
+        refuses(b'R', &bytes);
+        // and as this version in the old size
+        bytes[1] = 3;
+        refuses(b'R', &bytes[..42]);
+    }
+}
+
+/// The sizes are written down here a second time.
+#[test]
+fn sizes() {
+    assert_eq!((sys::RECORD_SIZE, sys::RECORD_LAYOUT), (RECORD_SIZE, 3));
+    assert_eq!((sys::ANSWER_SIZE, sys::ANSWER_LAYOUT), (ANSWER_SIZE, 5));
+    let keys_at = layout::ACCOUNT_AT + layout::ENTRY_SIZE;
+    assert_eq!(keys_at, layout::NT_KEYS_AT);
+    assert_eq!(keys_at + layout::KEYS_SIZE, layout::LM_KEYS_AT);
+    assert_eq!(keys_at + 2 * layout::KEYS_SIZE, RECORD_SIZE);
 }
 
 /// The other kinds are as 0.2.0 stored them.
@@ -472,7 +523,7 @@ fn what_has_the_same_layout_since_0_2_0() {
 #[test]
 fn records() {
     let mut seen = Seen::default();
-    let awaiting = [Phase::Response, Phase::Change(account())].map(conversation);
+    let awaiting = [Phase::Response, Phase::Change(entry())].map(conversation);
     for found in [
         Some(layout::account(&account())),
         Some(layout::account(&locked())),
@@ -580,7 +631,7 @@ fn answers() {
             if let (Some(number), true) = (bytes.get(5), fault != sys::INVALID) {
                 faults[usize::from(*number)] += 1;
             }
-            let mut record = [FILL; 42];
+            let mut record = [FILL; RECORD_SIZE];
             let number = sys::answer_record(bytes, &mut record);
             match value.map(|told| told.updated) {
                 Some(Some(updated)) => {
@@ -591,7 +642,11 @@ fn answers() {
                 }
                 other => {
                     let expected = other.map_or(sys::BAD_ARGUMENT, |_| 102);
-                    assert_eq!((number, record), (expected, [FILL; 42]), "{bytes:?}");
+                    assert_eq!(
+                        (number, record),
+                        (expected, [FILL; RECORD_SIZE]),
+                        "{bytes:?}"
+                    );
                 }
             }
         });
@@ -876,10 +931,10 @@ fn lists() {
     assert!(seen.answered > 20_000 && seen.refused > 2_000);
 }
 
-/// Each kind was spoiled in each place to each value.
+/// Each kind was spoiled in each place to each value, but for schedules.
 #[test]
 fn all_that_is_spoiled() {
-    for size in [21, 42, 46, 60, 516] {
+    for size in [21, 60, 516, RECORD_SIZE, ANSWER_SIZE] {
         let mut places = vec![0; size];
         let count = spoiled(&vec![0; size], |bytes| {
             if bytes.len() == size {
@@ -889,7 +944,10 @@ fn all_that_is_spoiled() {
                 }
             }
         });
-        assert!(places.iter().all(|times| *times >= 255), "{places:?}");
-        assert!(count > size * 257);
+        let all = |place| changes(size, place).len();
+        for (place, times) in places.iter().enumerate() {
+            assert!(*times >= all(place), "{place}: {times}");
+        }
+        assert!(count > 2 * size + (0..size).map(all).sum::<usize>());
     }
 }

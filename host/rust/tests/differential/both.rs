@@ -25,6 +25,9 @@ pub fn plain<T>(result: Result<T, Refusal>) -> Result<T, u8> {
     result.map_err(|refusal| u8::try_from(refusal.number()).expect("a number"))
 }
 
+/// An account of theirs as one of ours, which has no schedules: those of theirs are its own, as
+/// they are in every record that the wrapper makes. Others are passed by bytes alone
+/// (schedules.rs).
 pub fn our_account(account: &their::Account) -> mschap::Account {
     mschap::Account {
         nt_hash: account.nt.map(NtHash),
@@ -37,8 +40,8 @@ pub fn our_account(account: &their::Account) -> mschap::Account {
     }
 }
 
-pub fn their_account(account: &mschap::Account) -> their::Account {
-    their::Account {
+pub fn their_entry(account: &mschap::Account) -> their::Entry {
+    their::Entry {
         nt: account.nt_hash.map(|hash| hash.0),
         lm: account.lm_hash.map(|hash| hash.0),
         disabled: account.disabled,
@@ -47,6 +50,10 @@ pub fn their_account(account: &mschap::Account) -> their::Account {
         expired: account.expired,
         failures: account.failures,
     }
+}
+
+pub fn their_account(account: &mschap::Account) -> their::Account {
+    their_entry(account).keyed()
 }
 
 /// A conversation of ours as one of theirs, by its layout. What is told of it must be the same.
@@ -70,10 +77,10 @@ pub fn their_conversation(ours: &Conversation) -> their::Conversation {
 pub fn our_conversation(theirs: &their::Conversation, random: &mut Random) -> Conversation {
     let mut bytes = layout::conversation(theirs);
     let kept = match &theirs.phase {
-        Phase::Change(kept) => account_bytes(kept, random),
+        Phase::Change(kept) => entry_bytes(kept, random),
         _ => {
-            let mut drawn = random.array::<{ layout::ACCOUNT_SIZE }>();
-            for flag in layout::ACCOUNT_FLAGS {
+            let mut drawn = random.array::<{ layout::ENTRY_SIZE }>();
+            for flag in layout::ENTRY_FLAGS {
                 drawn[flag] &= 1;
             }
             drawn
@@ -91,15 +98,23 @@ pub fn our_conversation(theirs: &their::Conversation, random: &mut Random) -> Co
     Conversation::from_bytes(&bytes).expect("a conversation")
 }
 
-/// An account of theirs in our bytes; a hash that is not there has drawn bytes.
-pub fn account_bytes(account: &their::Account, random: &mut Random) -> [u8; layout::ACCOUNT_SIZE] {
-    let mut bytes = layout::account(account);
-    if account.nt.is_none() {
+/// An entry of theirs in our bytes; a hash that is not there has drawn bytes.
+pub fn entry_bytes(entry: &their::Entry, random: &mut Random) -> [u8; layout::ENTRY_SIZE] {
+    let mut bytes = layout::entry(entry);
+    if entry.nt.is_none() {
         bytes[1..17].copy_from_slice(&random.array::<16>());
     }
-    if account.lm.is_none() {
+    if entry.lm.is_none() {
         bytes[18..34].copy_from_slice(&random.array::<16>());
     }
+    bytes
+}
+
+/// An account of theirs in our bytes, with its schedules.
+pub fn account_bytes(account: &their::Account, random: &mut Random) -> [u8; layout::ACCOUNT_SIZE] {
+    let mut bytes = layout::account(account);
+    let entry = entry_bytes(&account.entry(), random);
+    bytes[..layout::ENTRY_SIZE].copy_from_slice(&entry);
     bytes
 }
 
@@ -292,8 +307,9 @@ impl Boxes {
                 let fault = u32::from(Fault::number(theirs.fault));
                 assert_eq!(judged.fault.number(), fault, "the fault");
                 assert!(fault == 0 || reason == 709, "a fault beside {reason}");
-                let handed = judged.update.account().map(their_account);
-                assert_eq!(handed, theirs.record, "the record");
+                let handed = judged.update.account().map(their_entry);
+                let entry = theirs.record.map(|record| record.entry());
+                assert_eq!(handed, entry, "the record");
                 // by what the conversation awaited: not by the packet, nor by the record
                 let kind = match judged.update {
                     Update::Nothing => None,

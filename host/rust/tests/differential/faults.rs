@@ -5,7 +5,7 @@ use crate::both::{our_conversation, Boxes};
 use crate::packets;
 use crate::random::Random;
 use crate::run::{run, Seen};
-use reference::authenticator::{Account, Conversation, Phase};
+use reference::authenticator::{Conversation, Entry, Phase};
 use reference::{hashes, packet, peer};
 
 /// Where the block's last four octets, the old hash under the new one, the NT response and the low
@@ -68,9 +68,9 @@ fn faulty(random: &mut Random, seen: &mut Seen) {
     let limit = packets::limit(random);
     // Its count has no part in a change. No box keeps a record with another count than 0; this one
     // may have any.
-    let mut kept = Account {
+    let mut kept = Entry {
         nt: hashes::nt_hash(&old).ok(),
-        ..packets::account(random, limit)
+        ..packets::account(random, limit).entry()
     };
     let length = length(random, new.len());
     set_length(&mut packet, new.len(), length);

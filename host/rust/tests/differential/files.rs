@@ -8,7 +8,7 @@ use crate::layout;
 use crate::random::Random;
 use crate::run::{run, Seen};
 use mschap::{sys, FileFault, Refusal, Times};
-use reference::authenticator::Account;
+use reference::authenticator::Entry;
 use reference::smbpasswd::samples;
 use reference::smbpasswd::{self, Found, Written};
 
@@ -28,7 +28,7 @@ fn line_at(file: &[u8], offset: usize) -> &[u8] {
 /// One name, looked up in both.
 fn find(random: &mut Random, file: &[u8], name: &[u8], times: Times, seen: &mut Seen) {
     let Times { now, max_age } = times;
-    let drawn: [u8; sys::RECORD_SIZE] = random.array();
+    let drawn: [u8; layout::RECORD_SIZE] = random.array();
     let (mut record, mut offset) = (drawn, NO_OFFSET);
     let number = sys::find_account(file, name, now, max_age, &mut record, &mut offset);
     let ours = mschap::find_account(file, name, times);
@@ -87,10 +87,10 @@ fn find(random: &mut Random, file: &[u8], name: &[u8], times: Times, seen: &mut 
     }
 }
 
-/// One write in both, of a record with any flags and any count: of it nothing is written but its
-/// hashes.
+/// One write in both, of a record with any flags, any count and any schedules: of it nothing is
+/// written but its hashes.
 fn write(random: &mut Random, file: &mut Vec<u8>, name: &[u8], now: u32, seen: &mut Seen) {
-    let account = Account {
+    let entry = Entry {
         nt: random.chance(70).then(|| random.array()),
         lm: random.chance(30).then(|| random.array()),
         disabled: random.chance(50),
@@ -99,6 +99,7 @@ fn write(random: &mut Random, file: &mut Vec<u8>, name: &[u8], now: u32, seen: &
         expired: random.chance(50),
         failures: random.octet(),
     };
+    let account = entry.keyed();
     let before = file.clone();
     let mut theirs = file.clone();
     let (nt, lm) = (account.nt.as_ref(), account.lm.as_ref());
@@ -108,6 +109,10 @@ fn write(random: &mut Random, file: &mut Vec<u8>, name: &[u8], now: u32, seen: &
     let answer = mschap::write_account(&mut wrapped, name, &our_account(&account), now);
     assert_eq!(wrapped, theirs, "the file by the wrapper");
     let mut record = layout::record(Some(account_bytes(&account, random)));
+    if random.chance(30) {
+        let drawn: [u8; 2 * layout::KEYS_SIZE] = random.array();
+        record[layout::NT_KEYS_AT..].copy_from_slice(&drawn);
+    }
     let mut offset = NO_OFFSET;
     let number = sys::write_account(file, name, &record, now, &mut offset);
     assert_eq!(*file, theirs, "the file");

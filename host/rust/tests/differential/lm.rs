@@ -9,7 +9,7 @@ use crate::packets;
 use crate::random::Random;
 use crate::run::{run, Seen};
 use crate::series;
-use reference::authenticator::{Account, Conversation};
+use reference::authenticator::{Account, Conversation, Entry};
 use reference::{hashes, packet};
 
 const CHOICES: [(&str, Option<bool>); 3] = [
@@ -73,13 +73,14 @@ fn conversation(random: &mut Random, seen: &mut Seen) {
     let (mut boxes, _) = series::open_with(random, lm_allowed, limit);
     let hashes: [[u8; 16]; 2] = [random.array(), random.array()];
     let [nt, lm] = &hashes;
-    let mut account = Account {
+    let entry = Entry {
         nt: has_nt.then_some(*nt),
         lm: has_lm.then_some(*lm),
         expired: random.chance(20),
         failures: packets::failures(random, limit),
-        ..Account::default()
+        ..Entry::default()
     };
+    let mut account = entry.keyed();
     // invalid tries, as long as a retry is left: what the opening said is still in force after
     // them, and each of them counts, though it be by LM where LM is off
     for _ in 0..random.below(usize::from(boxes.theirs.retries) + 1) {

@@ -12,7 +12,7 @@ use crate::repeats::{self, Answered};
 use crate::run::{run, Seen};
 use crate::series;
 use mschap::{sys, LmHash, Password};
-use reference::authenticator::{Account, Phase};
+use reference::authenticator::{Account, Entry, Phase};
 use reference::message::Call;
 
 /// An account and the passwords behind it.
@@ -58,7 +58,7 @@ impl Owner {
         let (password, lm_password) = (password(random), lm_password(random));
         let kind = random.below(10);
         let mark = random.below(20);
-        let record = Account {
+        let entry = Entry {
             nt: (kind < 9).then(|| nt_hash(&password)),
             lm: (kind > 4).then(|| LmHash::of(&lm_password).expect("a password").0),
             disabled: mark == 0,
@@ -70,7 +70,7 @@ impl Owner {
         Owner {
             password,
             lm_password,
-            record,
+            record: entry.keyed(),
         }
     }
 
@@ -408,12 +408,13 @@ fn rightful(random: &mut Random, seen: &mut Seen) {
         _ => packets::failures(random, limit),
     };
     let mut owner = Owner::new(random);
-    owner.record = Account {
+    let entry = Entry {
         nt: Some(nt_hash(&owner.password)),
         expired: owner.record.expired,
         failures: n,
-        ..Account::default()
+        ..Entry::default()
     };
+    owner.record = entry.keyed();
     let mut unknown = boxes.copy();
     let mut judged: Vec<Answered> = Vec::new();
     for number in 0..=k {

@@ -15,6 +15,7 @@ mod random;
 mod readers;
 mod repeats;
 mod run;
+mod schedules;
 mod series;
 mod steps;
 mod texts;

@@ -1,7 +1,7 @@
 //! Random packets, messages, names and accounts, and damage done to packets.
 
 use crate::random::Random;
-use reference::authenticator::Account;
+use reference::authenticator::{Account, Entry};
 use reference::packet;
 
 /// The size of a name, often at its limits.
@@ -85,7 +85,7 @@ pub const LEVELS: [&str; 7] = [
 
 /// An account, for a conversation with this limit.
 pub fn account(random: &mut Random, limit: u8) -> Account {
-    Account {
+    let entry = Entry {
         failures: failures(random, limit),
         nt: random.chance(85).then(|| random.array()),
         lm: random.chance(50).then(|| random.array()),
@@ -93,7 +93,8 @@ pub fn account(random: &mut Random, limit: u8) -> Account {
         hours: random.chance(8),
         no_dialin: random.chance(8),
         expired: random.chance(30),
-    }
+    };
+    entry.keyed()
 }
 
 /// A reply buffer of drawn bytes: nearly always large enough.

@@ -7,7 +7,7 @@ use crate::random::Random;
 use crate::repeats::{self, Answered};
 use crate::run::{run, Seen};
 use mschap::{sys, Conversation, Issued, LmHash, Password, Terms};
-use reference::authenticator::{self as their, Account};
+use reference::authenticator::{self as their, Account, Entry};
 use reference::message::Call;
 use reference::peer::Verdict;
 use reference::{hashes, packet};
@@ -167,7 +167,7 @@ fn user(random: &mut Random, limit: u8) -> User {
     let nt = |password| Password::from_utf16_bytes(password)?.nt_hash();
     let nt = (kind < 85).then(|| nt(&password).expect("a password").0);
     let lm = (kind >= 50).then(|| LmHash::of(&lm_password).expect("a password").0);
-    let account = Account {
+    let entry = Entry {
         nt,
         lm,
         disabled: random.chance(5),
@@ -182,7 +182,7 @@ fn user(random: &mut Random, limit: u8) -> User {
     User {
         password,
         lm_password,
-        account,
+        account: entry.keyed(),
         found: random.chance(97),
     }
 }

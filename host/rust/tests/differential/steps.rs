@@ -74,7 +74,7 @@ fn step(random: &mut Random, seen: &mut Seen) {
         response(random, &conversation, &account)
     } else {
         let old = packets::password(random);
-        let mut kept = account;
+        let mut kept = account.entry();
         if kept.nt.is_some() && random.chance(90) {
             kept.nt = hashes::nt_hash(&old).ok();
         }
@@ -83,7 +83,7 @@ fn step(random: &mut Random, seen: &mut Seen) {
     };
     match random.below(25) {
         0 | 1 => conversation.phase = Phase::Ended,
-        2 => conversation.phase = Phase::Change(account),
+        2 => conversation.phase = Phase::Change(account.entry()),
         3 => conversation.phase = Phase::Response,
         _ => {}
     }
@@ -124,7 +124,7 @@ fn step(random: &mut Random, seen: &mut Seen) {
         let drawn = account_bytes(&account, random);
         let mut raw = layout::record(Some(drawn));
         raw[layout::TAG] = record.is_some().into();
-        let garbage: [u8; sys::ANSWER_SIZE] = random.array();
+        let garbage: [u8; layout::ANSWER_SIZE] = random.array();
         let mut answer = garbage;
         let mut reply = passed;
         let number = sys::step(&mut bytes, &packet, &raw, &mut reply, &mut answer);
@@ -162,9 +162,9 @@ fn given(
     answer: &[u8],
     handed: Option<Account>,
     changed: bool,
-    mut passed: [u8; sys::RECORD_SIZE],
+    mut passed: [u8; layout::RECORD_SIZE],
 ) {
-    let garbage: [u8; sys::RECORD_SIZE] = random.array();
+    let garbage: [u8; layout::RECORD_SIZE] = random.array();
     let mut record = garbage;
     let number = sys::answer_record(answer, &mut record);
     let Some(account) = handed else {

@@ -4,8 +4,9 @@
 #![allow(dead_code)]
 
 use mschap::sys;
-use reference::authenticator::{Account, Conversation, Last, Phase, Reply};
+use reference::authenticator::{Account, Conversation, Entry, Last, Phase, Reply};
 use reference::peer::Turn;
+use reference::schedules::Schedules;
 
 pub const RECORD: u8 = b'R';
 pub const ANSWER: u8 = b'A';
@@ -22,21 +23,34 @@ pub const LIMIT_AT: usize = 4;
 pub const KEPT_AT: usize = 15;
 /// Where the last answer begins in a conversation.
 pub const LAST_AT: usize = 54;
-/// Bytes of an account within a record, an answer or a conversation.
-pub const ACCOUNT_SIZE: usize = 39;
-/// Where the flags are in an account: that there is an NT hash, an LM hash, and the four others.
-pub const ACCOUNT_FLAGS: [usize; 6] = [0, 17, 34, 35, 36, 37];
+/// Bytes of an account without its schedules, as a conversation keeps it.
+pub const ENTRY_SIZE: usize = 39;
+/// Bytes of the schedules beside a hash: 48 numbers.
+pub const KEYS_SIZE: usize = 384;
+/// Bytes of an account within a record or an answer: the entry, and behind it the schedules beside
+/// the NT hash and those beside the LM hash.
+pub const ACCOUNT_SIZE: usize = ENTRY_SIZE + 2 * KEYS_SIZE;
+/// Where the flags are in an entry: that there is an NT hash, an LM hash, and the four others.
+pub const ENTRY_FLAGS: [usize; 6] = [0, 17, 34, 35, 36, 37];
+/// Bytes of a record, and of an answer.
+pub const RECORD_SIZE: usize = 810;
+pub const ANSWER_SIZE: usize = 814;
+/// Where the account is in a record.
+pub const ACCOUNT_AT: usize = 3;
 /// Where the count of failures is in a record.
 pub const FAILURES_AT: usize = 41;
+/// Where the schedules are in a record.
+pub const NT_KEYS_AT: usize = 42;
+pub const LM_KEYS_AT: usize = 426;
 /// Bytes before the places of a list.
 pub const LIST_HEAD: usize = 4;
 
 /// The version of a kind's layout.
 pub fn version(kind: u8) -> u8 {
     match kind {
-        ANSWER => 4,
+        ANSWER => 5,
         CONVERSATION => 3,
-        RECORD => 2,
+        RECORD => 3,
         _ => 1,
     }
 }
@@ -67,27 +81,27 @@ fn part<const N: usize>(bytes: &[u8], from: usize) -> [u8; N] {
     bytes[from..][..N].try_into().expect("enough bytes")
 }
 
-/// An account; a hash that there is not is bytes 0.
-pub fn account(account: &Account) -> [u8; ACCOUNT_SIZE] {
-    let mut bytes = [0; ACCOUNT_SIZE];
-    if let Some(hash) = account.nt {
+/// An entry; a hash that there is not is bytes 0.
+pub fn entry(entry: &Entry) -> [u8; ENTRY_SIZE] {
+    let mut bytes = [0; ENTRY_SIZE];
+    if let Some(hash) = entry.nt {
         bytes[0] = 1;
         bytes[1..17].copy_from_slice(&hash);
     }
-    if let Some(hash) = account.lm {
+    if let Some(hash) = entry.lm {
         bytes[17] = 1;
         bytes[18..34].copy_from_slice(&hash);
     }
-    bytes[34] = account.disabled.into();
-    bytes[35] = account.hours.into();
-    bytes[36] = account.no_dialin.into();
-    bytes[37] = account.expired.into();
-    bytes[38] = account.failures;
+    bytes[34] = entry.disabled.into();
+    bytes[35] = entry.hours.into();
+    bytes[36] = entry.no_dialin.into();
+    bytes[37] = entry.expired.into();
+    bytes[38] = entry.failures;
     bytes
 }
 
-pub fn to_account(bytes: &[u8]) -> Option<Account> {
-    Some(Account {
+pub fn to_entry(bytes: &[u8]) -> Option<Entry> {
+    Some(Entry {
         nt: flag(bytes[0])?.then(|| part(bytes, 1)),
         lm: flag(bytes[17])?.then(|| part(bytes, 18)),
         disabled: flag(bytes[34])?,
@@ -96,6 +110,22 @@ pub fn to_account(bytes: &[u8]) -> Option<Account> {
         expired: flag(bytes[37])?,
         failures: bytes[38],
     })
+}
+
+/// An account: any bytes are schedules.
+pub fn account(account: &Account) -> [u8; ACCOUNT_SIZE] {
+    let mut bytes = [0; ACCOUNT_SIZE];
+    bytes[..ENTRY_SIZE].copy_from_slice(&entry(&account.entry()));
+    let (nt, lm) = bytes[ENTRY_SIZE..].split_at_mut(KEYS_SIZE);
+    nt.copy_from_slice(&account.nt_keys.octets());
+    lm.copy_from_slice(&account.lm_keys.octets());
+    bytes
+}
+
+pub fn to_account(bytes: &[u8]) -> Option<Account> {
+    let keys = |from| Schedules::of_octets(&part(bytes, from));
+    let entry = to_entry(&bytes[..ENTRY_SIZE])?;
+    Some(entry.with(keys(ENTRY_SIZE), keys(ENTRY_SIZE + KEYS_SIZE)))
 }
 
 /// Whether there is an account, and its bytes.
@@ -112,12 +142,12 @@ fn to_lookup(bytes: &[u8]) -> Option<Option<Account>> {
 }
 
 /// The record of an account's bytes.
-pub fn record(found: Option<[u8; ACCOUNT_SIZE]>) -> [u8; sys::RECORD_SIZE] {
+pub fn record(found: Option<[u8; ACCOUNT_SIZE]>) -> [u8; RECORD_SIZE] {
     tagged(RECORD, |to| lookup(found, to))
 }
 
 pub fn to_record(bytes: &[u8]) -> Option<Option<Account>> {
-    to_lookup(body(RECORD, sys::RECORD_SIZE, bytes)?)
+    to_lookup(body(RECORD, RECORD_SIZE, bytes)?)
 }
 
 /// The flags and the two hashes of a record, as they are stored; any byte is a count of failures.
@@ -142,7 +172,7 @@ pub struct Told {
     pub updated: Option<Account>,
 }
 
-pub fn answer(told: &Told) -> [u8; sys::ANSWER_SIZE] {
+pub fn answer(told: &Told) -> [u8; ANSWER_SIZE] {
     tagged(ANSWER, |to| {
         to[0] = told.repeated.into();
         to[1..3].copy_from_slice(&told.reason.to_be_bytes());
@@ -152,7 +182,7 @@ pub fn answer(told: &Told) -> [u8; sys::ANSWER_SIZE] {
 }
 
 /// An answer with neither fault nor record.
-pub fn plain_answer(repeated: bool, reason: u16) -> [u8; sys::ANSWER_SIZE] {
+pub fn plain_answer(repeated: bool, reason: u16) -> [u8; ANSWER_SIZE] {
     answer(&Told {
         repeated,
         reason,
@@ -163,7 +193,7 @@ pub fn plain_answer(repeated: bool, reason: u16) -> [u8; sys::ANSWER_SIZE] {
 
 /// There are six faults, and none: no answer has another number.
 pub fn to_answer(bytes: &[u8]) -> Option<Told> {
-    let body = body(ANSWER, sys::ANSWER_SIZE, bytes)?;
+    let body = body(ANSWER, ANSWER_SIZE, bytes)?;
     Some(Told {
         repeated: flag(body[0])?,
         reason: u16::from_be_bytes(part(body, 1)),
@@ -228,7 +258,7 @@ pub fn conversation(conversation: &Conversation) -> [u8; sys::CONVERSATION_SIZE]
             Phase::Ended => 0,
             Phase::Response => 2,
             Phase::Change(kept) => {
-                to[13..52].copy_from_slice(&account(kept));
+                to[13..52].copy_from_slice(&entry(kept));
                 6
             }
         };
@@ -245,7 +275,7 @@ pub fn conversation(conversation: &Conversation) -> [u8; sys::CONVERSATION_SIZE]
 
 pub fn to_conversation(bytes: &[u8]) -> Option<Conversation> {
     let body = body(CONVERSATION, sys::CONVERSATION_SIZE, bytes)?;
-    let kept = to_account(&body[13..52])?;
+    let kept = to_entry(&body[13..52])?;
     Some(Conversation {
         id: body[3],
         challenge: part(body, 5),
