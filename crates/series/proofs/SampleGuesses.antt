@@ -18,8 +18,9 @@ use Rattle.packets.specs.Frame.{octet}
 use Rattle.packets.specs.Response.{responsePacket, readResponse}
 use Rattle.packets.specs.declared.Response.{Response}
 use Rattle.packets.proofs.ReadBack.{ResponseBack, response-back}
-use Rattle.accounts.specs.Account.{found, withFailures}
+use Rattle.accounts.specs.Account.{found, entryOf, withFailures, Agree}
 use Rattle.accounts.specs.declared.Account.{Account}
+use Rattle.accounts.proofs.Agreeing.{counted-agrees}
 use Rattle.verify.specs.Lockout.{failuresAfter}
 use Rattle.verify.specs.Response.{valid, firstReason, responseReason}
 use Rattle.authenticator.specs.Judge.{validIn, replyFor, judgeResponse, judge}
@@ -41,7 +42,7 @@ use Rattle.peer.proofs.Found.{response-found}
 use Rattle.series.specs.Boxes.{judgesHere, Judge, judging, CountRule, countedBy, countsBy}
 use Rattle.series.specs.Boxes.{limitedTo}
 use Rattle.series.specs.Writers.{lmFields}
-use Rattle.series.proofs.Sample.{challenge, openingOf, old, user, account}
+use Rattle.series.proofs.Sample.{challenge, openingOf, old, user, account, agreeing}
 use Rattle.series.proofs.Sent.{seen-new}
 use Rattle.series.proofs.Taken.{response-passes, right-valid}
 
@@ -79,6 +80,9 @@ flag-small false = omega arith
 abbrev pub counting : ℕ → Account
 counting n = withFailures n (account false)
 
+pub counting-agrees : (n : ℕ) → Agree (counting n)
+counting-agrees n = counted-agrees n (account false) (agreeing false)
+
 module _ (limit n : ℕ) (v : Bool) where
   abbrev pub first : Conversation
   first = firstConversation (openingOf (Count 0) limit)
@@ -102,7 +106,8 @@ module _ (limit n : ℕ) (v : Bool) where
   pub said-valid : (w : Bool) → validIn first (counting n) (readResponse (packetSaying w)) ≡ w
   unfolding valid
   said-valid true =
-      right-valid first turn refl old user [] (omega arith, omega arith) (counting n) refl refl
+      right-valid first turn refl old user [] (omega arith, omega arith) (counting n) refl
+      (counting-agrees n) refl
   said-valid false = simp (ap (λ (f : Response). f .flag) (back false .fields))
 
   -- judged valid below the limit alone
@@ -113,10 +118,12 @@ module _ (limit n : ℕ) (v : Bool) where
       (readResponse (packetSaying v)) ≡ cond counts noReason authenticationFailure
   unfolding responseReason firstReason
   reason =
-      ap (λ (w : Bool). firstReason (not (leb limit n) && w) (counting n)) (said-valid v)
+      ap (λ (w : Bool). firstReason (not (leb limit n) && w)
+      (entryOf (counting n))) (said-valid v)
       ∙ which counts
     where
-      which : (w : Bool) → firstReason w (counting n) ≡ cond w noReason authenticationFailure
+      which : (w : Bool) → firstReason w (entryOf (counting n))
+          ≡ cond w noReason authenticationFailure
       which true = refl
       which false = refl
 

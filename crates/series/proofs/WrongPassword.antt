@@ -62,8 +62,8 @@ module _ (box : Box) (p : SeriesState) (here : p .box .conversation .challenge �
       ∙ ap (λ (h : Hash). cond (h .present)
       (h .present && agrees (responseOf (ntHashOf bad) (p .peer .turn .challenge))
       (responseOf (h .octets) (p .box .conversation .challenge)))
-      (p .box .conversation .terms .lm && answersByHash (p .account .lm) (p .box .conversation .challenge)
-      (replicate 24 0))) hash
+      (p .box .conversation .terms .lm && answersByHash (p .account .lm)
+      (p .box .conversation .challenge) (replicate 24 0))) hash
       ∙ ap₂ (λ (x y : List ℕ). agrees (responseOf (ntHashOf bad) x) (responseOf (ntHashOf old) y))
       there here
       ∙ differs
