@@ -112,7 +112,7 @@ not-refusing n h =
 
 module _ (d : Judge) (c : Conversation) (s : StepInput) (new : repeatsHere c s ≡ false) where
   -- a packet that is no repeat and draws a reply was judged
-  drew : {n : ℕ} → octet 0 (replyOf (judging d c s)) ≡ n → 0 < n
+  pub drew : {n : ℕ} → octet 0 (replyOf (judging d c s)) ≡ n → 0 < n
       → judging d c s ≡ judgedAs c (d c s) (s .buffer)
   drew e pos = which (eqb (refusalAt stepOn c s) 0) refl
     where
@@ -125,7 +125,7 @@ module _ (d : Judge) (c : Conversation) (s : StepInput) (new : repeatsHere c s �
           (drew-answered c s (ap (λ (o : Outcome). octet 0 (replyOf o)) (sym ours) ∙ e) pos))
 
   -- and the reply is the one that it draws
-  code-drawn : {n : ℕ} → 17 ≤ length (s .buffer) → octet 0 (replyOf (judging d c s)) ≡ n → 0 < n
+  pub code-drawn : {n : ℕ} → 17 ≤ length (s .buffer) → octet 0 (replyOf (judging d c s)) ≡ n → 0 < n
       → octet 0 (replyPacket (c .id) (d c s .reply)) ≡ n
   code-drawn room e pos =
       ap (octet 0) (sym (reply-of c (d c s) (s .buffer) room))
@@ -136,7 +136,7 @@ pub first-default : opened (opening Default) .conversation ≡ firstConversation
 first-default = opened-first (opening Default) opens-default
 
 -- no answer was given yet
-first-new : (s : StepInput) → repeatsHere (opened (opening Default) .conversation) s ≡ false
+pub first-new : (s : StepInput) → repeatsHere (opened (opening Default) .conversation) s ≡ false
 first-new s = none-answered (opened (opening Default) .conversation) s
     (ap (λ (c : Conversation). c .last .present) first-default)
 

@@ -77,6 +77,23 @@ not-refusing-to-write n h =
 
 -- ---- asks for the LM response to be judged
 
+-- a Response that is judged, and is not valid, draws 691
+module _ (c : Conversation) (ph : c .phase ≡ Response) (s : StepInput)
+    (not-valid : validIn c (s .account .account) (readResponse (s .packet)) ≡ false) where
+  found-not : (f l : Bool)
+      → (f && (not l && validIn c (s .account .account) (readResponse (s .packet)))) ≡ false
+  found-not true true = refl
+  found-not true false = not-valid
+  found-not false l = refl
+
+  pub fails : judge c (s .packet) (s .account) .reply
+      ≡ Failure authenticationFailure (mayRetry c authenticationFailure)
+  unfolding judge judgeResponse responseReason firstReason
+  fails =
+      ap (λ (x : Phase). judgeIn x c (s .packet) (s .account) .reply) ph
+      ∙ ap (λ (v : Bool). replyFor c (firstReason v (entryOf (s .account .account))))
+      (found-not (s .account .found) (isLocked (c .terms) (s .account .account)))
+
 -- with the flag 0, where LM is not allowed, no Response draws Success: it is refused, or draws a
 -- Failure
 module _ (c : Conversation) (lm : c .terms .lm ≡ false) (ph : c .phase ≡ Response)
@@ -86,20 +103,6 @@ module _ (c : Conversation) (lm : c .terms .lm ≡ false) (ph : c .phase ≡ Res
   not-valid : validIn c (s .account .account) (readResponse (s .packet)) ≡ false
   unfolding valid
   not-valid = simp (flag, lm)
-
-  found-not : (f l : Bool)
-      → (f && (not l && validIn c (s .account .account) (readResponse (s .packet)))) ≡ false
-  found-not true true = refl
-  found-not true false = not-valid
-  found-not false l = refl
-
-  fails : judge c (s .packet) (s .account) .reply
-      ≡ Failure authenticationFailure (mayRetry c authenticationFailure)
-  unfolding judge judgeResponse responseReason firstReason
-  fails =
-      ap (λ (x : Phase). judgeIn x c (s .packet) (s .account) .reply) ph
-      ∙ ap (λ (v : Bool). replyFor c (firstReason v (entryOf (s .account .account))))
-      (found-not (s .account .found) (isLocked (c .terms) (s .account .account)))
 
   no-success : octet 0 (replyOf (stepOn c s)) ≡ 3 → ⊥
   no-success e = which (case-of c (s .packet) (s .account) (s .buffer))
@@ -114,7 +117,7 @@ module _ (c : Conversation) (lm : c .terms .lm ≡ false) (ph : c .phase ≡ Res
       which (judged ok z) =
           let d = judge c (s .packet) (s .account) in
           let code = ap (λ (o : Outcome). octet 0 (replyOf o)) z
-          ∙ ap (octet 0) (reply-of c d (s .buffer) room ∙ ap (replyPacket (c .id)) fails)
+          ∙ ap (octet 0) (reply-of c d (s .buffer) room ∙ ap (replyPacket (c .id)) (fails c ph s not-valid))
           ∙ failure-code (c .id) _ in
           omega arith
 
