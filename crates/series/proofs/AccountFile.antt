@@ -1,7 +1,7 @@
 -- The record that an accepted change hands out, written back into the account file and looked up
 -- again, lets the new password in.
 -- Assumes nothing.
-use mathlib.Core.Bool.{Bool, false}
+use mathlib.Core.Bool.{Bool, false, false≢true}
 use mathlib.Core.List.{List, _++_}
 use mathlib.Core.Path.{_≡_, refl, sym, ap, ap₂, _∙_, subst}
 use Prim.Native.Nat.{ℕ, zero, suc, _<_, _^_}
@@ -9,8 +9,10 @@ use native.Mathlib.Omega.{arith}
 use lib.ListN.{getD, replicate}
 use Rattle.credentials.specs.Credentials.{ntHashOf}
 use Rattle.credentials.proofs.Laws.{length-nt, octets-nt}
-use Rattle.accounts.specs.Account.{noHash, hashOf, accountWith, found, changed, withFailures, Rightful}
+use Rattle.accounts.specs.Account.{noHash, hashOf, accountWith, found, entryOf, changed}
+use Rattle.accounts.specs.Account.{withFailures, Rightful, Agree}
 use Rattle.accounts.specs.declared.Account.{Account}
+use Rattle.accounts.proofs.Agreeing.{made-agrees, changed-agrees}
 use Rattle.accounts.specs.declared.Lookup.{Lookup}
 use Rattle.authenticator.specs.Steps.{stepOn}
 use Rattle.authenticator.proofs.Judged.{changed-rightful}
@@ -19,7 +21,8 @@ use Rattle.smbpasswd.specs.Record.{hasFlag, isExpired, accountIn}
 use Rattle.smbpasswd.specs.File.{placeOf, lineAt, lookupAt, findIn}
 use Rattle.smbpasswd.specs.Write.{writtenIn}
 use Rattle.smbpasswd.specs.declared.Found.{Found}
-use Rattle.smbpasswd.specs.declared.Place.the-variants.{Line}
+use Rattle.smbpasswd.specs.declared.Place.{Place}
+use Rattle.smbpasswd.specs.declared.Place.the-variants.{Nowhere, Line, Doubled, Malformed}
 use Rattle.smbpasswd.proofs.ChangedLine.{IsHash}
 use Rattle.smbpasswd.proofs.ReadBack.{read-back, others-same}
 use Rattle.series.specs.Series.{invalid, right, passwordChange, Step, ours, other}
@@ -39,6 +42,21 @@ pub record FromLine (a : Account) (l : List ℕ) : Type 0 where
   pub disabled : a .disabled ≡ hasFlag letterD (field 4 l)
   pub hours : a .«hours_denied» ≡ false
   pub dialin : a .«dialin_denied» ≡ false
+
+-- and the round keys of its hashes
+from-file : (now maxAge : ℕ) (name file : List ℕ) (a : Account)
+    → findIn now maxAge name file .lookup ≡ found (withFailures 0 a) → Agree a
+unfolding findIn accountIn
+from-file now maxAge name file a e = which (placeOf name file) e
+  where
+    which : (at : Place) → lookupAt now maxAge file at ≡ found (withFailures 0 a) → Agree a
+    which Nowhere e = absurd (false≢true (ap (λ (l : Lookup). l .found) e))
+    which (Line at) e =
+        let made : Agree (withFailures 0 a) =
+        subst (λ (l : Lookup). Agree (l .account)) e (made-agrees _) in
+        record { nt = made .nt; lm = made .lm }
+    which (Doubled at) e = absurd (false≢true (ap (λ (l : Lookup). l .found) e))
+    which (Malformed at) e = absurd (false≢true (ap (λ (l : Lookup). l .found) e))
 
 from-line : (now maxAge : ℕ) (name file : List ℕ) (a : Account) (at : ℕ)
     → findIn now maxAge name file .lookup ≡ found (withFailures 0 a) → placeOf name file ≡ Line at → FromLine a (lineAt at file)
@@ -69,28 +87,36 @@ module _ (name file : List ℕ) (a : Account) (new : List ℕ) (at changedAt lat
   abbrev expired : Bool
   expired = isExpired later maxAge (hasFlag letterX (field 4 (lineAt at file))) changedAt
 
-  pub found-again : again ourFileWriter name file (found (changed a (ntHashOf new))) changedAt later maxAge
-      ≡ aged expired (found (changed a (ntHashOf new)))
+  pub found-again : again ourFileWriter name file (found (changed (entryOf a) (ntHashOf new)))
+      changedAt later maxAge
+      ≡ aged expired (found (changed (entryOf a) (ntHashOf new)))
   found-again =
-      ap (λ (x : Found). x .lookup) (read-back name (changed a (ntHashOf new)) changedAt file no-is-hash (nt-is-hash new) at p small later maxAge)
+      ap (λ (x : Found). x .lookup) (read-back name (changed (entryOf a) (ntHashOf new))
+      changedAt file no-is-hash (nt-is-hash new) at p small later maxAge)
       ∙ ap (λ (d : Bool). found (accountWith (hashOf (ntHashOf new)) noHash d false false expired)) (sym (f .disabled))
       ∙ ap₂ (λ (h d : Bool). found (accountWith (hashOf (ntHashOf new)) noHash (a .disabled) h d expired)) (sym (f .hours)) (sym (f .dialin))
 
   -- not expired, it is the record that was handed out
-  pub in-force : expired ≡ false → again ourFileWriter name file (found (changed a (ntHashOf new))) changedAt later maxAge
-      ≡ found (changed a (ntHashOf new))
-  in-force e = found-again ∙ ap (λ (t : Bool). aged t (found (changed a (ntHashOf new)))) e
+  pub in-force : expired ≡ false
+      → again ourFileWriter name file (found (changed (entryOf a) (ntHashOf new))) changedAt later
+      maxAge
+      ≡ found (changed (entryOf a) (ntHashOf new))
+  in-force e =
+      found-again ∙ ap (λ (t : Bool). aged t (found (changed (entryOf a) (ntHashOf new)))) e
 
 -- ---- along a series
 
 module _ (name file : List ℕ) (now maxAge : ℕ) (a : Account) (e : findIn now maxAge name file .lookup ≡ found (withFailures 0 a)) (g : Rightful a) (limit : ℕ) where
+  agree : Agree a
+  agree = from-file now maxAge name file a e
+
   kept-at : (due : List PacketKind) (p : SeriesState) (m : Step) → Ready a limit (packetKinds m ++ due) p → Allowed stepOn ourWriter a p m
       → KeptAt stepOn ourWriter ourFileWriter name file p m
   kept-at due p (other s) r h = tt
   kept-at due p (ours (invalid w n) l) r h = tt
   kept-at due p (ours (right w n) l) r h = tt
   kept-at due p (ours (passwordChange old new filler) l) r h = λ at changedAt later maxAge′ there small.
-      let updated = change-updated a g limit due p old new filler l r h in
+      let updated = change-updated a g agree limit due p old new filler l r h in
       let n = changed-rightful a (ntHashOf new) g in
       let line = from-line now maxAge name file a at e there in
       let x = exchange stepOn ourWriter p (passwordChange old new filler) l .outcome .answer .updated in
@@ -99,15 +125,25 @@ module _ (name file : List ℕ) (now maxAge : ℕ) (a : Account) (e : findIn now
         moved ∙ found-again name file a new at changedAt later maxAge′ line there small ∙ ap (aged t) (sym updated),
         (λ z. subst (λ (u : Lookup). LetsIn stepOn ourWriter (u .account) new)
             (sym (moved ∙ in-force name file a new at changedAt later maxAge′ line there small z))
-            (lets-in (changed a (ntHashOf new)) new (n .0) (n .1) refl (sym (n .2)))),
+            (lets-in (changed (entryOf a) (ntHashOf new)) new (n .0)
+            (changed-agrees (entryOf a) (ntHashOf new)) (n .1) refl (sym (n .2)))),
         (λ another m.
             ap (λ (u : Lookup). findIn later maxAge′ another (writtenIn name (u .account) changedAt file)) updated
-            ∙ others-same name (changed a (ntHashOf new)) changedAt file no-is-hash (nt-is-hash new) another m later maxAge′),
+            ∙ others-same name (changed (entryOf a) (ntHashOf new)) changedAt file no-is-hash
+            (nt-is-hash new) another m later maxAge′),
       )
 
   invariant : Invariant (next stepOn ourWriter) packetKinds (judgedAt stepOn ourWriter) (Allowed stepOn ourWriter a)
       (KeptAt stepOn ourWriter ourFileWriter name file)
-  invariant = record { Ready = Ready a limit; law = λ due p m r h. (kept-at due p m r h, law a g limit due p m r h .1, law a g limit due p m r h .2) }
+  invariant =
+      record {
+        Ready = Ready a limit;
+        law = λ due p m r h. (
+          kept-at due p m r h,
+          law a g agree limit due p m r h .1,
+          law a g agree limit due p m r h .2,
+        );
+      }
 
 pub kept-in-file : KeptInFile ourBox ourWriter ourFileWriter
 unfolding invariant

@@ -27,18 +27,18 @@ use Rattle.verify.proofs.Counting.{one-more, never-falls, counted-failed, judge
 use Rattle.verify.proofs.Reasons.{three-digits, response-not-changing}
 use Rattle.authenticator.specs.Conversation.{awaitedCode, isEnded, noAnswer, closed}
 use Rattle.authenticator.specs.Judge.{reasonOf, replyFor, judgeResponse, judgeChange}
-use Rattle.authenticator.specs.Judge.{judgeIn, judge}
+use Rattle.authenticator.specs.Judge.{verdictOf, judgeIn, judge}
 use Rattle.authenticator.specs.Encode.{replyPacket}
 use Rattle.authenticator.specs.Opening.{Opening, opened}
 use Rattle.authenticator.specs.Step.{Outcome, judgedAs}
 use Rattle.authenticator.specs.Steps.{StepInput, stepOn, replyOf, BoxState, unanswered, nextAfter}
 use Rattle.authenticator.specs.Steps.{isJudged, nextState}
 use Rattle.authenticator.specs.declared.Conversation.{Conversation}
-use Rattle.authenticator.specs.Judge.{Judgement}
 use Rattle.authenticator.specs.declared.Phase.{Phase}
 use Rattle.authenticator.specs.declared.Phase.the-variants.{Response, Change, Ended}
 use Rattle.authenticator.specs.declared.Reply.{Reply}
 use Rattle.authenticator.specs.declared.Reply.the-variants.{Failure}
+use Rattle.authenticator.specs.declared.Verdict.{Verdict}
 use Rattle.authenticator.proofs.Admitted.{Passes}
 use Rattle.authenticator.proofs.Judgements.{chosen}
 use Rattle.authenticator.proofs.Openings.{opened-either}
@@ -130,11 +130,11 @@ module _ (c : Conversation) (s : StepInput) (ok : Passes c (s .packet) (s .buffe
       v : CheckedChange
       v = checkedChange (c .kept) (c .challenge) (readChange (s .packet))
 
-      accepted : Bool → Judgement
+      accepted : Bool → Verdict
       accepted t = chosen c v t
 
-      judged-so : judge c (s .packet) (s .account) ≡ accepted (isFaultless (v .fault))
-      judged-so = ap (λ (x : Phase). judgeIn x c (s .packet) (s .account)) ph
+      judged-so : verdictOf (judge c (s .packet) (s .account)) ≡ accepted (isFaultless (v .fault))
+      judged-so = ap (λ (x : Phase). verdictOf (judgeIn x c (s .packet) (s .account))) ph
 
       by : (t : Bool) → isFaultless (v .fault) ≡ t
           → (reasonOf (accepted t .reply) ≡ authenticationFailure)
@@ -147,9 +147,9 @@ module _ (c : Conversation) (s : StepInput) (ok : Passes c (s .packet) (s .buffe
       which : (reasonOf drawn ≡ authenticationFailure) ⊎ (reasonOf drawn ≡ changingPassword)
           → judge c (s .packet) (s .account) .updated .found ≡ false
       which z =
-          ap (λ (j : Judgement). j .updated .found) judged-so
+          ap (λ (j : Verdict). j .updated .found) judged-so
           ∙ by (isFaultless (v .fault)) refl
-          (subst (λ (j : Judgement). (reasonOf (j .reply) ≡ authenticationFailure)
+          (subst (λ (j : Verdict). (reasonOf (j .reply) ≡ authenticationFailure)
           ⊎ (reasonOf (j .reply) ≡ changingPassword)) judged-so z)
 
 -- ---- the lines

@@ -25,5 +25,6 @@ pub mod WrongFiles
 pub mod Guesses
 pub mod SampleGuesses
 pub mod WrongCounts
+pub mod WrongSchedules
 pub mod GuessRuns
 pub mod WrongGuesses

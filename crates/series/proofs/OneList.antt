@@ -127,7 +127,8 @@ module _ (i : Issued) (first second : Opening) (two : Two spendsAll i first seco
         under-apart (schedulesOf h) r (p ∙ sym (response-under h (inFirst .challenge)))
         (q ∙ sym (response-under h (inSecond .challenge)))
 
-    answered-both : (h : Hash) (k : Schedules) (r : List ℕ) → answers h k (inFirst .challenge) r ≡ true
+    answered-both : (h : Hash) (k : Schedules) (r : List ℕ)
+        → answers h k (inFirst .challenge) r ≡ true
         → answers h k (inSecond .challenge) r ≡ true → ⊥
     unfolding answers
     answered-both h k r p q = which (h .present) p q

@@ -14,9 +14,11 @@ use Rattle.accounts.specs.Account.{
   notFound,
   found,
   Rightful,
+  Agree,
   hashOf,
   accountWith,
 }
+use Rattle.accounts.proofs.Agreeing.{made-agrees}
 use Rattle.authenticator.specs.Opening.{Opening, opened}
 use Rattle.authenticator.specs.Steps.{Box}
 use Rattle.accounts.specs.declared.Account.{Account}
@@ -101,6 +103,10 @@ account expired = accountWith (hashOf (ntHashOf old)) noHash false false false e
 
 pub rightful : (expired : Bool) → Rightful (account expired)
 rightful expired = record { nt = refl; enabled = refl; hours = refl; dialin = refl }
+
+-- with the round keys of its hash
+pub agreeing : (expired : Bool) → Agree (account expired)
+agreeing expired = made-agrees _
 
 -- ---- our peer's packets
 

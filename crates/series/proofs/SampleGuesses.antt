@@ -18,8 +18,9 @@ use Rattle.packets.specs.Frame.{octet}
 use Rattle.packets.specs.Response.{responsePacket, readResponse}
 use Rattle.packets.specs.declared.Response.{Response}
 use Rattle.packets.proofs.ReadBack.{ResponseBack, response-back}
-use Rattle.accounts.specs.Account.{found, withFailures}
+use Rattle.accounts.specs.Account.{found, entryOf, withFailures, Agree}
 use Rattle.accounts.specs.declared.Account.{Account}
+use Rattle.accounts.proofs.Agreeing.{counted-agrees}
 use Rattle.verify.specs.Lockout.{failuresAfter}
 use Rattle.verify.specs.Response.{valid, firstReason, responseReason}
 use Rattle.authenticator.specs.Judge.{validIn, replyFor, judgeResponse, judge}
@@ -41,7 +42,7 @@ use Rattle.peer.proofs.Found.{response-found}
 use Rattle.series.specs.Boxes.{judgesHere, Judge, judging, CountRule, countedBy, countsBy}
 use Rattle.series.specs.Boxes.{limitedTo}
 use Rattle.series.specs.Writers.{lmFields}
-use Rattle.series.proofs.Sample.{challenge, openingOf, old, user, account}
+use Rattle.series.proofs.Sample.{challenge, openingOf, old, user, account, agreeing}
 use Rattle.series.proofs.Sent.{seen-new}
 use Rattle.series.proofs.Taken.{response-passes, right-valid}
 
@@ -50,7 +51,7 @@ use Rattle.series.proofs.Taken.{response-passes, right-valid}
 abbrev turn : Turn
 turn = record { id = 255; challenge = challenge }
 
-abbrev fieldsSaying : Bool → Response
+abbrev pub fieldsSaying : Bool → Response
 fieldsSaying true = responseFields challenge old
 fieldsSaying false = lmFields (responseFields challenge old)
 
@@ -64,6 +65,9 @@ back true = response-found turn old user [] (omega arith) (omega arith)
 back false = response-back 255 (fieldsSaying false) user [] refl
     (length-response (ntHashOf old) challenge) (omega arith) (omega arith)
 
+pub said-fields : (v : Bool) → readResponse (packetSaying v) ≡ fieldsSaying v
+said-fields v = back v .fields
+
 pub said-code : (v : Bool) → octet 0 (packetSaying v) ≡ responseCode
 said-code v = back v .code
 
@@ -74,35 +78,72 @@ flag-small : (v : Bool) → fieldsSaying v .flag < 2
 flag-small true = omega arith
 flag-small false = omega arith
 
--- ---- one guess
+-- ---- one guess, with any record
+
+module _ (limit : ℕ) where
+  abbrev pub begun : Conversation
+  begun = firstConversation (openingOf (Count 0) limit)
+
+  module _ (v : Bool) (a : Account) where
+    abbrev pub guessAt : StepInput
+    guessAt = record { packet = packetSaying v; account = found a; buffer = replicate 17 0 }
+
+    passes : Passes begun (packetSaying v) (replicate 17 0)
+    passes = response-passes begun (fresh-first begun refl) refl (omega arith) (back v) refl
+        (flag-small v)
+
+    took : stepOn begun guessAt
+        ≡ judgedAs begun (judge begun (packetSaying v) (found a)) (replicate 17 0)
+    took = judged-step begun (packetSaying v) (found a) (replicate 17 0) passes
+
+    judges : judgesHere begun guessAt ≡ true
+    judges = ap (λ (o : Outcome). eqb (refusalIn (o .answer .kind)) 0
+        && not (isRepeated (o .answer .kind))) took
+
+    pub judging-took : (j : Judge)
+        → judging j begun guessAt ≡ judgedAs begun (j begun guessAt) (replicate 17 0)
+    judging-took j =
+        ap (λ (t : Bool). cond t (judgedAs begun (j begun guessAt) (replicate 17 0))
+        (stepOn begun guessAt)) judges
+
+    -- a box that judges it, by whatever judgement
+    module _ (box : Box) (d : Judgement)
+        (took-so : box begun guessAt ≡ judgedAs begun d (replicate 17 0)) where
+      pub judged-so : isJudged box (unanswered begun) guessAt ≡ true
+      judged-so =
+          ap₂ (λ (t u : Bool). t && not u)
+          (ap (λ (o : Outcome). drewReply o (replicate 17 0)) took-so ∙ drew-judged begun guessAt d)
+          (seen-new (unanswered begun) guessAt refl)
+
+      reply-so : replyOf (box begun guessAt) ≡ replyPacket 255 (d .reply)
+      reply-so = ap replyOf took-so ∙ reply-of begun d (replicate 17 0) (omega arith)
+
+-- ---- one guess, with the sample's record and any count
 
 abbrev pub counting : ℕ → Account
 counting n = withFailures n (account false)
 
+pub counting-agrees : (n : ℕ) → Agree (counting n)
+counting-agrees n = counted-agrees n (account false) (agreeing false)
+
 module _ (limit n : ℕ) (v : Bool) where
   abbrev pub first : Conversation
-  first = firstConversation (openingOf (Count 0) limit)
+  first = begun limit
 
   abbrev pub guess : StepInput
-  guess = record {
-    packet = packetSaying v;
-    account = found (counting n);
-    buffer = replicate 17 0;
-  }
+  guess = guessAt limit v (counting n)
 
-  passes : Passes first (packetSaying v) (replicate 17 0)
-  passes = response-passes first (fresh-first first refl) refl (omega arith) (back v) refl
-      (flag-small v)
-
-  -- so the rules refuse it in no way
+  -- the rules refuse it in no way
   pub passes-first : ruledRefusal (unanswered first) guess ≡ 0
-  passes-first = admitted.passes first (packetSaying v) (replicate 17 0) passes
+  passes-first =
+      admitted.passes first (packetSaying v) (replicate 17 0) (passes limit v (counting n))
 
   -- the one is valid, and the other is not
   pub said-valid : (w : Bool) → validIn first (counting n) (readResponse (packetSaying w)) ≡ w
   unfolding valid
   said-valid true =
-      right-valid first turn refl old user [] (omega arith, omega arith) (counting n) refl refl
+      right-valid first turn refl old user [] (omega arith, omega arith) (counting n) refl
+      (counting-agrees n) refl
   said-valid false = simp (ap (λ (f : Response). f .flag) (back false .fields))
 
   -- judged valid below the limit alone
@@ -113,37 +154,14 @@ module _ (limit n : ℕ) (v : Bool) where
       (readResponse (packetSaying v)) ≡ cond counts noReason authenticationFailure
   unfolding responseReason firstReason
   reason =
-      ap (λ (w : Bool). firstReason (not (leb limit n) && w) (counting n)) (said-valid v)
+      ap (λ (w : Bool). firstReason (not (leb limit n) && w)
+      (entryOf (counting n))) (said-valid v)
       ∙ which counts
     where
-      which : (w : Bool) → firstReason w (counting n) ≡ cond w noReason authenticationFailure
+      which : (w : Bool) → firstReason w (entryOf (counting n))
+          ≡ cond w noReason authenticationFailure
       which true = refl
       which false = refl
-
-  took : stepOn first guess
-      ≡ judgedAs first (judge first (packetSaying v) (found (counting n))) (replicate 17 0)
-  took = judged-step first (packetSaying v) (found (counting n)) (replicate 17 0) passes
-
-  judges : judgesHere first guess ≡ true
-  judges = ap (λ (o : Outcome). eqb (refusalIn (o .answer .kind)) 0
-      && not (isRepeated (o .answer .kind))) took
-
-  judging-took : (j : Judge) → judging j first guess ≡ judgedAs first (j first guess) (replicate 17 0)
-  judging-took j =
-      ap (λ (t : Bool). cond t (judgedAs first (j first guess) (replicate 17 0))
-      (stepOn first guess)) judges
-
-  -- a box that judges it, by whatever judgement
-  module _ (box : Box) (d : Judgement)
-      (took-so : box first guess ≡ judgedAs first d (replicate 17 0)) where
-    judged-so : isJudged box (unanswered first) guess ≡ true
-    judged-so =
-        ap₂ (λ (t u : Bool). t && not u)
-        (ap (λ (o : Outcome). drewReply o (replicate 17 0)) took-so ∙ drew-judged first guess d)
-        (seen-new (unanswered first) guess refl)
-
-    reply-so : replyOf (box first guess) ≡ replyPacket 255 (d .reply)
-    reply-so = ap replyOf took-so ∙ reply-of first d (replicate 17 0) (omega arith)
 
   -- our judgement of it, and the record as a rule counts it
   reply-drawn : judge first (packetSaying v) (found (counting n)) .reply
@@ -174,8 +192,8 @@ pub by-rule : (rule : CountRule) (limit : ℕ)
     → Guessed (judging (countsBy rule)) rule (leb limit) limit
 by-rule rule limit =
     record {
-      judged = λ n v. judged-so limit n v box (d n v) (box-took n v);
-      reply = λ n v. reply-so limit n v box (d n v) (box-took n v)
+      judged = λ n v. judged-so limit v (counting n) box (d n v) (box-took n v);
+      reply = λ n v. reply-so limit v (counting n) box (d n v) (box-took n v)
           ∙ ap (replyPacket 255) (reply-drawn limit n v);
       handed = λ n v. ap (λ (o : Outcome). o .answer .updated) (box-took n v)
           ∙ ap (λ (t : Bool). cond t (countedBy rule (first limit n v) (guess limit n v))
@@ -192,17 +210,17 @@ by-rule rule limit =
 
     box-took : (n : ℕ) (v : Bool) → box (first limit n v) (guess limit n v)
         ≡ judgedAs (first limit n v) (d n v) (replicate 17 0)
-    box-took n v = judging-took limit n v (countsBy rule)
+    box-took n v = judging-took limit v (counting n) (countsBy rule)
 
 -- and ours
 pub by-ours : (limit : ℕ) → Guessed stepOn failuresAfter (leb limit) limit
 unfolding judge judgeResponse
 by-ours limit =
     record {
-      judged = λ n v. judged-so limit n v stepOn (d n v) (took limit n v);
-      reply = λ n v. reply-so limit n v stepOn (d n v) (took limit n v)
+      judged = λ n v. judged-so limit v (counting n) stepOn (d n v) (took limit v (counting n));
+      reply = λ n v. reply-so limit v (counting n) stepOn (d n v) (took limit v (counting n))
           ∙ ap (replyPacket 255) (reply-drawn limit n v);
-      handed = λ n v. ap (λ (o : Outcome). o .answer .updated) (took limit n v)
+      handed = λ n v. ap (λ (o : Outcome). o .answer .updated) (took limit v (counting n))
           ∙ rule-counted limit n v failuresAfter;
     }
   where
@@ -215,8 +233,8 @@ pub by-limit : (other : ℕ → ℕ) (limit : ℕ)
 unfolding judge judgeResponse
 by-limit other limit =
     record {
-      judged = λ n v. judged-so limit n v box (d n v) (box-took n v);
-      reply = λ n v. reply-so limit n v box (d n v) (box-took n v)
+      judged = λ n v. judged-so limit v (counting n) box (d n v) (box-took n v);
+      reply = λ n v. reply-so limit v (counting n) box (d n v) (box-took n v)
           ∙ ap (replyPacket 255) (reply-drawn (other limit) n v);
       handed = λ n v. ap (λ (o : Outcome). o .answer .updated) (box-took n v)
           ∙ rule-counted (other limit) n v failuresAfter;
@@ -230,4 +248,4 @@ by-limit other limit =
 
     box-took : (n : ℕ) (v : Bool) → box (first limit n v) (guess limit n v)
         ≡ judgedAs (first limit n v) (d n v) (replicate 17 0)
-    box-took n v = judging-took limit n v (limitedTo other)
+    box-took n v = judging-took limit v (counting n) (limitedTo other)

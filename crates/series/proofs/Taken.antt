@@ -75,7 +75,8 @@ module _ (c : Conversation) (t : Turn) (same : c .challenge ≡ t .challenge)
     (password name after : List ℕ)
     (named : (1 ≤ length name) × (length name ≤ 256)) (a : Account) (there : a .nt .present ≡ true)
     (agree : Agree a) (right : ntHashOf password ≡ a .nt .octets) where
-  right-answers : answersByHash (a .nt) (c .challenge) (responseFields (t .challenge) password .nt) ≡ true
+  right-answers : answersByHash (a .nt) (c .challenge) (responseFields (t .challenge) password .nt)
+      ≡ true
   right-answers = answers-right (a .nt) (c .challenge) _ there (ap₂ responseOf right (sym same))
 
   pub right-valid : validIn c a (readResponse (responseFor t password name ++ after)) ≡ true

@@ -14,13 +14,14 @@ use lib.ListN.{replicate}
 use Rattle.issued.specs.Issued.{emptyList}
 use Rattle.message.specs.Message.{textOf}
 use Rattle.packets.specs.Frame.{octet}
-use Rattle.accounts.specs.Account.{notFound, found, withFailures, Rightful}
+use Rattle.accounts.specs.Account.{notFound, found, withFailures, Rightful, Agree}
 use Rattle.authenticator.specs.Admit.{refusalFor}
 use Rattle.authenticator.specs.Encode.{version}
 use Rattle.authenticator.specs.Opening.{Opening, opened}
 use Rattle.authenticator.specs.Steps.{StepInput, stepOn, replyOf, BoxState, nextAfter}
 use Rattle.authenticator.specs.Steps.{unanswered, nextState, NotJudged}
 use Rattle.accounts.specs.declared.Account.{Account}
+use Rattle.accounts.proofs.Agreeing.{counted-agrees}
 use Rattle.authenticator.specs.declared.Phase.the-variants.{Ended}
 use Rattle.authenticator.specs.declared.Retries.the-variants.{Default, Count}
 use Rattle.authenticator.specs.declared.LmChoice.the-variants.{Silent}
@@ -53,6 +54,7 @@ use Rattle.series.proofs.Sample.{
   new,
   user,
   account,
+  agreeing,
   line,
   badTry,
   rightTry,
@@ -89,6 +91,9 @@ record3 = withFailures 3 (account true)
 
 rightful3 : Rightful record3
 rightful3 = record { nt = refl; enabled = refl; hours = refl; dialin = refl }
+
+agreeing3 : Agree record3
+agreeing3 = counted-agrees 3 (account true) (agreeing true)
 
 -- the places of our peer's three packets, and what the box gets of each
 abbrev first : SeriesState
@@ -168,7 +173,7 @@ pub met : Along (next ourBox ourWriter) (Allowed ourBox ourWriter record3)
 met = (
   short-refused (start (opening (Count 1)) [] record3 .box),
   (
-    own-allowed ourBox first first-challenge turn-challenge refl record3,
+    own-allowed ourBox first first-challenge turn-challenge refl agreeing3 record3,
     (
       again-allowed (first .box) tried faithful-first,
       (
@@ -203,7 +208,7 @@ pub claimed : Along (next ourBox ourWriter) (Claimed ourBox ourWriter record3)
     (start (opening (Count 1)) [] record3) steps ≡ 3)
     × (end (next ourBox ourWriter) (start (opening (Count 1)) [] record3) steps .box .conversation .phase
     ≡ Ended)
-claimed = demand3 (opening (Count 1)) opens-once refl .1 record3 1 [] steps rightful3
+claimed = demand3 (opening (Count 1)) opens-once refl .1 record3 1 [] steps rightful3 agreeing3
     (omega arith) (omega arith) refl met
 
 -- ---- the repeats of this series

@@ -16,7 +16,7 @@ use Rattle.packets.specs.Codes.{changeCode}
 use Rattle.packets.specs.Frame.{octet}
 use Rattle.packets.specs.Response.{readResponse, responseRefusal}
 use Rattle.packets.specs.Reply.{successPacket, failurePacket}
-use Rattle.accounts.specs.Account.{notFound, found, withFailures}
+use Rattle.accounts.specs.Account.{notFound, found, entryOf, accountOf, withFailures}
 use Rattle.authenticator.specs.Encode.{replyPacket}
 use Rattle.authenticator.specs.declared.Reply.{Reply}
 use Rattle.authenticator.specs.declared.Reply.the-variants.{Failure}
@@ -77,6 +77,7 @@ use Rattle.series.proofs.Sample.{
   user,
   account,
   rightful,
+  agreeing,
   line,
   badTry,
   rightTry,
@@ -102,7 +103,7 @@ failure-code id message = refl
 pub not-refusing : (n : ℕ) → Demand3 (refusing n) ourWriter → ⊥
 not-refusing n h =
     let all = h (opening Default) opens-default refl .1 (account false) 0 [] (rightTry ∷ [])
-    (rightful false) (omega arith) (omega arith) refl
+    (rightful false) (agreeing false) (omega arith) (omega arith) refl
     (right-allowed (refusing n) ourWriter (start (opening Default) [] (account false)) false, tt) in
     let code = ap (octet 0) (all .0 .0 .0 .0) ∙ success-code _ in
     omega arith
@@ -111,7 +112,7 @@ not-refusing n h =
 
 module _ (d : Judge) (c : Conversation) (s : StepInput) (new : repeatsHere c s ≡ false) where
   -- a packet that is no repeat and draws a reply was judged
-  drew : {n : ℕ} → octet 0 (replyOf (judging d c s)) ≡ n → 0 < n
+  pub drew : {n : ℕ} → octet 0 (replyOf (judging d c s)) ≡ n → 0 < n
       → judging d c s ≡ judgedAs c (d c s) (s .buffer)
   drew e pos = which (eqb (refusalAt stepOn c s) 0) refl
     where
@@ -124,7 +125,7 @@ module _ (d : Judge) (c : Conversation) (s : StepInput) (new : repeatsHere c s �
           (drew-answered c s (ap (λ (o : Outcome). octet 0 (replyOf o)) (sym ours) ∙ e) pos))
 
   -- and the reply is the one that it draws
-  code-drawn : {n : ℕ} → 17 ≤ length (s .buffer) → octet 0 (replyOf (judging d c s)) ≡ n → 0 < n
+  pub code-drawn : {n : ℕ} → 17 ≤ length (s .buffer) → octet 0 (replyOf (judging d c s)) ≡ n → 0 < n
       → octet 0 (replyPacket (c .id) (d c s .reply)) ≡ n
   code-drawn room e pos =
       ap (octet 0) (sym (reply-of c (d c s) (s .buffer) room))
@@ -135,7 +136,7 @@ pub first-default : opened (opening Default) .conversation ≡ firstConversation
 first-default = opened-first (opening Default) opens-default
 
 -- no answer was given yet
-first-new : (s : StepInput) → repeatsHere (opened (opening Default) .conversation) s ≡ false
+pub first-new : (s : StepInput) → repeatsHere (opened (opening Default) .conversation) s ≡ false
 first-new s = none-answered (opened (opening Default) .conversation) s
     (ap (λ (c : Conversation). c .last .present) first-default)
 
@@ -155,7 +156,7 @@ pub not-finding : Demand3 (judging findsNone) ourWriter → ⊥
 not-finding h =
     let p = start (opening Default) [] (account false) in
     let all = h (opening Default) opens-default refl .1 (account false) 0 [] (rightTry ∷ [])
-    (rightful false) (omega arith) (omega arith) refl
+    (rightful false) (agreeing false) (omega arith) (omega arith) refl
     (right-allowed (judging findsNone) ourWriter p false, tt) in
     let s = exchange (judging findsNone) ourWriter p (right old user)
     (line 55 own) .input in
@@ -176,7 +177,8 @@ not-accepting h =
     let box = judging accepts in
     let p = start (opening Default) [] (account false) in
     let all = h (opening Default) opens-default refl .1 (account false) 1 []
-    (badTry (another notFound) ∷ rightTry ∷ []) (rightful false) (omega arith) (omega arith) refl (
+    (badTry (another notFound) ∷ rightTry ∷ []) (rightful false) (agreeing false)
+    (omega arith) (omega arith) refl (
       bad-allowed box ourWriter p (account false),
       (
         right-allowed box ourWriter
@@ -209,7 +211,8 @@ not-pretending h =
     let p = start (opening Default) [] (account false) in
     let q = next box ourWriter p (badTry (another notFound)) in
     let all = h (opening Default) opens-default refl .1 (account false) 2 []
-    (badTry (another notFound) ∷ badTry (another notFound) ∷ rightTry ∷ []) (rightful false) (omega arith) (omega arith) refl (
+    (badTry (another notFound) ∷ badTry (another notFound) ∷ rightTry ∷ []) (rightful false)
+    (agreeing false) (omega arith) (omega arith) refl (
       bad-allowed box ourWriter p (account false),
       (
         bad-allowed box ourWriter q (account false),
@@ -246,7 +249,7 @@ abbrev Expired : Conversation → List ℕ → Type 0
 Expired c p =
     let d = judge c p (found (account true)) in
     let reply = replyPacket (c .id) (d .reply) in
-    (octet 0 reply ≡ 4) × (octet 7 reply ≡ 52 → d .next .kept ≡ account true)
+    (octet 0 reply ≡ 4) × (octet 7 reply ≡ 52 → d .next .kept ≡ entryOf (account true))
 
 expired-first : (p : List ℕ) → Expired (firstConversation (opening Default)) p
 unfolding judge judgeResponse responseReason firstReason failuresAfter failurePacket textOf hexOf
@@ -256,11 +259,11 @@ expired-first p = which (validIn (firstConversation (opening Default)) (account 
     c : Conversation
     c = firstConversation (opening Default)
 
-    which : (v : Bool) → let e = firstReason v (account true) in
+    which : (v : Bool) → let e = firstReason v (entryOf (account true)) in
         let reply = replyPacket 255 (replyFor c e) in
         (octet 0 reply ≡ 4) × (octet 7 reply ≡ 52
-        → afterReason c (withFailures (failuresAfter false v 0) (account true)) e .kept
-        ≡ account true)
+        → afterReason c (entryOf (withFailures (failuresAfter false v 0) (account true))) e .kept
+        ≡ entryOf (account true))
     which true = (refl, λ h. refl)
     which false = (refl, λ h. absurd (omega arith))
 
@@ -289,7 +292,7 @@ not-leaving-record h =
     let p = start (opening Default) [] (account true) in
     let q = next box ourWriter p rightTry in
     let all = h (opening Default) opens-default refl .1 (account true) 0 []
-    (rightTry ∷ change own ∷ []) (rightful true) (omega arith) (omega arith) refl
+    (rightTry ∷ change own ∷ []) (rightful true) (agreeing true) (omega arith) (omega arith) refl
     (right-allowed box ourWriter p true, (change-allowed box ourWriter q true own, tt)) in
     let s = exchange box ourWriter p (right old user) (line 55 own) .input in
     let first = drew leavesRecord (p .box .conversation) s (first-new s)
@@ -310,11 +313,11 @@ not-leaving-record h =
     (drew leavesRecord (q .box .conversation) t fresh
     (ap (octet 0) (answered .0 .0) ∙ success-code _)
     (omega arith))
-    ∙ ap (λ (x : Bool). cond (x && d .found) (found (q .box .conversation .kept)) d)
+    ∙ ap (λ (x : Bool). cond (x && d .found) (found (accountOf (q .box .conversation .kept))) d)
     (eq-eqb (octet 0 (t .packet)) changeCode sent) in
     let updated = ap (λ (b : Lookup). b .account) changed
-    ∙ kept-handed (q .box .conversation .kept) d
-    (sym (ap (λ (b : Lookup). b .found) changed) ∙ answered .1) ∙ kept in
+    ∙ kept-handed (accountOf (q .box .conversation .kept)) d
+    (sym (ap (λ (b : Lookup). b .found) changed) ∙ answered .1) ∙ ap accountOf kept in
     let lets = subst (λ (b : Account). LetsIn box ourWriter b new) updated (answered .2) in
     let r = later box ourWriter (opening Default) [] (account true) [] in
     let u = exchange box ourWriter r (right new user) (line 55 own) .input in

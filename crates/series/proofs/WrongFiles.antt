@@ -14,8 +14,10 @@ use Rattle.octets.specs.Parts.{agrees}
 use Rattle.blocks.specs.Blocks.{runBlocks, zeros, padded, hashBlocks}
 use Rattle.md4.specs.Md4.{operation, operations, table1, table2, table3, round1, round2, round3, increased, wordsOf, block, initialRegisters, digestOf, md4Of}
 use Rattle.credentials.specs.Credentials.{ntHashOf}
-use Rattle.accounts.specs.Account.{noHash, hashOf, accountWith, found, changed, notFound, Rightful}
+use Rattle.accounts.specs.Account.{noHash, hashOf, accountWith, found, entryOf, changed, notFound}
+use Rattle.accounts.specs.Account.{Rightful, Agree}
 use Rattle.accounts.specs.declared.Account.{Account}
+use Rattle.accounts.proofs.Agreeing.{made-agrees}
 use Rattle.accounts.specs.declared.Lookup.{Lookup}
 use Rattle.authenticator.specs.declared.Retries.the-variants.{Default}
 use Rattle.smbpasswd.specs.Line.{colon, isAccount}
@@ -79,6 +81,9 @@ hash-new = refl
 rightful : Rightful account
 rightful = record { nt = refl; enabled = refl; hours = refl; dialin = refl }
 
+agreeing : Agree account
+agreeing = made-agrees _
+
 abbrev first : Step
 first = ours (right old user) (line 55 own)
 
@@ -96,14 +101,16 @@ change-is-allowed = (change-allowed ourBox ourWriter second true (another notFou
 
 -- the record that the change hands out
 abbrev handedOut : Lookup
-handedOut = found (changed account newHash)
+handedOut = found (changed (entryOf account) newHash)
 
 handed-out : exchange ourBox ourWriter second newPassword (line 1118 (another notFound)) .outcome .answer .updated ≡ handedOut
 handed-out =
     let ready = ready-first (opening Default) opens-default refl 0 [] (first ∷ change (another notFound) ∷ []) account (omega arith) (omega arith) refl in
-    change-updated account rightful 5 [] second old new (replicate 512 7) (line 1118 (another notFound))
-    (law account rightful 5 (PasswordChange ∷ []) begun first ready first-allowed .2) change-is-allowed
-    ∙ ap (λ (h : List ℕ). found (changed account h)) hash-new
+    change-updated account rightful agreeing 5 [] second old new (replicate 512 7)
+    (line 1118 (another notFound))
+    (law account rightful agreeing 5 (PasswordChange ∷ []) begun first ready first-allowed .2)
+    change-is-allowed
+    ∙ ap (λ (h : List ℕ). found (changed (entryOf account) h)) hash-new
 
 -- the claim, at this series
 series : (write : FileWriter) → KeptInFile ourBox ourWriter write

@@ -22,6 +22,7 @@ use Rattle.packets.specs.declared.Response as fields
 use Rattle.packets.proofs.ReadBack.{ResponseBack, response-back}
 use Rattle.accounts.specs.Account.{noHash, found, hashOf, accountWith}
 use Rattle.accounts.specs.declared.Account.{Account}
+use Rattle.accounts.proofs.Agreeing.{made-agrees}
 use Rattle.authenticator.specs.Admit.{isRepeat, stepRefusal}
 use Rattle.authenticator.specs.Conversation.{answerWith, withLast}
 use Rattle.authenticator.specs.Opening.{Opening, lmAllowed, firstConversation}
@@ -84,6 +85,7 @@ lm-peer l =
     record {
       account = refl;
       hash = refl;
+      agree = made-agrees _;
       permitted = record { enabled = refl; hours = refl; dialin = refl };
       unlocked = omega arith;
       byLm = by-lm;

@@ -31,39 +31,42 @@ use Rattle.series.specs.Series.{invalid, own, SeriesState, exchange, All
 use Rattle.series.specs.Writers.{ourWriter}
 use Rattle.series.proofs.Sample.{challenge, old, bad, user, account, line, badTry, try-within}
 
-differs : agrees (responseOf (ntHashOf bad) challenge) (responseOf (ntHashOf old) challenge) ≡ false
+pub differs : agrees (responseOf (ntHashOf bad) challenge) (responseOf (ntHashOf old) challenge) ≡ false
 unfolding agrees ntHashOf md4Of digestOf hashBlocks runBlocks padded zeros block increased round1
     round2 round3 operations operation table1 table2 table3 wordsOf initialRegisters responseOf
     desThree desEncrypt scheduleOf expandKey roundKeys crypt cipherF ip fp expansion permutation
     boxes s1 s2 s3 s4 s5 s6 s7 s8 pc1 pc2 shifts over
 differs = refl
 
--- at a place where box and peer have the sample's challenge, and the record has the right
--- password's hash, whatever its count
-module _ (box : Box) (p : SeriesState) (here : p .box .conversation .challenge ≡ challenge)
-    (there : p .peer .turn .challenge ≡ challenge) (hash : p .account .nt ≡ account false .nt)
-    (agree : Agree (p .account)) where
+-- what reaches the box, at any place
+module _ (box : Box) (p : SeriesState) where
   abbrev sent : List ℕ
   sent = exchange box ourWriter p (invalid bad user) (line 60 own) .input .packet
 
-  sent-fields : readResponse sent ≡ responseFields (p .peer .turn .challenge) bad
+  pub sent-fields : readResponse sent ≡ responseFields (p .peer .turn .challenge) bad
   sent-fields =
       ap (λ (x : List ℕ). readResponse (x ++ 9 ∷ []))
       (response-left (p .peer .turn) bad user (replicate 60 0)
       (response-written (p .peer .turn) bad user (replicate 60 0) refl refl (omega arith)))
       ∙ response-found (p .peer .turn) bad user (9 ∷ []) (omega arith) (omega arith) .fields
 
-  wrong : validIn (p .box .conversation) (p .account) (readResponse sent) ≡ false
+-- at a place where box and peer have the sample's challenge, and the record has the right
+-- password's hash, whatever its count
+module _ (box : Box) (p : SeriesState) (here : p .box .conversation .challenge ≡ challenge)
+    (there : p .peer .turn .challenge ≡ challenge) (hash : p .account .nt ≡ account false .nt)
+    (agree : Agree (p .account)) where
+  wrong : validIn (p .box .conversation) (p .account) (readResponse (sent box p))
+      ≡ false
   unfolding validByHash answersByHash
   wrong =
-      ap (validIn (p .box .conversation) (p .account)) sent-fields
+      ap (validIn (p .box .conversation) (p .account)) (sent-fields box p)
       ∙ by-hash (p .box .conversation .terms) (p .box .conversation .challenge) (p .account)
       (responseFields (p .peer .turn .challenge) bad) agree
       ∙ ap (λ (h : Hash). cond (h .present)
       (h .present && agrees (responseOf (ntHashOf bad) (p .peer .turn .challenge))
       (responseOf (h .octets) (p .box .conversation .challenge)))
-      (p .box .conversation .terms .lm && answersByHash (p .account .lm) (p .box .conversation .challenge)
-      (replicate 24 0))) hash
+      (p .box .conversation .terms .lm && answersByHash (p .account .lm)
+      (p .box .conversation .challenge) (replicate 24 0))) hash
       ∙ ap₂ (λ (x y : List ℕ). agrees (responseOf (ntHashOf bad) x) (responseOf (ntHashOf old) y))
       there here
       ∙ differs

@@ -62,6 +62,7 @@ use Rattle.series.proofs.Sample.{
   user,
   account,
   rightful,
+  agreeing,
   line,
   rightTry,
   right-allowed,
@@ -180,7 +181,7 @@ not-judging-strays h =
     let five = ap (λ (c : Conversation). ruledRefusal (unanswered c) stray) first-once
     ∙ stray-refused in
     let all = h (opening (Count 1)) opens-once refl .1 (account false) 0 []
-    (other stray ∷ rightTry ∷ []) (rightful false) (omega arith) (omega arith) refl
+    (other stray ∷ rightTry ∷ []) (rightful false) (agreeing false) (omega arith) (omega arith) refl
     (inr (λ z. omega (arith, five, z)), (right-allowed box ourWriter q false, tt)) in
     let l = line 55 own in
     let x = exchange box ourWriter q (right old user) l in

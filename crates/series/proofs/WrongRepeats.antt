@@ -84,6 +84,7 @@ use Rattle.series.proofs.Sample.{
   user,
   account,
   rightful,
+  agreeing,
   line,
   rightTry,
   newPassword,
@@ -264,7 +265,7 @@ module _ (past : List ℕ → List ℕ) (k : Kind) (h : Demand3 (judgesRepeats p
   guess-right =
       ap (λ (c : Conversation). right-guess c guess) (second-is right-guess (acceptsGuess k))
       ∙ right-valid judgedBy turn refl old user [] (omega arith, omega arith) (account false)
-      refl refl
+      refl (agreeing false) refl
 
   -- draws Success, where the same Failure was due
   pub not-judging-repeats : ⊥
@@ -316,7 +317,8 @@ module _ (k : Kind) (h : Demand3 (handsOutAgain k) ourWriter) where
       (rightTry ∷ change (another notFound) ∷ [])
   claimed =
       h (opening (Count 1)) opens-once refl .1 (account true) 0 []
-      (rightTry ∷ change (another notFound) ∷ []) (rightful true) (omega arith) (omega arith) refl
+      (rightTry ∷ change (another notFound) ∷ []) (rightful true) (agreeing true)
+      (omega arith) (omega arith) refl
       (right-allowed box ourWriter p true, (change-allowed box ourWriter q true (another notFound), tt)) .0
 
   response-sent : octet 0 (s .packet) ≡ responseCode

@@ -14,7 +14,7 @@ use Rattle.packets.specs.Response.{responsePacket, readResponse, responseWriteR
 use Rattle.packets.specs.declared.Response as fields
 use Rattle.packets.proofs.ReadBack.{response-back}
 use Rattle.packets.proofs.Writing as writing
-use Rattle.accounts.specs.Account.{found}
+use Rattle.accounts.specs.Account.{found, entryOf}
 use Rattle.authenticator.specs.declared.Reply.the-variants.{Failure}
 use Rattle.message.specs.Reasons.{authenticationFailure}
 use Rattle.authenticator.specs.Opening.{firstConversation}
@@ -42,6 +42,7 @@ use Rattle.series.proofs.Sample.{
   user,
   account,
   rightful,
+  agreeing,
   line,
   rightTry,
   right-allowed,
@@ -69,12 +70,29 @@ not-refusing-to-write n h =
     let writer = refusingToWrite n in
     let p = start (opening Default) [] (account false) in
     let all = h (opening Default) opens-default refl .1 (account false) 0 [] (rightTry ∷ [])
-    (rightful false) (omega arith) (omega arith) refl
+    (rightful false) (agreeing false) (omega arith) (omega arith) refl
     (right-allowed ourBox writer p false, tt) in
     let code = ap (octet 0) (all .0 .0 .0 .0) ∙ success-code _ in
     omega (arith, code, ap codeFor first-default ∙ padding-draws-nothing)
 
 -- ---- asks for the LM response to be judged
+
+-- a Response that is judged, and is not valid, draws 691
+module _ (c : Conversation) (ph : c .phase ≡ Response) (s : StepInput)
+    (not-valid : validIn c (s .account .account) (readResponse (s .packet)) ≡ false) where
+  found-not : (f l : Bool)
+      → (f && (not l && validIn c (s .account .account) (readResponse (s .packet)))) ≡ false
+  found-not true true = refl
+  found-not true false = not-valid
+  found-not false l = refl
+
+  pub fails : judge c (s .packet) (s .account) .reply
+      ≡ Failure authenticationFailure (mayRetry c authenticationFailure)
+  unfolding judge judgeResponse responseReason firstReason
+  fails =
+      ap (λ (x : Phase). judgeIn x c (s .packet) (s .account) .reply) ph
+      ∙ ap (λ (v : Bool). replyFor c (firstReason v (entryOf (s .account .account))))
+      (found-not (s .account .found) (isLocked (c .terms) (s .account .account)))
 
 -- with the flag 0, where LM is not allowed, no Response draws Success: it is refused, or draws a
 -- Failure
@@ -85,20 +103,6 @@ module _ (c : Conversation) (lm : c .terms .lm ≡ false) (ph : c .phase ≡ Res
   not-valid : validIn c (s .account .account) (readResponse (s .packet)) ≡ false
   unfolding valid
   not-valid = simp (flag, lm)
-
-  found-not : (f l : Bool)
-      → (f && (not l && validIn c (s .account .account) (readResponse (s .packet)))) ≡ false
-  found-not true true = refl
-  found-not true false = not-valid
-  found-not false l = refl
-
-  fails : judge c (s .packet) (s .account) .reply
-      ≡ Failure authenticationFailure (mayRetry c authenticationFailure)
-  unfolding judge judgeResponse responseReason firstReason
-  fails =
-      ap (λ (x : Phase). judgeIn x c (s .packet) (s .account) .reply) ph
-      ∙ ap (λ (v : Bool). replyFor c (firstReason v (s .account .account)))
-      (found-not (s .account .found) (isLocked (c .terms) (s .account .account)))
 
   no-success : octet 0 (replyOf (stepOn c s)) ≡ 3 → ⊥
   no-success e = which (case-of c (s .packet) (s .account) (s .buffer))
@@ -113,7 +117,7 @@ module _ (c : Conversation) (lm : c .terms .lm ≡ false) (ph : c .phase ≡ Res
       which (judged ok z) =
           let d = judge c (s .packet) (s .account) in
           let code = ap (λ (o : Outcome). octet 0 (replyOf o)) z
-          ∙ ap (octet 0) (reply-of c d (s .buffer) room ∙ ap (replyPacket (c .id)) fails)
+          ∙ ap (octet 0) (reply-of c d (s .buffer) room ∙ ap (replyPacket (c .id)) (fails c ph s not-valid))
           ∙ failure-code (c .id) _ in
           omega arith
 
@@ -122,7 +126,7 @@ unfolding writeResponseRefusal responseWriteRefusal
 not-asking-for-lm h =
     let p = start (opening Default) [] (account false) in
     let all = h (opening Default) opens-default refl .1 (account false) 0 [] (rightTry ∷ [])
-    (rightful false) (omega arith) (omega arith) refl
+    (rightful false) (agreeing false) (omega arith) (omega arith) refl
     (right-allowed ourBox asksForLm p false, tt) in
     let f = lmFields (responseFields (p .peer .turn .challenge) old) in
     let packet = responsePacket (p .peer .turn .id) f user in

@@ -9,7 +9,7 @@ use mathlib.Core.Path.{_≡_}
 use Prim.Native.Nat.{ℕ, _+_, _≤_, _<_, _^_}
 use lib.ListN.{length}
 use Rattle.octets.specs.Parts.{agrees}
-use Rattle.accounts.specs.Account.{accountWith, lookupOf, found, withFailures, Rightful, Agree}
+use Rattle.accounts.specs.Account.{accountWith, lookupOf, found, withFailures, Rightful}
 use Rattle.accounts.specs.declared.Account.{Account}
 use Rattle.accounts.specs.declared.Lookup.{Lookup}
 use Rattle.authenticator.specs.Opening.{Opening, retriesOf, opened}
@@ -115,14 +115,15 @@ module _ (box : Box) (writer : Writer) (write : FileWriter) (name file : List �
 
 -- Whatever file the box's record was found in, at whatever time and for whatever maximum age, and
 -- whatever count it was given then, for which a file has no place: along every series of demand 3
--- with that record, each change is kept by the file.
+-- with that record, each change is kept by the file. (Demand 3's premise on the round keys needs no
+-- saying: those of a record that was found in a file are its hashes' own.)
 abbrev pub KeptInFile : Box → Writer → FileWriter → Type 0
 KeptInFile box writer write =
     (name file : List ℕ) (now maxAge : ℕ) (a : Account)
     → findIn now maxAge name file .lookup ≡ found (withFailures 0 a)
     → (o : Opening) → opened o .refusal ≡ 0 → length (o .challenge) ≡ 8
     → (k : ℕ) (behind : List ℕ) (ms : List Step)
-    → Rightful a → Agree a → k ≤ retriesOf (o .retries) → a .failures + k < o .limit
+    → Rightful a → k ≤ retriesOf (o .retries) → a .failures + k < o .limit
     → collect packetKinds ms ≡ plan k (a .expired)
     → Along (next box writer) (Allowed box writer a) (start o behind a) ms
     → Along (next box writer) (KeptAt box writer write name file) (start o behind a) ms

@@ -1,6 +1,6 @@
 -- Our box, and wrong ones: one that refuses everything, and boxes that are ours but for one slip
 -- each. Demand 3 holds of ours (proofs/Demand3) and of none of the others (proofs/Wrong,
--- WrongRefusals, WrongRepeats, WrongCounts).
+-- WrongRefusals, WrongRepeats, WrongCounts, WrongSchedules).
 -- Assumes nothing: these are definitions.
 use mathlib.Core.Bool.{Bool, true, cond, not, _&&_}
 use mathlib.Core.List.{List}
@@ -12,7 +12,8 @@ use Rattle.packets.specs.Frame.{octet, writtenOver}
 use Rattle.packets.specs.Response.{readResponse}
 use Rattle.authenticator.specs.Admit.{refusalFor}
 use Rattle.authenticator.specs.Encode.{replyPacket}
-use Rattle.accounts.specs.Account.{notFound, found, lookupOf, accountOf, withFailures}
+use Rattle.accounts.specs.Account.{notFound, found, lookupOf, entryOf, withSchedules, accountOf}
+use Rattle.accounts.specs.Account.{withFailures}
 use Rattle.accounts.specs.declared.Lookup.{Lookup}
 use Rattle.verify.specs.Lockout.{isLocked, oneMore}
 use Rattle.verify.specs.Response.{foundValid}
@@ -174,6 +175,44 @@ limitedTo other c s =
       next = withLimit (c .terms .limit) (d .next);
       updated = d .updated;
     }
+
+-- ---- boxes that take other round keys (request 2026-10)
+
+abbrev pub isResponse : Conversation → StepInput → Bool
+isResponse c s = eqb (octet 0 (s .packet)) responseCode
+
+-- a judgement that hands out another record
+abbrev pub handingOut : Lookup → Judgement → Judgement
+handingOut l d = record { reply = d .reply; fault = d .fault; next = d .next; updated = l }
+
+-- a record with the round keys of its own hashes, made anew, and with those of another record
+abbrev pub repaired : Lookup → Lookup
+repaired l = lookupOf (l .found) (accountOf (entryOf (l .account)))
+
+abbrev pub carriedOn : Lookup → Lookup → Lookup
+carriedOn from l =
+    lookupOf (l .found)
+    (withSchedules (entryOf (l .account)) (from .account .«nt_keys») (from .account .«lm_keys»))
+
+-- judges a Response by the hashes, whatever round keys the record carries, and hands it out with
+-- those
+abbrev pub judgesByHash : Judge
+judgesByHash c s =
+    let d = judge c (s .packet) (repaired (s .account)) in
+    handingOut (cond (isResponse c s) (carriedOn (s .account) (d .updated)) (d .updated)) d
+
+-- judges by the round keys that the record carries, and hands it out after a Response with those of
+-- its hashes
+abbrev pub repairsSchedules : Judge
+repairsSchedules c s =
+    let d = judge c (s .packet) (s .account) in
+    handingOut (cond (isResponse c s) (repaired (d .updated)) (d .updated)) d
+
+-- the change puts the new hash in and leaves the round keys of the record that is passed with it
+abbrev pub keepsSchedules : Judge
+keepsSchedules c s =
+    let d = judge c (s .packet) (s .account) in
+    handingOut (cond (isChange c s) (carriedOn (s .account) (d .updated)) (d .updated)) d
 
 -- ---- boxes that judge as ours does, but say nothing to some of what they should judge
 
