@@ -20,6 +20,6 @@ invalid = 4294967295
 abbrev pub valueOr : Bool → ℕ → ℕ
 valueOr valid n = cond valid n invalid
 
--- 0.7.0: major, minor and patch, a byte each
+-- 0.8.0: major, minor and patch, a byte each
 abbrev pub interfaceVersion : ℕ
-interfaceVersion = 1792
+interfaceVersion = 2048

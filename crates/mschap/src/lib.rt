@@ -14,8 +14,8 @@ mod steps;
 ghost use mathlib.Core.Path.{_≡_};
 ghost use Rattle.mschap.specs.Sizes.{interfaceVersion};
 
-// 0.7.0: major, minor and patch, a byte each.
-const INTERFACE_VERSION: u32 = 1792;
+// 0.8.0: major, minor and patch, a byte each.
+const INTERFACE_VERSION: u32 = 2048;
 
 // What a function returns that has a value to return, and was passed none that is valid.
 pub(crate) const INVALID: u32 = 4294967295;

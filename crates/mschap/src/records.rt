@@ -1,5 +1,9 @@
-// A record: made of flags and hashes, read, and its count read and set.
+// A record: made of flags and hashes, read, its count read and set, and its response.
 use crate::INVALID;
+use accounts::EntryLookup;
+use accounts::Hash;
+use accounts::Schedules;
+use accounts::entry_failures;
 use layouts::BAD_ARGUMENT;
 use layouts::decode_head;
 use layouts::is_encoded_record;
@@ -8,18 +12,27 @@ use layouts::RECORD_HEAD_SIZE;
 use layouts::keys_at;
 use layouts::put_record;
 use layouts::put_record_head;
-use layouts::wide;
+use layouts::fill;
 use numbers::are_record_arguments;
 use numbers::flags_of;
 use numbers::record_from;
+use packets::CHALLENGE_SIZE;
 use packets::HASH_SIZE;
 use refusals::both;
 ghost use mathlib.Core.Path.{_≡_};
+ghost use mathlib.Core.Bool.{cond};
 ghost use Rattle.mschap.specs.Records.{MakeRecordCall, readRecordArguments};
 ghost use Rattle.mschap.specs.Records.{ReadRecordCall, recordFailures};
 ghost use Rattle.mschap.specs.Records.{setFailuresArguments, SetFailuresCall};
+ghost use Rattle.mschap.specs.Records.{isOneHash, recordResponseArguments, namedHash};
+ghost use Rattle.mschap.specs.Records.{namedKeys, RecordResponseCall};
 
 const FAILURES_END: u32 = 256;
+
+// The flags of the two hashes.
+const NT: u32 = 2;
+
+const LM: u32 = 4;
 
 // Makes a record of flags and hashes.
 #[no_mangle]
@@ -106,4 +119,69 @@ pub extern "C" fn mschap_set_failures(account: &mut [u8], failures: u32) -> u32
     };
     put_record_head(after, account);
     0
+}
+
+// ---- its response
+
+fn is_one_hash(hash: u32) -> bool
+    ensures { λ r. ⌜ r ≡ isOneHash hash ⌝ }
+{
+    hash == NT || hash == LM
+}
+
+fn are_record_response_arguments(account: &[u8], hash: u32, challenge: &[u8]) -> bool
+    ensures { λ r. ⌜ r
+        ≡ recordResponseArguments (now (account .entry)) hash (now (challenge .entry)) ⌝ }
+{
+    both(
+        is_encoded_record(account),
+        both(is_one_hash(hash), challenge.len() == CHALLENGE_SIZE),
+    )
+}
+
+fn named_hash(account: &[u8], hash: u32) -> Hash
+    ensures { λ r. ⌜ r ≡ namedHash (now (account .entry)) hash ⌝ }
+{
+    let entry = decode_head(account).entry;
+    let nt = entry.nt;
+    let lm = entry.lm;
+    if hash == NT {
+        return nt;
+    }
+    lm
+}
+
+fn named_keys(account: &[u8], hash: u32) -> Schedules
+    ensures { λ r. ⌜ r ≡ namedKeys (now (account .entry)) hash ⌝ }
+{
+    if hash == NT {
+        return keys_at(account, RECORD_HEAD_SIZE);
+    }
+    keys_at(account, RECORD_HEAD_SIZE + KEYS_SIZE)
+}
+
+fn no_hash_refusal(hash: Hash) -> u8
+    ensures { λ r. ⌜ r ≡ cond (hash .present) 0 102 ⌝ }
+{
+    if hash.present { 0 } else { 102 }
+}
+
+// The response of the NT hash or of the LM hash of a record to a challenge, by the round keys that
+// the record carries. 102: it has no such hash.
+#[no_mangle]
+pub extern "C" fn mschap_record_response(
+    account: &[u8],
+    hash: u32,
+    challenge: &[u8],
+    out: &mut [u8],
+) -> u32
+    ensures { λ r. ⌜ RecordResponseCall (now (account .entry)) hash (now (challenge .entry))
+        (now (out .entry)) r (now (out .exit)) ⌝ }
+{
+    if !are_record_response_arguments(account, hash, challenge) {
+        return BAD_ARGUMENT;
+    }
+    let keys = named_keys(account, hash).keys;
+    let response = credentials::scheduled_response(keys, octets::eight_at(challenge, 0));
+    fill(no_hash_refusal(named_hash(account, hash)), &response, out)
 }
