@@ -19,7 +19,7 @@ use Rattle.accounts.specs.declared.Account.{Account}
 use Rattle.accounts.specs.declared.Lookup.{Lookup}
 use Rattle.verify.specs.Lockout.{isLocked}
 use Rattle.verify.specs.Response.{answers, valid, foundValid, firstReason, responseReason}
-use Rattle.verify.specs.Response.{answersByHash, validByHash}
+use Rattle.verify.specs.Response.{validByHash}
 use Rattle.verify.proofs.Carried.{by-hash}
 use Rattle.verify.specs.declared.Terms.{Terms}
 use Rattle.verify.proofs.Counting.{judged-below}

@@ -31,7 +31,8 @@ use Rattle.series.specs.Series.{invalid, own, SeriesState, exchange, All
 use Rattle.series.specs.Writers.{ourWriter}
 use Rattle.series.proofs.Sample.{challenge, old, bad, user, account, line, badTry, try-within}
 
-pub differs : agrees (responseOf (ntHashOf bad) challenge) (responseOf (ntHashOf old) challenge) ≡ false
+pub differs : agrees (responseOf (ntHashOf bad) challenge) (responseOf (ntHashOf old) challenge)
+    ≡ false
 unfolding agrees ntHashOf md4Of digestOf hashBlocks runBlocks padded zeros block increased round1
     round2 round3 operations operation table1 table2 table3 wordsOf initialRegisters responseOf
     desThree desEncrypt scheduleOf expandKey roundKeys crypt cipherF ip fp expansion permutation

@@ -1,14 +1,14 @@
 -- Demand 3 holds of no box that takes other round keys than ours does (document 02, request
--- 2026-10): one that judges by the hash what a record with others carries, one that hands such a
--- record out repaired, and one that leaves the old round keys beside the new hash of a change.
+-- 2026-10): one that judges by the hashes whatever round keys a record carries, one that replies so
+-- and counts as ours does, one that hands a record with other round keys out repaired, and one that
+-- leaves the old round keys beside the new hash of a change.
 -- Assumes nothing.
-use mathlib.Core.Bool.{Bool, true, false, cond, _&&_, true≢false}
+use mathlib.Core.Bool.{Bool, true, false, cond, not, _&&_, and-false, true≢false}
 use mathlib.Core.List.{List, [], _∷_}
 use mathlib.Core.Path.{_≡_, refl, sym, ap, _∙_, subst}
 use Prim.Native.Nat.{ℕ}
 use native.Mathlib.Omega.{arith}
 use borrow.Author.Tests.{eq-eqb}
-use lib.Dec.{eqb}
 use lib.ListN.{replicate}
 use Rattle.octets.specs.Parts.{agrees}
 use Rattle.octets.proofs.Parts.{agrees-refl, agrees-sym}
@@ -20,35 +20,41 @@ use Rattle.packets.specs.Frame.{octet}
 use Rattle.packets.specs.Response.{readResponse}
 use Rattle.packets.specs.declared.ChallengeFields.{ChallengeFields}
 use Rattle.packets.specs.declared.Response.{Response}
-use Rattle.accounts.specs.Account.{hashOf, schedulesFor, noSchedules, entryOf, withSchedules, found}
+use Rattle.accounts.specs.Account.{hashOf, noHash, schedulesFor, noSchedules, entryOf}
+use Rattle.accounts.specs.Account.{withSchedules, accountWith, found}
+use Rattle.accounts.proofs.Agreeing.{made-agrees}
 use Rattle.accounts.specs.declared.Account.{Account}
 use Rattle.accounts.specs.declared.Lookup.{Lookup}
-use Rattle.verify.specs.Lockout.{failuresAfter}
-use Rattle.verify.specs.Response.{answers, valid, counted}
+use Rattle.verify.specs.Lockout.{isLocked, failuresAfter}
+use Rattle.verify.specs.Response.{answers, valid, firstReason, responseReason, counted}
 use Rattle.authenticator.specs.Conversation.{awaitedCode}
 use Rattle.authenticator.specs.Encode.{version, replyPacket}
-use Rattle.authenticator.specs.Judge.{validIn, judgeResponse, judge}
+use Rattle.authenticator.specs.Judge.{validIn, replyFor, judgeResponse, judge}
 use Rattle.authenticator.specs.Opening.{firstConversation}
 use Rattle.authenticator.specs.Step.{Outcome}
-use Rattle.authenticator.specs.Steps.{StepInput, unanswered, StepClaim}
+use Rattle.authenticator.specs.Steps.{Box, unanswered, StepClaim}
 use Rattle.authenticator.specs.declared.Conversation.{Conversation}
 use Rattle.authenticator.specs.declared.Reply.{Reply}
+use Rattle.authenticator.specs.declared.Reply.the-variants.{Success}
 use Rattle.authenticator.specs.declared.Retries.the-variants.{Default, Count}
 use Rattle.authenticator.proofs.Openings.{opened-first}
 use Rattle.peer.specs.Write.{responseFields}
-use Rattle.series.specs.Series.{own, another, right, passwordChange, Packet, ours}
-use Rattle.series.specs.Series.{ExchangeInput, ChangeWithin, start, exchange, next, later}
-use Rattle.series.specs.Series.{Demand3}
+use Rattle.peer.specs.declared.Turn.{Turn}
+use Rattle.peer.proofs.Found.{response-found}
+use Rattle.series.specs.Series.{own, another, invalid, right, passwordChange, Packet, ours}
+use Rattle.series.specs.Series.{ExchangeInput, SeriesState, ChangeWithin, start, exchange}
+use Rattle.series.specs.Series.{next, later, Demand3}
 use Rattle.series.specs.Boxes.{Judge, judging, isResponse, repaired, carriedOn}
-use Rattle.series.specs.Boxes.{judgesByHash, repairsSchedules, keepsSchedules}
+use Rattle.series.specs.Boxes.{judgesByHash, repliesByHash, repairsSchedules, keepsSchedules}
 use Rattle.series.specs.Writers.{ourWriter}
 use Rattle.series.proofs.RoundTrips.{challenge-read}
 use Rattle.series.proofs.Sample.{challenge, openingOf, opening, opens-default, opens-limited}
 use Rattle.series.proofs.Sample.{old, bad, user, account, rightful, agreeing, line, rightTry}
 use Rattle.series.proofs.Sample.{try-within, right-allowed}
-use Rattle.series.proofs.SampleGuesses.{fieldsSaying, packetSaying, said-fields, said-code}
+use Rattle.series.proofs.SampleGuesses.{packetSaying, said-fields, said-code}
 use Rattle.series.proofs.SampleGuesses.{begun, guessAt, judging-took, judged-so, said-valid}
 use Rattle.series.proofs.Sent.{sent-carries, other-code}
+use Rattle.series.proofs.Taken.{right-valid}
 use Rattle.series.proofs.Wrong.{success-code, failure-code, drew, code-drawn}
 use Rattle.series.proofs.Wrong.{first-default, first-new}
 use Rattle.series.proofs.WrongPassword.{differs, sent-fields}
@@ -121,14 +127,13 @@ not-repairing h =
     other-keys (sym theirs
     ∙ ap (λ (l : Lookup). l .account .«nt_keys» .keys) (must-hand repairsSchedules h))
 
--- ---- the change leaves the round keys
+-- ---- a record with the round keys of "MyPw", whatever its hashes
 
--- a record with the round keys of "MyPw", whatever its hashes, does not let "bad" in where LM is
--- not allowed
+abbrev there : Conversation
+there = firstConversation (opening Default)
+
+-- does not let "bad" in, where LM is not allowed
 module _ (a : Account) (keys : a .«nt_keys» .keys ≡ schedulesOf (ntHashOf old)) where
-  abbrev there : Conversation
-  there = firstConversation (opening Default)
-
   bad-invalid : validIn there a (responseFields challenge bad) ≡ false
   unfolding valid answers
   bad-invalid = which (a .nt .present) _
@@ -140,6 +145,80 @@ module _ (a : Account) (keys : a .«nt_keys» .keys ≡ schedulesOf (ntHashOf ol
       which : (t x : Bool) → x ≡ false → cond t (t && x) false ≡ false
       which true x e = e
       which false x e = refl
+
+-- what our peer sends for "bad", after the sample's opening
+module _ (box : Box) (b : Account) where
+  abbrev toTry : SeriesState
+  toTry = later box ourWriter (opening Default) [] b []
+
+  abbrev tried : List ℕ
+  tried = exchange box ourWriter toTry (right bad user) (line 60 own) .input .packet
+
+  fields : readResponse tried ≡ responseFields challenge bad
+  fields =
+      sent-fields box toTry
+      ∙ ap (λ (f : ChallengeFields). responseFields (f .challenge) bad)
+      (challenge-read (opening Default) opens-default refl [])
+
+  tried-invalid : (a : Account) → a .«nt_keys» .keys ≡ schedulesOf (ntHashOf old)
+      → validIn (toTry .box .conversation) a (readResponse tried) ≡ false
+  tried-invalid a keys =
+      ap (λ (c : Conversation). validIn c a (readResponse tried)) first-default
+      ∙ ap (validIn there a) fields ∙ bad-invalid a keys
+
+-- ---- replies by the hash
+
+-- the hash of "bad", and the round keys of "MyPw"
+abbrev badOnly : Account
+badOnly = accountWith (hashOf (ntHashOf bad)) noHash false false false false
+
+abbrev turned : Account
+turned = withSchedules (entryOf badOnly) (schedulesFor (hashOf (ntHashOf old))) noSchedules
+
+-- with its own round keys it lets "bad" in
+hash-valid : validIn there badOnly (responseFields challenge bad) ≡ true
+hash-valid =
+    let t : Turn = record { id = 255; challenge = challenge } in
+    ap (validIn there badOnly)
+    (sym (response-found t bad user [] (omega arith) (omega arith) .fields))
+    ∙ right-valid there t refl bad user [] (omega arith, omega arith) badOnly refl (made-agrees _)
+    refl
+
+hash-accepted : (f : Response) → f ≡ responseFields challenge bad
+    → judgeResponse there (found badOnly) f .reply ≡ Success
+unfolding judgeResponse responseReason firstReason
+hash-accepted f e = ap (λ (v : Bool). replyFor there (firstReason v (entryOf badOnly)))
+    (ap (validIn there badOnly) e ∙ hash-valid)
+
+-- so it draws Success where an invalid try is passed this record, of another account
+pub not-replying-by-hash : Demand3 (judging repliesByHash) ourWriter → ⊥
+unfolding judge
+not-replying-by-hash h =
+    let box = judging repliesByHash in
+    let p = start (opening Default) [] (account false) in
+    let l = line 60 (another (found turned)) in
+    let s = exchange box ourWriter p (invalid bad user) l .input in
+    let locked = isLocked (p .box .conversation .terms) turned in
+    let meant = ap (λ (v : Bool). not locked && v) (tried-invalid box (account false) turned refl)
+    ∙ and-false (not locked) in
+    let all = h (opening Default) opens-default refl .1 (account false) 1 []
+    (ours (invalid bad user) l ∷ rightTry ∷ []) (rightful false) (agreeing false) (omega arith)
+    (omega arith) refl (
+      (try-within bad l refl (omega arith) (omega arith), meant),
+      (right-allowed box ourWriter (next box ourWriter p (ours (invalid bad user) l)) false, tt),
+    ) in
+    let code = code-drawn repliesByHash (p .box .conversation) s (first-new s) (omega arith)
+    (ap (octet 0) (all .0 .0 .0 .0) ∙ failure-code _ (textOf 691 1 version)) (omega arith) in
+    let reply = ap (λ (c : Conversation). judge c (s .packet) (found badOnly) .reply) first-default
+    ∙ hash-accepted (readResponse (s .packet)) (fields box (account false)) in
+    omega (
+      arith,
+      code,
+      ap (λ (x : Reply). octet 0 (replyPacket (p .box .conversation .id) x)) reply
+          ∙ success-code _,
+    )
+
+-- ---- the change leaves the round keys
 
 -- our peer's change from "MyPw" to "bad", and what is passed with it: a record with the round keys
 -- of "MyPw"
@@ -183,18 +262,14 @@ not-keeping-schedules h =
     ∙ ap (λ (x : Bool). cond x (carriedOn (found (account false)) d) d .account .«nt_keys» .keys)
     (eq-eqb (octet 0 (t .packet)) changeCode sent) in
     let b = exchange box ourWriter q toBad passedOld .outcome .answer .updated .account in
-    let r = later box ourWriter (opening Default) [] b [] in
+    let r = toTry box b in
     let u = exchange box ourWriter r (right bad user) (line 60 own) .input in
     let draws = answered .2 (opening Default) [] user [] (line 60 own) opens-default refl tt refl
     (try-within bad (line 60 own) refl (omega arith) (omega arith)) in
     let code = code-drawn keepsSchedules (r .box .conversation) u (first-new u) (omega arith)
     (ap (octet 0) (draws .0) ∙ success-code 255) (omega arith) in
-    let fields = sent-fields box r ∙ ap (λ (f : ChallengeFields). responseFields (f .challenge) bad)
-    (challenge-read (opening Default) opens-default refl []) in
-    let wrong = ap (λ (c : Conversation). validIn c b (readResponse (u .packet))) first-default
-    ∙ ap (validIn (firstConversation (opening Default)) b) fields ∙ bad-invalid b keys in
     let reply = fails (r .box .conversation) (ap (λ (c : Conversation). c .phase) first-default) u
-    wrong in
+    (tried-invalid box b b keys) in
     omega (
       arith,
       code,

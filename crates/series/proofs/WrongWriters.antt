@@ -117,7 +117,8 @@ module _ (c : Conversation) (lm : c .terms .lm ≡ false) (ph : c .phase ≡ Res
       which (judged ok z) =
           let d = judge c (s .packet) (s .account) in
           let code = ap (λ (o : Outcome). octet 0 (replyOf o)) z
-          ∙ ap (octet 0) (reply-of c d (s .buffer) room ∙ ap (replyPacket (c .id)) (fails c ph s not-valid))
+          ∙ ap (octet 0) (reply-of c d (s .buffer) room
+          ∙ ap (replyPacket (c .id)) (fails c ph s not-valid))
           ∙ failure-code (c .id) _ in
           omega arith
 

@@ -201,6 +201,12 @@ judgesByHash c s =
     let d = judge c (s .packet) (repaired (s .account)) in
     handingOut (cond (isResponse c s) (carriedOn (s .account) (d .updated)) (d .updated)) d
 
+-- replies by the hashes, and counts by the round keys
+abbrev pub repliesByHash : Judge
+repliesByHash c s =
+    handingOut (judge c (s .packet) (s .account) .updated)
+    (judge c (s .packet) (repaired (s .account)))
+
 -- judges by the round keys that the record carries, and hands it out after a Response with those of
 -- its hashes
 abbrev pub repairsSchedules : Judge
