@@ -17,6 +17,7 @@ use refusals::both;
 use verify::fault_number;
 use verify::fault_with;
 ghost use mathlib.Core.Path.{_≡_};
+ghost use lib.ListN.{length};
 ghost use Rattle.octets.specs.Parts.{over, overAt};
 ghost use Rattle.layouts.specs.Answers.{encodeResult, decodeResult};
 ghost use Rattle.layouts.specs.Answers.{answerHead, decodeAnswer, isEncodedAnswer};
@@ -88,8 +89,9 @@ pub fn is_encoded_answer(bytes: &[u8]) -> bool
 
 // Lays an answer over out: what it says, and the bytes of the round keys.
 pub fn put_answer(result: StepResult, keys: &[u8], out: &mut [u8])
-    ensures { λ _. ⌜ now (out .exit) ≡ overAt answerHeadSize (now (keys .entry))
-        (over (answerHead result) (now (out .entry))) ⌝ }
+    ensures { λ _. ⌜ (now (out .exit) ≡ overAt answerHeadSize (now (keys .entry))
+        (over (answerHead result) (now (out .entry))))
+        × (length (answerHead result) ≡ answerHeadSize) ⌝ }
 {
     let body = encode_result(result);
     lay_value(ANSWER_KIND, body, ANSWER_HEAD_SIZE, out);

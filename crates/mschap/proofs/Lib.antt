@@ -1,3 +1,4 @@
+pub mod Laying
 pub mod ListCalls
 pub mod OpenCalls
 pub mod StepCalls

@@ -75,9 +75,8 @@ fn put_stepped(
     conversation: &mut [u8],
     out: &mut [u8],
 ) -> u32
-    requires { ⌜ length (now account) ≡ recordSize ⌝ }
-    requires { ⌜ length (now conversation) ≡ conversationSize ⌝ }
-    requires { ⌜ length (now out) ≡ answerSize ⌝ }
+    requires { ⌜ (length (now account) ≡ recordSize)
+        × (length (now conversation) ≡ conversationSize) × (length (now out) ≡ answerSize) ⌝ }
     ensures { λ r. ⌜ AnswerPut phase stepped (now (account .entry)) (now (conversation .entry))
         (now (out .entry)) r (now (conversation .exit)) (now (out .exit)) ⌝ }
 {

@@ -2,7 +2,7 @@
 -- Assumes nothing.
 use mathlib.Core.Path.{ap, _∙_}
 use mathlib.Core.List.{List}
-use Prim.Native.Nat.{ℕ}
+use Prim.Native.Nat.{ℕ, suc}
 use native.Mathlib.Omega.{arith}
 use Rattle.octets.specs.Parts.{over, overAt}
 use Rattle.layouts.specs.Values.{answerKind}
@@ -24,12 +24,14 @@ returns c =
     let encoded = laid .before .before in
     let start = encoded .before .before .before in
     let v = start .args .result in
-    put .copy-at .ensures
-    ∙ ap (overAt answerHeadSize (start .args .keys .now))
-    (laid .lay-value .ensures
-    ∙ ap (λ (l : List ℕ). over l (start .args .out .now))
-    (front answerKind 44 (encodeResult v) (length-result v (sized start)) (omega arith)
-    (encoded .encode-result .ensures)))
+    let long = length-result v (sized start) in (
+      put .copy-at .ensures
+          ∙ ap (overAt answerHeadSize (start .args .keys .now))
+          (laid .lay-value .ensures
+          ∙ ap (λ (l : List ℕ). over l (start .args .out .now))
+          (front answerKind 44 (encodeResult v) long (omega arith) (encoded .encode-result .ensures))),
+      ap (λ (n : ℕ). suc (suc n)) long,
+    )
 
 pub put-answer-spec : {M : Type 1} → statement M
 put-answer-spec =

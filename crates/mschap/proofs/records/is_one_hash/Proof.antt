@@ -1,15 +1,18 @@
+-- `mschap::records::is_one_hash` meets its contract.
+-- Assumes nothing.
+use borrow.Author.Tests.{eq-eqb, ne-eqb}
 use Rattle.mschap.proofs.records.is_one_hash.Statement.{statement}
 use Rattle.mschap.proofs.records.is_one_hash.Tie as tie
-use Rattle.mschap.proofs.records.is_one_hash.Reads as reads
-use Rattle.mschap.proofs.records.is_one_hash.Lts as lts
+use borrow.Author.Needs.{needs}
 
--- src/records.rt:126:1
 returns : tie.Need-returns
-returns c = ?
+returns c = simp (eq-eqb _ 2 (c .if1 .taken))
 
--- src/records.rt:126:1
 returns-2 : tie.Need-returns-2
-returns-2 c = ?
+returns-2 c = simp (ne-eqb _ 2 (c .if1 .left))
 
 pub is-one-hash-spec : {M : Type 1} → statement M
-is-one-hash-spec = tie.close (tie.spec returns returns-2)
+is-one-hash-spec =
+    tie.close
+    (tie.spec
+    returns returns-2)

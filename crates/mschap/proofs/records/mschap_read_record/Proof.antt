@@ -6,13 +6,13 @@ use borrow.Author.Tests.{not-true, not-false, eqb-true}
 use mathlib.Core.List.{List}
 use Prim.Native.Nat.{ℕ}
 use lib.ListN.{length}
-use Rattle.accounts.specs.declared.Lookup.{Lookup}
+use Rattle.accounts.specs.declared.EntryLookup.{EntryLookup}
 use Rattle.octets.proofs.Laid.{filled}
 use Rattle.octets.specs.Parts.{over}
 use Rattle.layouts.specs.Call.{sized, numbered}
-use Rattle.layouts.specs.Records.{decodeRecord, isEncodedRecord}
+use Rattle.layouts.specs.Records.{decodeHead, isEncodedRecord}
 use Rattle.layouts.proofs.Filling.{both}
-use Rattle.layouts.proofs.RecordLaws.{SizedAccount, decoded-record-sized}
+use Rattle.layouts.proofs.RecordLaws.{SizedEntry, decoded-head-sized}
 use Rattle.numbers.specs.Flags.{flagsOf}
 use Rattle.mschap.specs.Records.{readRecordArguments}
 use Rattle.mschap.proofs.records.mschap_read_record.Statement.{statement}
@@ -49,20 +49,20 @@ returns-2 c =
     let valid =
     sym (passed .before .are-read-record-arguments .ensures) ∙ not-false _ (passed .if1 .left) in
     let s = sizes bytes (a .nt .now) (a .lm .now) valid in
-    let e = decoded .decode-record .ensures in
-    let v = decodeRecord bytes in
-    let whole : SizedAccount (v .account) = decoded-record-sized bytes in
+    let e = decoded .decode-head .ensures in
+    let v = decodeHead bytes in
+    let whole : SizedEntry (v .entry) = decoded-head-sized bytes in
     record {
       number = sym (ap (λ (t : Bool). numbered t 0) valid);
       says = flags .flags-of .ensures ∙ ap flagsOf e;
       ntHash =
           first .copy .ensures
-          ∙ ap (λ (l : Lookup). over (l .account .nt .octets) (a .nt .now)) e
-          ∙ filled (v .account .nt .octets) (a .nt .now) (s .0 ∙ sym (whole .nt));
+          ∙ ap (λ (l : EntryLookup). over (l .entry .nt .octets) (a .nt .now)) e
+          ∙ filled (v .entry .nt .octets) (a .nt .now) (s .0 ∙ sym (whole .nt));
       lmHash =
           second .copy2 .ensures
-          ∙ ap (λ (l : Lookup). over (l .account .lm .octets) (a .lm .now)) e
-          ∙ filled (v .account .lm .octets) (a .lm .now) (s .1 ∙ sym (whole .lm));
+          ∙ ap (λ (l : EntryLookup). over (l .entry .lm .octets) (a .lm .now)) e
+          ∙ filled (v .entry .lm .octets) (a .lm .now) (s .1 ∙ sym (whole .lm));
     }
 
 pub mschap-read-record-spec : {M : Type 1} → statement M

@@ -3,8 +3,8 @@
 use mathlib.Core.Path.{sym, ap, _∙_}
 use mathlib.Core.Bool.{Bool}
 use borrow.Author.Tests.{not-true, not-false}
-use Rattle.accounts.specs.declared.Lookup.{Lookup}
-use Rattle.layouts.specs.Records.{decodeRecord}
+use Rattle.accounts.specs.declared.EntryLookup.{EntryLookup}
+use Rattle.layouts.specs.Records.{decodeHead}
 use Rattle.mschap.specs.Sizes.{valueOr}
 use Rattle.mschap.specs.Records.{recordFailures}
 use Rattle.mschap.proofs.records.mschap_record_failures.Statement.{statement}
@@ -23,8 +23,8 @@ returns-2 c =
     let bytes = passed .before .before .before .args .account .now in
     let valid = sym (passed .before .is-encoded-record .ensures) ∙ not-false _ (passed .if1 .left)
     in
-    ap (λ (l : Lookup). l .account .failures) (decoded .decode-record .ensures)
-    ∙ ap (λ (t : Bool). valueOr t (decodeRecord bytes .account .failures)) (sym valid)
+    ap (λ (l : EntryLookup). l .entry .failures) (decoded .decode-head .ensures)
+    ∙ ap (λ (t : Bool). valueOr t (decodeHead bytes .entry .failures)) (sym valid)
 
 pub mschap-record-failures-spec : {M : Type 1} → statement M
 mschap-record-failures-spec =

@@ -1,72 +1,66 @@
-use borrow.Author.Needs.{needs}
+-- `mschap::records::mschap_record_response` meets its contract.
+-- Assumes nothing.
+use mathlib.Core.Path.{_≡_, refl, sym, ap, ap₂, _∙_}
+use mathlib.Core.Bool.{Bool, true, _&&_, cond}
+use mathlib.Core.List.{List}
+use Prim.Native.Nat.{ℕ}
+use borrow.Author.Tests.{not-true, not-false, eqb-true}
+use lib.ListN.{length}
+use Rattle.octets.proofs.Parts.{fixed-whole}
+use Rattle.credentials.specs.Credentials.{responseUnder}
+use Rattle.credentials.proofs.Laws.{length-response-under}
+use Rattle.packets.specs.Sizes.{answerSize, challengeSize}
+use Rattle.accounts.specs.declared.Hash.{Hash}
+use Rattle.accounts.specs.declared.Schedules.{Schedules}
+use Rattle.layouts.specs.Call.{sized}
+use Rattle.layouts.specs.Records.{isEncodedRecord}
+use Rattle.layouts.proofs.Filling.{both, fills-as, filled-with, refused-argument}
+use Rattle.mschap.specs.Records.{isOneHash, recordResponseArguments, namedHash, namedKeys}
 use Rattle.mschap.proofs.records.mschap_record_response.Statement.{statement}
 use Rattle.mschap.proofs.records.mschap_record_response.Tie as tie
-use Rattle.mschap.proofs.records.mschap_record_response.Reads as reads
-use Rattle.mschap.proofs.records.mschap_record_response.Lts as lts
-use Rattle.credentials.proofs.scheduled_response.Reads as scheduled-response-reads
-use Rattle.layouts.proofs.fill.Reads as fill-reads
-use Rattle.mschap.proofs.records.are_record_response_arguments.Reads as are-record-response-arguments-reads
-use Rattle.mschap.proofs.records.named_hash.Reads as named-hash-reads
-use Rattle.mschap.proofs.records.named_keys.Reads as named-keys-reads
-use Rattle.mschap.proofs.records.no_hash_refusal.Reads as no-hash-refusal-reads
-use Rattle.octets.proofs.eight_at.Reads as eight-at-reads
+use borrow.Author.Needs.{needs}
 
--- src/records.rt:181:9
-are-record-response-arguments-requires : tie.Need-are-record-response-arguments-requires
-are-record-response-arguments-requires c κs = search needs
-
--- src/records.rt:182:9
 returns : tie.Need-returns
-returns c = ?
+returns c =
+    let out = c .before .before .before .before .before .args .out .now in
+    refused-argument
+    (ap (λ (t : Bool). t && sized answerSize out)
+    (sym (c .before .are-record-response-arguments .ensures) ∙ not-true _ (c .if1 .taken)))
 
--- src/records.rt:184:16
-named-keys-requires : tie.Need-named-keys-requires
-named-keys-requires c κs = search needs
+-- the challenge has its size
+eight : (bytes : List ℕ) (hash : ℕ) (challenge : List ℕ)
+    → recordResponseArguments bytes hash challenge ≡ true → length challenge ≡ 8
+unfolding recordResponseArguments
+eight bytes hash challenge e =
+    eqb-true (length challenge) 8
+    (both (isOneHash hash) (sized 8 challenge) (both (isEncodedRecord bytes) _ e .1) .1)
 
--- src/records.rt:185:58
-eight-at-requires : tie.Need-eight-at-requires
-eight-at-requires c κs = search needs
-
--- src/records.rt:185:20
-scheduled-response-requires : tie.Need-scheduled-response-requires
-scheduled-response-requires c κs = search needs
-
--- src/records.rt:186:26
-named-hash-requires : tie.Need-named-hash-requires
-named-hash-requires c κs = search needs
-
--- src/records.rt:186:10
-no-hash-refusal-requires : tie.Need-no-hash-refusal-requires
-no-hash-refusal-requires c κs = search needs
-
--- src/records.rt:186:54
-slice-aggregate-fill : tie.Need-slice-aggregate-fill
-slice-aggregate-fill c = search needs
-
--- src/records.rt:186:5
-fill-requires : tie.Need-fill-requires
-fill-requires c κs = search needs
-
--- src/records.rt:171:1
-same-length : tie.Need-same-length
-same-length c = search needs
-
--- src/records.rt:171:1
 returns-2 : tie.Need-returns-2
-returns-2 c = ?
+returns-2 c =
+    let put = c .before .before in
+    let refusal = put .before .before .before in
+    let named = refusal .before in
+    let made = named .before in
+    let taken = made .before in
+    let keys = taken .before .before in
+    let passed = keys .before in
+    let a = passed .before .before .before .before .before .args in
+    let valid = sym (passed .before .are-record-response-arguments .ensures)
+    ∙ not-false _ (passed .if1 .left) in
+    let challenge = taken .eight-at .ensures
+    ∙ fixed-whole 8 (a .challenge .now)
+    (eight (a .account .now) (a .hash) (a .challenge .now) valid) in
+    let response = made .scheduled-response .ensures
+    ∙ ap₂ (λ (s : Schedules) (x : List ℕ). responseUnder (s .keys) x)
+    (keys .named-keys .ensures) challenge in
+    let number = refusal .no-hash-refusal .ensures
+    ∙ ap (λ (h : Hash). cond (h .present) 0 102) (named .named-hash .ensures) in
+    fills-as (ap (λ (t : Bool). t && sized answerSize (a .out .now)) (sym valid)) refl refl
+    (filled-with (ap length response ∙ length-response-under _ _) response number
+    (put .fill .ensures))
 
 pub mschap-record-response-spec : {M : Type 1} → statement M
 mschap-record-response-spec =
     tie.close
     (tie.spec
-    are-record-response-arguments-requires
-    returns
-    named-keys-requires
-    eight-at-requires
-    scheduled-response-requires
-    named-hash-requires
-    no-hash-refusal-requires
-    slice-aggregate-fill
-    fill-requires
-    same-length
-    returns-2)
+    (λ c κs. search needs) returns (λ c κs. search needs) (λ c κs. search needs) (λ c κs. search needs) (λ c κs. search needs) (λ c κs. search needs) (λ c. search needs) (λ c κs. search needs) (λ c. search needs) returns-2)

@@ -1,18 +1,22 @@
 -- `mschap::records::mschap_set_failures` meets its contract.
 -- Assumes nothing.
-use mathlib.Core.Path.{_≡_, refl, sym, ap, _∙_}
-use mathlib.Core.Bool.{true}
+use mathlib.Core.Path.{_≡_, sym, ap, _∙_}
+use mathlib.Core.Bool.{Bool, true}
 use mathlib.Core.List.{List}
 use Prim.Native.Nat.{ℕ, _<_}
 use native.Mathlib.Omega.{arith}
 use borrow.Author.Tests.{not-true, not-false, ltb-true}
 use lib.Dec.{ltb}
-use Rattle.accounts.specs.Account.{lookupOf, withFailures}
-use Rattle.accounts.specs.declared.Lookup.{Lookup}
-use Rattle.layouts.specs.Records.{encodeRecord, isEncodedRecord}
-use Rattle.layouts.proofs.Filling.{both, fills-as, refused-argument, valid-argument}
-use Rattle.layouts.proofs.RecordLaws.{length-encoded-record}
-use Rattle.mschap.specs.Records.{setFailuresArguments}
+use Rattle.octets.specs.Parts.{over}
+use Rattle.accounts.specs.Account.{entryFailures}
+use Rattle.accounts.specs.declared.Entry.{Entry}
+use Rattle.accounts.specs.declared.EntryLookup.{EntryLookup}
+use Rattle.layouts.specs.Call.{numbered}
+use Rattle.layouts.specs.Records.{recordHead, isEncodedRecord}
+use Rattle.layouts.proofs.Filling.{both, refused-argument}
+use Rattle.layouts.proofs.RecordLaws.{SizedEntry, decoded-head-sized, length-encoded-record}
+use Rattle.mschap.specs.Records.{setFailuresArguments, failuresSet}
+use Rattle.mschap.proofs.Laying.{head-over}
 use Rattle.mschap.proofs.records.mschap_set_failures.Statement.{statement}
 use Rattle.mschap.proofs.records.mschap_set_failures.Tie as tie
 use borrow.Author.Needs.{needs}
@@ -35,8 +39,8 @@ valid : (c : tie.Else1)
     → setFailuresArguments (start c .args .account .now) (start c .args .failures) ≡ true
 valid c = sym (c .before .are-set-failures-arguments .ensures) ∙ not-false _ (c .if1 .left)
 
-cast-with-failures : tie.Need-cast-with-failures
-cast-with-failures c =
+cast-entry-failures : tie.Need-cast-entry-failures
+cast-entry-failures c =
     let passed = c .before .before .before in
     let a = start passed .args in
     omega (arith, parts (a .account .now) (a .failures) (valid passed) .1)
@@ -44,25 +48,34 @@ cast-with-failures c =
 returns-2 : tie.Need-returns-2
 returns-2 c =
     let put = c .before .before in
-    let looked = put .before .before in
-    let counted = looked .before in
+    let counted = put .before .before in
     let decoded = counted .before .before in
     let passed = decoded .before .before in
     let a = start passed .args in
     let bytes = a .account .now in
-    let before = decoded .decode-record .result in
+    let long = length-encoded-record bytes (parts bytes (a .failures) (valid passed) .0) in
+    let head : EntryLookup → EntryLookup =
+    λ l. record { found = l .found; entry = entryFailures (a .failures) (l .entry) } in
     let value =
-    looked .lookup-of .ensures ∙ ap (lookupOf (before .found)) (counted .with-failures .ensures)
-    ∙ ap (λ (l : Lookup). lookupOf (l .found) (withFailures (a .failures) (l .account)))
-    (decoded .decode-record .ensures) in
-    valid-argument (valid passed)
-    (length-encoded-record bytes (parts bytes (a .failures) (valid passed) .0))
-    (fills-as refl refl (ap encodeRecord value) (put .put-record .ensures))
+    ap (λ (e : Entry). let l : EntryLookup = record {
+      found = decoded .decode-head .result .found;
+      entry = e;
+    } in l) (counted .entry-failures .ensures)
+    ∙ ap head (decoded .decode-head .ensures) in
+    record {
+      number = sym (ap (λ (t : Bool). numbered t 0) (valid passed));
+      bytes = put .put-record-head .ensures
+          ∙ ap (λ (l : EntryLookup). over (recordHead l) bytes) value
+          ∙ head-over (failuresSet bytes (a .failures)) bytes (whole bytes (a .failures)) long;
+    }
+  where
+    whole : (bytes : List ℕ) (n : ℕ) → SizedEntry (failuresSet bytes n .entry)
+    whole bytes n =
+        let s = decoded-head-sized bytes in record { nt = s .nt; lm = s .lm }
 
 pub mschap-set-failures-spec : {M : Type 1} → statement M
 mschap-set-failures-spec =
     tie.close
     (tie.spec
-    (λ c κs. search needs) (λ c. search needs) returns (λ c κs. search needs) cast-with-failures
-    (λ c κs. search needs) (λ c κs. search needs) (λ c κs. search needs) (λ c. search needs)
-    returns-2)
+    (λ c κs. search needs) (λ c. search needs) returns (λ c κs. search needs) cast-entry-failures
+    (λ c κs. search needs) (λ c κs. search needs) (λ c. search needs) returns-2)

@@ -1,21 +1,37 @@
-use borrow.Author.Needs.{needs}
+-- `mschap::records::named_hash` meets its contract.
+-- Assumes nothing.
+use mathlib.Core.Bool.{Bool, cond}
+use mathlib.Core.Path.{sym, ap, _∙_}
+use borrow.Author.Tests.{eq-eqb, ne-eqb}
+use Rattle.accounts.specs.declared.EntryLookup.{EntryLookup}
+use Rattle.accounts.specs.declared.Hash.{Hash}
+use Rattle.layouts.specs.Records.{decodeHead}
+use Rattle.numbers.specs.Flags.{ntFlag}
+use Prim.Native.Nat.{ℕ}
+use mathlib.Core.List.{List}
 use Rattle.mschap.proofs.records.named_hash.Statement.{statement}
 use Rattle.mschap.proofs.records.named_hash.Tie as tie
-use Rattle.mschap.proofs.records.named_hash.Reads as reads
-use Rattle.mschap.proofs.records.named_hash.Lts as lts
-use Rattle.layouts.proofs.decode_head.Reads as decode-head-reads
+use borrow.Author.Needs.{needs}
 
--- src/records.rt:145:17
-decode-head-requires : tie.Need-decode-head-requires
-decode-head-requires c κs = search needs
+abbrev chosen : List ℕ → Bool → Hash
+chosen bytes t = cond t (decodeHead bytes .entry .nt) (decodeHead bytes .entry .lm)
 
--- src/records.rt:149:9
 returns : tie.Need-returns
-returns c = ?
+returns c =
+    let d = c .before .before .before .before in
+    let bytes = d .before .before .args .account .now in
+    ap (λ (l : EntryLookup). l .entry .nt) (d .decode-head .ensures)
+    ∙ ap (chosen bytes) (sym (eq-eqb _ ntFlag (c .if1 .taken)))
 
--- src/records.rt:142:1
 returns-2 : tie.Need-returns-2
-returns-2 c = ?
+returns-2 c =
+    let d = c .before .before .before .before in
+    let bytes = d .before .before .args .account .now in
+    ap (λ (l : EntryLookup). l .entry .lm) (d .decode-head .ensures)
+    ∙ ap (chosen bytes) (sym (ne-eqb _ ntFlag (c .if1 .left)))
 
 pub named-hash-spec : {M : Type 1} → statement M
-named-hash-spec = tie.close (tie.spec decode-head-requires returns returns-2)
+named-hash-spec =
+    tie.close
+    (tie.spec
+    (λ c κs. search needs) returns returns-2)

@@ -2,22 +2,19 @@
 -- Assumes nothing.
 use mathlib.Core.Path.{refl, ap₂, _∙_}
 use mathlib.Core.Bool.{_&&_}
-use Rattle.mschap.specs.Step.{stepArguments}
 use Rattle.mschap.proofs.steps.are_step_arguments.Statement.{statement}
 use Rattle.mschap.proofs.steps.are_step_arguments.Tie as tie
 use borrow.Author.Needs.{needs}
 
 returns : tie.Need-returns
-unfolding stepArguments
 returns c =
     let account = c .before .before in
     c .both2 .ensures
-    ∙ ap₂ _&&_ (account .before .is-encoded-conversation .ensures)
-    (c .before .both .ensures ∙ ap₂ _&&_ (account .is-encoded-record .ensures) refl)
+    ∙ ap₂ _&&_ (account .before .is-conversation .ensures)
+    (c .before .both .ensures ∙ ap₂ _&&_ (account .is-record .ensures) refl)
 
 pub are-step-arguments-spec : {M : Type 1} → statement M
 are-step-arguments-spec =
     tie.close
     (tie.spec
-    (λ c κs. search needs) (λ c κs. search needs) (λ c κs. search needs) (λ c κs. search needs)
-    returns)
+    (λ c κs. search needs) (λ c κs. search needs) (λ c κs. search needs) (λ c κs. search needs) returns)

@@ -1,30 +1,27 @@
-use borrow.Author.Needs.{needs}
+-- `mschap::steps::judging_at` meets its contract.
+-- Assumes nothing.
+use mathlib.Core.Bool.{Bool, true, false, cond}
+use mathlib.Core.Path.{_≡_, refl, ap, _∙_}
+use Prim.Native.Nat.{ℕ, _+_, _*_}
+use native.Mathlib.Omega.{arith}
+use Rattle.layouts.specs.Records.{ntKeysAt, lmKeysAt}
+use Rattle.verify.specs.Response.{usesNt}
 use Rattle.mschap.proofs.steps.judging_at.Statement.{statement}
 use Rattle.mschap.proofs.steps.judging_at.Tie as tie
-use Rattle.mschap.proofs.steps.judging_at.Reads as reads
-use Rattle.mschap.proofs.steps.judging_at.Lts as lts
-use Rattle.octets.proofs.where_both.Reads as where-both-reads
+use borrow.Author.Needs.{needs}
 
--- src/steps.rt:66:28
-where-both-requires : tie.Need-where-both-requires
-where-both-requires c κs = search needs
+-- the place, by which round keys are read
+chosen : (t : Bool) → _≡_ {A = ℕ} (42 + 8 * cond t 0 48) (cond t ntKeysAt lmKeysAt)
+chosen true = refl
+chosen false = refl
 
--- src/steps.rt:66:28
-cast-result : tie.Need-cast-result
-cast-result c = search needs
-
--- src/steps.rt:66:24
-mul-result : tie.Need-mul-result
-mul-result c = search needs
-
--- src/steps.rt:66:5
-add-result : tie.Need-add-result
-add-result c = search needs
-
--- src/steps.rt:63:1
 returns : tie.Need-returns
-returns c = ?
+returns c =
+    let a = c .before .args in
+    ap (λ (n : ℕ). 42 + 8 * n) (c .where-both .ensures) ∙ chosen (usesNt (a .flag) (a .nt))
 
 pub judging-at-spec : {M : Type 1} → statement M
 judging-at-spec =
-    tie.close (tie.spec where-both-requires cast-result mul-result add-result returns)
+    tie.close
+    (tie.spec
+    (λ c κs. search needs) (λ c. search needs) (λ c. search needs) (λ c. search needs) returns)
