@@ -197,6 +197,16 @@ impl Conversation {
         }
     }
 
+    // The refusal of a packet; 0 is none. Whoever asks first need not get the round keys ready for a
+    // packet that is refused.
+    pub fn refusal_of(self, packet: &[u8], reply: &[u8]) -> u8
+        ensures { λ r. ⌜ r ≡ stepRefusal self (now (packet .entry)) (now (reply .entry)) ⌝ }
+    {
+        let last = self.last;
+        let repeated = is_repeat(last, packet);
+        self.refusal(repeated, packet, reply)
+    }
+
     // One step, by an entry and the round keys beside the hash that counts for the packet: those of
     // the NT hash where `verify::uses_nt` says so, else those of the LM hash. Whoever has a record
     // in another form than `Lookup` need not make one.

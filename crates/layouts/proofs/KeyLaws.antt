@@ -9,8 +9,8 @@ use lib.Dec.{lit<}
 use lib.ListN.{length, take, drop, getD, length-append, length-drop, take-append-drop}
 use lib.Seq.{take-suc, length-take-le, drop-cons, drop-drop, take-at, drop-at, getD-take, getD-drop}
 use Rattle.octets.specs.Parts.{part}
-use Rattle.octets.specs.Numbers.{toBe, fromBe}
-use Rattle.octets.proofs.Numbers.{Octets, Below, length-digits, fromBe-toBe, toBe-fromBe}
+use Rattle.octets.specs.Numbers.{toLe, fromLe}
+use Rattle.octets.proofs.Numbers.{Octets, Below, length-toLe, fromLe-toLe, toLe-fromLe}
 use Rattle.octets.proofs.Parts.{length-part}
 use Rattle.accounts.specs.declared.Account.{Account}
 use Rattle.layouts.specs.Keys.{bothKeysSize, encodeKeys, decodeKeys, encodeSchedules}
@@ -39,14 +39,14 @@ length-decoded zero b = refl
 length-decoded (suc n) b = ap suc (length-decoded n (drop 8 b))
 
 pub decoded-at : (n i : ℕ) (b : List ℕ) → i < n
-    → getD (decodeKeys n b) i 0 ≡ fromBe (part (8 * i) 8 b)
+    → getD (decodeKeys n b) i 0 ≡ fromLe (part (8 * i) 8 b)
 unfolding decodeKeys
 decoded-at zero i b h = absurd (omega arith)
 decoded-at (suc n) zero b h = refl
 decoded-at (suc n) (suc i) b h =
     let place : 8 + 8 * i ≡ 8 * suc i = omega arith in
     decoded-at n i (drop 8 b) (omega arith)
-    ∙ ap (λ (l : List ℕ). fromBe (take 8 l)) (drop-drop (8 * i) 8 b
+    ∙ ap (λ (l : List ℕ). fromLe (take 8 l)) (drop-drop (8 * i) 8 b
     ∙ ap (λ (k : ℕ). drop k b) place)
 
 -- ---- numbers encoded
@@ -55,15 +55,15 @@ pub length-encoded : (ks : List ℕ) → length (encodeKeys ks) ≡ 8 * length k
 unfolding encodeKeys
 length-encoded [] = refl
 length-encoded (k ∷ ks) =
-    length-append (toBe 8 k) (encodeKeys ks)
-    ∙ ap₂ (λ (m n : ℕ). m + n) (length-digits 8 8 k) (length-encoded ks) ∙ omega arith
+    length-append (toLe 8 k) (encodeKeys ks)
+    ∙ ap₂ (λ (m n : ℕ). m + n) (length-toLe 8 k) (length-encoded ks) ∙ omega arith
 
 pub encoded-join : (xs ys : List ℕ) → encodeKeys (xs ++ ys) ≡ encodeKeys xs ++ encodeKeys ys
 unfolding encodeKeys
 encoded-join [] ys = refl
 encoded-join (k ∷ ks) ys =
-    ap (λ (l : List ℕ). toBe 8 k ++ l) (encoded-join ks ys)
-    ∙ sym (append-assoc (toBe 8 k) (encodeKeys ks) (encodeKeys ys))
+    ap (λ (l : List ℕ). toLe 8 k ++ l) (encoded-join ks ys)
+    ∙ sym (append-assoc (toLe 8 k) (encodeKeys ks) (encodeKeys ys))
 
 -- those of a record
 pub length-schedules : (a : Account) → length (a .«nt_keys» .keys) ≡ 48
@@ -79,7 +79,7 @@ length-schedules a e f =
 
 -- one more
 pub encoded-more : (i : ℕ) (ks : List ℕ) → i < length ks
-    → encodeKeys (take (suc i) ks) ≡ encodeKeys (take i ks) ++ toBe 8 (getD ks i 0)
+    → encodeKeys (take (suc i) ks) ≡ encodeKeys (take i ks) ++ toLe 8 (getD ks i 0)
 unfolding encodeKeys
 encoded-more i ks h =
     ap encodeKeys (take-suc ks i 0 h) ∙ encoded-join (take i ks) (getD ks i 0 ∷ [])
@@ -97,9 +97,9 @@ unfolding encodeKeys decodeKeys
 keys-back [] h = refl
 keys-back (k ∷ ks) h =
     ap₂ (λ (n : ℕ) (l : List ℕ). n ∷ decodeKeys (length ks) l)
-    (ap fromBe (take-at (toBe 8 k) (encodeKeys ks) 8 (length-digits 8 8 k))
-    ∙ fromBe-toBe 8 k ∙ mod-eq-of-lt (h 0))
-    (drop-at (toBe 8 k) (encodeKeys ks) 8 (length-digits 8 8 k))
+    (ap fromLe (take-at (toLe 8 k) (encodeKeys ks) 8 (length-toLe 8 k))
+    ∙ fromLe-toLe 8 k ∙ mod-eq-of-lt (h 0))
+    (drop-at (toLe 8 k) (encodeKeys ks) 8 (length-toLe 8 k))
     ∙ ap (λ (l : List ℕ). k ∷ l) (keys-back ks (λ i. h (suc i)))
 
 octets-taken : (n : ℕ) (b : List ℕ) → Octets b → Octets (take n b)
@@ -118,8 +118,8 @@ bytes-back (suc n) b e o =
     let eight : length (part 0 8 b) ≡ 8 = length-part 0 8 b (omega (arith, e)) in
     let rest : length (drop 8 b) ≡ 8 * n = length-drop 8 b ∙ omega (arith, e) in
     ap₂ _++_
-    (subst (λ (k : ℕ). toBe k (fromBe (part 0 8 b)) ≡ part 0 8 b) eight
-    (toBe-fromBe (part 0 8 b) (octets-taken 8 b o)))
+    (subst (λ (k : ℕ). toLe k (fromLe (part 0 8 b)) ≡ part 0 8 b) eight
+    (toLe-fromLe (part 0 8 b) (octets-taken 8 b o)))
     (bytes-back n (drop 8 b) rest (λ i. subst (λ (x : ℕ). x < 256) (sym (getD-drop 8 b i 0))
     (o (8 + i))))
     ∙ take-append-drop 8 b

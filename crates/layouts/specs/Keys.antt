@@ -1,12 +1,12 @@
 -- The layout of stored round keys (document 02, request 2026-10): each number in eight bytes, the
--- most significant first. Every eight bytes are a number, so no bytes of theirs are wrong.
+-- least significant first, as most machines have it. Every eight bytes are a number, so no bytes of theirs are wrong.
 -- Assumes nothing: these are definitions.
 use mathlib.Core.Bool.{cond}
 use mathlib.Core.List.{List, [], _∷_, _++_}
 use Prim.Native.Nat.{ℕ, zero, suc, _*_}
 use lib.ListN.{drop, replicate}
 use Rattle.octets.specs.Parts.{part}
-use Rattle.octets.specs.Numbers.{toBe, fromBe}
+use Rattle.octets.specs.Numbers.{toLe, fromLe}
 use Rattle.credentials.specs.Credentials.{schedulesSize}
 use Rattle.accounts.specs.declared.Account.{Account}
 use Rattle.accounts.specs.declared.Schedules.{Schedules}
@@ -21,12 +21,12 @@ bothKeysSize = 2 * keysSize
 
 unfoldable pub encodeKeys : List ℕ → List ℕ
 encodeKeys [] = []
-encodeKeys (k ∷ ks) = toBe 8 k ++ encodeKeys ks
+encodeKeys (k ∷ ks) = toLe 8 k ++ encodeKeys ks
 
 -- n numbers
 unfoldable pub decodeKeys : ℕ → List ℕ → List ℕ
 decodeKeys zero bytes = []
-decodeKeys (suc n) bytes = fromBe (part 0 8 bytes) ∷ decodeKeys n (drop 8 bytes)
+decodeKeys (suc n) bytes = fromLe (part 0 8 bytes) ∷ decodeKeys n (drop 8 bytes)
 
 -- those from the place at on; zeros where the bytes do not reach so far
 abbrev pub keysAt : ℕ → List ℕ → Schedules

@@ -4,7 +4,7 @@ use accounts::Schedules;
 ghost use mathlib.Core.Path.{_≡_};
 ghost use Prim.Native.Nat.{_+_, _≤_};
 ghost use lib.ListN.{length};
-ghost use Rattle.octets.specs.Numbers.{fromBe};
+ghost use Rattle.octets.specs.Numbers.{fromLe};
 ghost use Rattle.octets.specs.Parts.{part, overAt};
 ghost use Rattle.layouts.specs.Keys.{keysSize, encodeKeys, decodeKeys, keysAt};
 ghost use Rattle.layouts.specs.Keys.{encodeSchedules};
@@ -15,21 +15,20 @@ pub const BOTH_KEYS_SIZE: usize = 768;
 
 const NUMBERS: usize = 48;
 
-// The number in the eight bytes from a place on: each is read once, and the compiler makes one load
-// of them.
+// The number in the eight bytes from a place on, of which the compiler makes one load.
 fn number_at(bytes: &[u8], at: usize) -> u64
     requires { ⌜ at + 8 ≤ length (now bytes) ⌝ }
-    ensures { λ r. ⌜ r ≡ fromBe (part at 8 (now (bytes .entry))) ⌝ }
+    ensures { λ r. ⌜ r ≡ fromLe (part at 8 (now (bytes .entry))) ⌝ }
 {
     octets::u64_from_be([
-        bytes[at],
-        bytes[at + 1],
-        bytes[at + 2],
-        bytes[at + 3],
-        bytes[at + 4],
-        bytes[at + 5],
-        bytes[at + 6],
         bytes[at + 7],
+        bytes[at + 6],
+        bytes[at + 5],
+        bytes[at + 4],
+        bytes[at + 3],
+        bytes[at + 2],
+        bytes[at + 1],
+        bytes[at],
     ])
 }
 
@@ -66,7 +65,7 @@ fn put_keys(keys: [u64; 48], out: &mut [u8], at: usize)
 {
     let mut i: usize = 0;
     while i < NUMBERS {
-        octets::copy_at(out, at + 8 * i, &octets::u64_to_be(keys[i]));
+        octets::copy_at(out, at + 8 * i, &octets::u64_to_le(keys[i]));
         i += 1;
     }
 }

@@ -2,26 +2,39 @@
 -- never refuses an encoding of its own as a bad argument.
 -- Assumes nothing.
 use mathlib.Core.Bool.{Bool, true, false, cond}
-use mathlib.Core.List.{List}
-use mathlib.Core.Path.{_≡_, refl, sym, ap, _∙_, subst}
-use Prim.Native.Nat.{ℕ, _<_}
+use mathlib.Core.List.{List, _++_}
+use mathlib.Core.Path.{_≡_, refl, sym, ap, ap₂, _∙_, subst}
+use Prim.Native.Nat.{ℕ, suc, _*_, _<_}
 use native.Mathlib.Omega.{arith}
 use lib.Dec.{eqb}
-use lib.ListN.{length, replicate}
-use Rattle.credentials.specs.Credentials.{unsealedAs, passwordIn}
+use lib.ListN.{length, take, replicate}
+use lib.Seq.{take-all, take-at, drop-at}
+use Rattle.octets.proofs.Parts.{length-part}
+use Rattle.credentials.specs.Credentials.{schedulesSize, unsealedAs, passwordIn}
 use Rattle.credentials.proofs.Laws.{length-nt}
 use Rattle.message.specs.Reasons.{passwordExpired, changingPassword}
 use Rattle.packets.specs.Response.{readResponse}
 use Rattle.packets.specs.Change.{readChange}
 use Rattle.packets.specs.declared.Change as changes
 use Rattle.authenticator.proofs.Spends.{length-incremented}
-use Rattle.accounts.specs.Account.{blankAccount, notFound, found, changed}
+use Rattle.accounts.specs.Account.{
+  blankEntry,
+  notFound,
+  found,
+  changed,
+  schedulesFor,
+  withSchedules,
+  accountOf,
+  entryOf,
+  lookupOf,
+  entryLookupOf,
+}
 use Rattle.authenticator.specs.Conversation.{ended, retried, closed}
 use Rattle.authenticator.specs.Opening.{Opening, openRefusal, openedIssued, firstConversation}
 use Rattle.authenticator.specs.Opening.{openingPacket, opened}
-use Rattle.authenticator.proofs.Steps.{Case, refused, repeated, judged, case-of, told}
-use Rattle.authenticator.specs.declared.Judgement.{Judgement}
-use Rattle.authenticator.specs.Judge.{reasonOf, mayRetry, replyFor, afterReason}
+use Rattle.authenticator.proofs.Steps.{Case, refused, repeated, judged, case-of}
+use Rattle.authenticator.proofs.Steps as steps-laws
+use Rattle.authenticator.specs.Judge.{Judgement, reasonOf, mayRetry, replyFor, afterReason}
 use Rattle.authenticator.specs.Judge.{judgeResponse, changeJudgement, judgeChange}
 use Rattle.authenticator.specs.Judge.{judgeIn, judge}
 use Rattle.verify.specs.Response.{counted, responseReason}
@@ -30,11 +43,15 @@ use Rattle.verify.specs.Faults.{faultNumber, isFaultless}
 use Rattle.verify.specs.Change.{changeFault, checkedChange}
 use Rattle.verify.specs.declared.CheckedChange.{CheckedChange}
 use Rattle.authenticator.specs.Step.{Outcome, step, refusalIn, reasonIn, stepFault}
+use Rattle.authenticator.specs.Step.{steppedOf, handsBack, handedOut}
+use Rattle.authenticator.proofs.Carried.{handed-back}
 use Rattle.authenticator.specs.declared.Answer.{Answer}
 use Rattle.authenticator.specs.declared.Reply.{Reply}
 use Rattle.authenticator.specs.declared.Reply.the-variants.{Success, Failure}
 use Rattle.verify.proofs.Reasons.{three-digits, response-reason}
-use Rattle.accounts.specs.declared.Account.{Account}
+use Rattle.accounts.specs.declared.Entry.{Entry}
+use Rattle.accounts.specs.declared.EntryLookup.{EntryLookup}
+use Rattle.accounts.specs.declared.Schedules.{Schedules}
 use Rattle.accounts.specs.declared.Lookup.{Lookup}
 use Rattle.authenticator.specs.declared.Conversation.{Conversation}
 use Rattle.authenticator.specs.declared.Opened as openings
@@ -42,18 +59,30 @@ use Rattle.authenticator.specs.declared.Phase.{Phase}
 use Rattle.authenticator.specs.declared.Phase.the-variants.{Response, Change, Ended}
 use Rattle.layouts.specs.Conversations.{encodeConversation, decodeConversation}
 use Rattle.layouts.specs.Conversations.{isEncodedConversation}
-use Rattle.layouts.specs.Answers.{encodeAnswer, decodeAnswer, isEncodedAnswer}
-use Rattle.layouts.specs.Records.{encodeRecord, decodeRecord, isEncodedRecord}
-use Rattle.layouts.specs.Call.{numbered}
+use Rattle.layouts.specs.Keys.{keysSize, bothKeysSize, encodeKeys, decodeKeys, keysAt}
+use Rattle.layouts.specs.Keys.{encodeSchedules}
+use Rattle.layouts.specs.Answers.{answerHeadSize, answerHead, encodeAnswer, decodeAnswer}
+use Rattle.layouts.specs.Answers.{answerKeys, isEncodedAnswer}
+use Rattle.layouts.specs.Records.{recordHeadSize, recordSize, ntKeysAt, lmKeysAt, recordHead}
+use Rattle.layouts.specs.Records.{recordKeys, decodeHead, decodeRecord}
+use Rattle.layouts.specs.Records.{isEncodedRecord}
+use Rattle.layouts.specs.Call.{sized, numbered}
 use Rattle.layouts.proofs.Filling.{both}
 use Rattle.layouts.specs.declared.StepResult.{StepResult}
 use Rattle.numbers.specs.Results.{resultOf}
 use Rattle.mschap.specs.Sizes.{valueOr}
-use Rattle.mschap.specs.Records.{recordFailures, failuresSet, SetFailuresCall}
-use Rattle.mschap.specs.Step.{stepOf, stepArguments, StepCall, answerFault}
+use Rattle.mschap.specs.Records.{recordFailures, setFailuresArguments, failuresSet}
+use Rattle.mschap.specs.Records.{SetFailuresCall}
+use Rattle.mschap.specs.Step.{stepOf, stepArguments, handedKeys, StepCall, answerFault}
 use Rattle.mschap.specs.Step.{AnswerRecordCall}
-use Rattle.layouts.proofs.RecordLaws.{SizedAccount, decoded-record-sized, record-fits, record-back}
-use Rattle.layouts.proofs.AnswerLaws.{decoded-answer-sized, answer-fits, answer-back}
+use Rattle.layouts.proofs.RecordLaws.{SizedEntry, decoded-head-sized, record-fits, head-back}
+use Rattle.layouts.proofs.RecordLaws.{length-head, length-encoded-record}
+use Rattle.layouts.proofs.KeyLaws.{length-encoded}
+use Rattle.layouts.proofs.AnswerLaws.{decoded-answer-sized, length-result, length-encoded-answer}
+use Rattle.layouts.proofs.AnswerLaws.{answer-fits, answer-back}
+use Rattle.numbers.proofs.FlagLaws.{made-keys}
+use Rattle.mschap.proofs.KeyBounds.{for-length, keys-found}
+use Rattle.mschap.proofs.Laying.{length-record-keys, part-of-part, part-behind}
 use Rattle.layouts.proofs.ConversationLaws.{SizedConversation, conversation-fits}
 use Rattle.layouts.proofs.ConversationLaws.{decoded-conversation-sized, last-reason-small}
 use Rattle.layouts.proofs.ConversationLaws.{conversation-back}
@@ -63,7 +92,7 @@ use Rattle.authenticator.proofs.Openings.{opened-sound}
 
 -- ---- the successors keep the sizes
 
-blank-sized : SizedAccount blankAccount
+blank-sized : SizedEntry blankEntry
 blank-sized = record { nt = refl; lm = refl }
 
 choice-sized : (b : Bool) {x y : Conversation} → SizedConversation x → SizedConversation y
@@ -73,13 +102,13 @@ choice-sized false s t = t
 
 pub record SizedJudgement (d : Judgement) : Type 0 where
   pub next : SizedConversation (d .next)
-  pub updated : SizedAccount (d .updated .account)
+  pub updated : SizedEntry (entryOf (d .updated .account))
   pub reason : reasonOf (d .reply) < 65536
 
 pub record SizedAnswer (a : Answer) : Type 0 where
   pub next : SizedConversation (a .next)
   pub last : reasonOf (a .next .last .reply) < 65536
-  pub updated : SizedAccount (a .updated .account)
+  pub updated : SizedEntry (entryOf (a .updated .account))
   pub reason : reasonIn (a .kind) < 65536
 
 -- a reply gives the reason that it was made for
@@ -97,7 +126,7 @@ module _ (c : Conversation) (s : SizedConversation c) where
   retried-sized : SizedConversation (retried c)
   retried-sized = record { challenge = rw length-incremented (s .challenge); kept = s .kept }
 
-  after-sized : (a : Account) (e : ℕ) → SizedAccount a → SizedConversation (afterReason c a e)
+  after-sized : (a : Entry) (e : ℕ) → SizedEntry a → SizedConversation (afterReason c a e)
   after-sized a e t =
       choice-sized (mayRetry c e) retried-sized
       (choice-sized (eqb e passwordExpired) (record { challenge = s .challenge; kept = t })
@@ -126,7 +155,7 @@ module _ (c : Conversation) (s : SizedConversation c) where
       }
     where
       updated : (t : Bool)
-          → SizedAccount (cond t (found (changed (c .kept) (v .hash))) notFound .account)
+          → SizedEntry (entryOf (cond t (found (changed (c .kept) (v .hash))) notFound .account))
       updated true = record { nt = h; lm = refl }
       updated false = blank-sized
 
@@ -137,16 +166,16 @@ module _ (c : Conversation) (s : SizedConversation c) where
 
   -- ---- the step
 
-  judge-in-sized : (phase : Phase) (p : List ℕ) (l : Lookup) → SizedAccount (l .account)
+  judge-in-sized : (phase : Phase) (p : List ℕ) (l : Lookup) → SizedEntry (entryOf (l .account))
       → SizedJudgement (judgeIn phase c p l)
   unfolding judgeResponse judgeChange
   judge-in-sized Response p l t =
       let f = readResponse p in
       let e = responseReason (c .terms) (c .challenge) l f in
       let a = counted (c .terms) (c .challenge) (l .account) f in
-      let whole : SizedAccount a = record { nt = t .nt; lm = t .lm } in
+      let whole : SizedEntry (entryOf a) = record { nt = t .nt; lm = t .lm } in
       record {
-        next = after-sized a e whole;
+        next = after-sized (entryOf a) e whole;
         updated = whole;
         reason =
             reason-small c e (three-digits (response-reason (c .terms) (c .challenge) f l));
@@ -158,7 +187,7 @@ module _ (c : Conversation) (s : SizedConversation c) where
 
   -- a refusal and a repeat leave the conversation as it was, and a judgement keeps its own reply
   pub step-sized : reasonOf (c .last .reply) < 65536 → (p : List ℕ) (l : Lookup) (b : List ℕ)
-      → SizedAccount (l .account) → SizedAnswer (step c p l b .answer)
+      → SizedEntry (entryOf (l .account)) → SizedAnswer (step c p l b .answer)
   unfolding judge
   step-sized small p l b t = by (case-of c p l b)
     where
@@ -182,22 +211,46 @@ module _ (c : Conversation) (s : SizedConversation c) where
             reason = d .reason;
           })
 
+-- round keys, by the bytes that they are decoded from
+abbrev keysFrom : List ℕ → Schedules
+keysFrom b = record {
+  keys = cond (sized keysSize b) (decodeKeys schedulesSize b) (replicate schedulesSize 0);
+}
+
 module _ (conversation packet account buffer : List ℕ)
-    (valid : isEncodedConversation conversation ≡ true) where
+    (valid : isEncodedConversation conversation ≡ true)
+    (whole : length account ≡ recordSize) where
   abbrev done : Outcome
   done = stepOf conversation packet account buffer
+
+  abbrev told : StepResult
+  told = resultOf (steppedOf (done .answer))
+
+  abbrev keys : List ℕ
+  keys = handedKeys conversation packet account buffer
 
   sizes : SizedAnswer (done .answer)
   sizes =
       step-sized (decodeConversation conversation) (decoded-conversation-sized conversation)
       (last-reason-small conversation valid) packet (decodeRecord account) buffer
-      (decoded-record-sized account)
+      (decoded-head-sized account)
+
+  -- as many bytes of round keys as a record has
+  pub length-handed : length keys ≡ bothKeysSize
+  length-handed =
+      which (handsBack (decodeConversation conversation .phase) (done .answer .kind))
+    where
+      which : (t : Bool) → length (cond t (recordKeys account)
+          (encodeSchedules (accountOf (entryOf (done .answer .updated .account)))))
+          ≡ bothKeysSize
+      which true = length-record-keys account whole
+      which false = made-keys (entryOf (done .answer .updated .account))
 
   pub step-fits : (isEncodedConversation (encodeConversation (done .answer .next)) ≡ true)
-      × (isEncodedAnswer (encodeAnswer (resultOf (done .answer))) ≡ true)
+      × (isEncodedAnswer (encodeAnswer told keys) ≡ true)
   step-fits = (
     conversation-fits (done .answer .next) (sizes .next) (sizes .last),
-    answer-fits (resultOf (done .answer)) (sizes .updated) (sizes .reason),
+    answer-fits told (sizes .updated) (sizes .reason) keys length-handed,
   )
 
   -- so the next step is made on just the conversation that this one left, its last answer too
@@ -206,20 +259,68 @@ module _ (conversation packet account buffer : List ℕ)
   step-carries = conversation-back (done .answer .next) (sizes .next) (sizes .last)
 
   -- whether it is a repeat, the reason, the fault and the record that a step's answer tells are the
-  -- step's own
-  pub answer-tells : decodeAnswer (encodeAnswer (resultOf (done .answer))) ≡ resultOf (done .answer)
-  answer-tells = answer-back (resultOf (done .answer)) (sizes .updated) (sizes .reason)
+  -- step's own, and so are the bytes of the round keys
+  pub answer-tells : decodeAnswer (encodeAnswer told keys) ≡ told
+  answer-tells = answer-back told (sizes .updated) (sizes .reason) keys
 
-  fault-encoded : answerFault (encodeAnswer (resultOf (done .answer)))
+  pub answer-keys : answerKeys (encodeAnswer told keys) ≡ keys
+  answer-keys =
+      ap (take bothKeysSize) (drop-at (answerHead told) keys answerHeadSize
+      (ap (λ (n : ℕ). suc (suc n)) (length-result told (sizes .updated))))
+      ∙ take-all bothKeysSize keys (omega (arith, length-handed))
+
+  fault-encoded : answerFault (encodeAnswer told keys)
       ≡ stepFault (decodeConversation conversation) packet buffer
   unfolding answerFault
   fault-encoded =
       ap
       (λ (t : Bool). valueOr t
-      (faultNumber (decodeAnswer (encodeAnswer (resultOf (done .answer))) .fault)))
+      (faultNumber (decodeAnswer (encodeAnswer told keys) .fault)))
       (step-fits .1)
       ∙ ap (λ (v : StepResult). faultNumber (v .fault)) answer-tells
-      ∙ told (decodeConversation conversation) packet (decodeRecord account) buffer refl .3
+      ∙ steps-laws.told (decodeConversation conversation) packet (decodeRecord account) buffer refl .3
+
+  -- The record with the head and the bytes of the round keys that the step gave is decoded to just
+  -- the record that the step handed out: the round keys that it was passed with, or those of its
+  -- own hashes.
+  pub record-decoded : decodeRecord (recordHead (told .updated) ++ keys) ≡ done .answer .updated
+  record-decoded =
+      let l = decodeRecord account in
+      let u = entryLookupOf (done .answer .updated) in
+      let head = length-head u (sizes .updated) in
+      let bytes = recordHead u ++ keys in
+      ap (λ (x : EntryLookup). lookupOf (x .found) (withSchedules (x .entry) (keysAt ntKeysAt bytes)
+      (keysAt lmKeysAt bytes))) (head-back u keys (sizes .updated))
+      ∙ ap₂ (λ (n m : List ℕ). lookupOf (u .found) (withSchedules (u .entry) (keysFrom n)
+      (keysFrom m)))
+      (part-behind 0 keysSize recordHeadSize (recordHead u) keys head)
+      (part-behind keysSize keysSize recordHeadSize (recordHead u) keys head)
+      ∙ which (handsBack (decodeConversation conversation .phase) (done .answer .kind))
+      ∙ sym (handed-back (decodeConversation conversation) packet l buffer)
+    where
+      u : EntryLookup
+      u = entryLookupOf (done .answer .updated)
+
+      which : (t : Bool)
+          → let k = cond t (recordKeys account) (encodeSchedules (accountOf (u .entry))) in
+          lookupOf (u .found) (withSchedules (u .entry) (keysAt 0 k) (keysAt keysSize k))
+          ≡ handedOut t (decodeRecord account .account) u
+      which true =
+          ap₂ (λ (n m : List ℕ). lookupOf (u .found) (withSchedules (u .entry) (keysFrom n)
+          (keysFrom m)))
+          (part-of-part 0 keysSize recordHeadSize bothKeysSize account (omega arith))
+          (part-of-part keysSize keysSize recordHeadSize bothKeysSize account (omega arith))
+      which false =
+          let nt = encodeKeys (schedulesFor (u .entry .nt) .keys) in
+          let lm = encodeKeys (schedulesFor (u .entry .lm) .keys) in
+          let n = length-encoded (schedulesFor (u .entry .nt) .keys)
+          ∙ ap (λ (k : ℕ). 8 * k) (for-length (u .entry .nt)) in
+          let m = length-encoded (schedulesFor (u .entry .lm) .keys)
+          ∙ ap (λ (k : ℕ). 8 * k) (for-length (u .entry .lm)) in
+          ap₂ (λ (x y : Schedules). lookupOf (u .found) (withSchedules (u .entry) x y))
+          (keys-found 0 (nt ++ lm) (u .entry .nt) (take-at nt lm keysSize n))
+          (keys-found keysSize (nt ++ lm) (u .entry .lm)
+          (ap (take keysSize) (drop-at nt lm keysSize n) ∙ take-all keysSize lm (omega (arith, m))))
 
 -- a call that returned 0 had valid arguments
 valid-call : (b : Bool) (n : ℕ) → 0 ≡ numbered b n → b ≡ true
@@ -236,18 +337,20 @@ unfolding stepArguments
 fault-tells conversation packet account buffer out call =
     let valid = valid-call (stepArguments conversation account out)
     (refusalIn (stepOf conversation packet account buffer .answer .kind)) (call .number) in
+    let h = both (isEncodedConversation conversation) _ valid in
     ap answerFault (call .found)
-    ∙ fault-encoded conversation packet account buffer
-    (both (isEncodedConversation conversation) _ valid .0)
+    ∙ fault-encoded conversation packet account buffer (h .0)
+    (length-encoded-record account (both (isEncodedRecord account) _ (h .1) .0))
 
 -- the record that an answer gives is valid for the next step
-pub answer-record-fits : (answer : List ℕ)
-    → isEncodedRecord (encodeRecord (decodeAnswer answer .updated)) ≡ true
-answer-record-fits answer =
-    record-fits (decodeAnswer answer .updated) (decoded-answer-sized answer)
+pub answer-record-fits : (answer : List ℕ) → isEncodedAnswer answer ≡ true
+    → isEncodedRecord (recordHead (decodeAnswer answer .updated) ++ answerKeys answer) ≡ true
+answer-record-fits answer e =
+    record-fits (decodeAnswer answer .updated) (answerKeys answer) (decoded-answer-sized answer)
+    (length-part answerHeadSize bothKeysSize answer (omega (arith, length-encoded-answer answer e)))
 
 -- and what C gets by mschap_answer_record, after a call of mschap_step that returned 0, is just the
--- record that this step handed out, its count too
+-- record that this step handed out, its count and its round keys too
 pub record-tells : (conversation packet account buffer out place : List ℕ)
     {conversationAfter bufferAfter outAfter placeAfter : List ℕ}
     → StepCall conversation packet account buffer out 0 conversationAfter bufferAfter outAfter
@@ -258,31 +361,41 @@ record-tells conversation packet account buffer out place call get =
     let stepped = stepOf conversation packet account buffer .answer in
     let arguments = valid-call (stepArguments conversation account out) (refusalIn (stepped .kind))
     (call .number) in
-    let valid = both (isEncodedConversation conversation) _ arguments .0 in
+    let h = both (isEncodedConversation conversation) _ arguments in
+    let whole = length-encoded-record account (both (isEncodedRecord account) _ (h .1) .0) in
+    let given : List ℕ → List ℕ =
+    λ l. recordHead (decodeAnswer l .updated) ++ answerKeys l in
     ap decodeRecord
-    (get .bytes ∙ ap (λ (l : List ℕ). encodeRecord (decodeAnswer l .updated)) (call .found)
-    ∙ ap (λ (v : StepResult). encodeRecord (v .updated))
-    (answer-tells conversation packet account buffer valid))
-    ∙ record-back (stepped .updated) (sizes conversation packet account buffer valid .updated)
+    (get .bytes ∙ ap given (call .found)
+    ∙ ap₂ (λ (v : StepResult) (k : List ℕ). recordHead (v .updated) ++ k)
+    (answer-tells conversation packet account buffer (h .0) whole)
+    (answer-keys conversation packet account buffer (h .0) whole))
+    ∙ record-decoded conversation packet account buffer (h .0) whole
 
 -- ---- the count of a record
 
 module _ (bytes : List ℕ) (n : ℕ) where
-  pub set-fits : (isEncodedRecord (encodeRecord (failuresSet bytes n)) ≡ true)
-      × (decodeRecord (encodeRecord (failuresSet bytes n)) ≡ failuresSet bytes n)
-  set-fits =
-      let s = decoded-record-sized bytes in
-      let whole : SizedAccount (failuresSet bytes n .account) = record { nt = s .nt; lm = s .lm } in
-      (record-fits (failuresSet bytes n) whole, record-back (failuresSet bytes n) whole)
+  set-sized : SizedEntry (failuresSet bytes n .entry)
+  set-sized = let s = decoded-head-sized bytes in record { nt = s .nt; lm = s .lm }
+
+  pub set-fits : length bytes ≡ recordSize
+      → (isEncodedRecord (recordHead (failuresSet bytes n) ++ recordKeys bytes) ≡ true)
+      × (decodeHead (recordHead (failuresSet bytes n) ++ recordKeys bytes) ≡ failuresSet bytes n)
+  set-fits e = (
+    record-fits (failuresSet bytes n) (recordKeys bytes) set-sized (length-record-keys bytes e),
+    head-back (failuresSet bytes n) (recordKeys bytes) set-sized,
+  )
 
   -- the count that was set is the one that the record tells
   pub set-tells : {after : List ℕ} → SetFailuresCall bytes n 0 after → recordFailures after ≡ n
-  unfolding recordFailures
+  unfolding recordFailures setFailuresArguments
   set-tells call =
-      let after = encodeRecord (failuresSet bytes n) in
+      let valid = valid-call (setFailuresArguments bytes n) 0 (call .number) in
+      let e = length-encoded-record bytes (both (isEncodedRecord bytes) _ valid .0) in
+      let after = recordHead (failuresSet bytes n) ++ recordKeys bytes in
       ap recordFailures (call .bytes)
-      ∙ ap (λ (t : Bool). valueOr t (decodeRecord after .account .failures)) (set-fits .0)
-      ∙ ap (λ (l : Lookup). l .account .failures) (set-fits .1)
+      ∙ ap (λ (t : Bool). valueOr t (decodeHead after .entry .failures)) (set-fits e .0)
+      ∙ ap (λ (l : EntryLookup). l .entry .failures) (set-fits e .1)
 
 -- ---- the opening
 

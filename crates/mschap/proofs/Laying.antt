@@ -1,12 +1,12 @@
 -- A record's head, or an answer's, and the bytes of round keys, laid into a buffer of the right
 -- size: what is there then is the two, one behind the other.
 -- Assumes nothing.
-use mathlib.Core.List.{List, _++_}
-use mathlib.Core.Path.{_≡_, sym, ap, _∙_}
-use Prim.Native.Nat.{ℕ, _+_, _≤_}
+use mathlib.Core.List.{List, [], _∷_, _++_}
+use mathlib.Core.Path.{_≡_, refl, sym, ap, _∙_}
+use Prim.Native.Nat.{ℕ, zero, suc, _+_, _≤_}
 use native.Mathlib.Omega.{arith}
-use lib.ListN.{length, drop, length-drop}
-use lib.Seq.{take-all}
+use lib.ListN.{length, take, drop, length-drop}
+use lib.Seq.{take-all, take-take, drop-drop, drop-at}
 use Rattle.octets.specs.Parts.{part, over, overAt}
 use Rattle.octets.proofs.Parts.{over-fits, length-part}
 use Rattle.octets.proofs.Laid.{first, next, laid-whole}
@@ -36,3 +36,22 @@ head-over l bytes s e =
     ∙ ap (λ (x : List ℕ). recordHead l ++ x)
     (sym (take-all bothKeysSize (drop recordHeadSize bytes)
     (omega (arith, length-drop recordHeadSize bytes, e))))
+
+-- ---- the round keys behind a head
+
+-- a part of a part
+taken : (a n m : ℕ) (l : List ℕ) → a + n ≤ m → part a n (take m l) ≡ part a n l
+taken zero n m l h = take-take n m l (omega arith)
+taken (suc a) n zero l h = absurd (omega arith)
+taken (suc a) n (suc m) [] h = refl
+taken (suc a) n (suc m) (x ∷ l) h = taken a n m l (omega arith)
+
+pub part-of-part : (a n b m : ℕ) (l : List ℕ) → a + n ≤ m
+    → part a n (part b m l) ≡ part (b + a) n l
+part-of-part a n b m l h = taken a n m (drop b l) h ∙ ap (take n) (drop-drop a b l)
+
+-- what stands behind a head
+pub part-behind : (a n k : ℕ) (head keys : List ℕ) → length head ≡ k
+    → part (k + a) n (head ++ keys) ≡ part a n keys
+part-behind a n k head keys e =
+    ap (take n) (sym (drop-drop a k (head ++ keys)) ∙ ap (drop a) (drop-at head keys k e))

@@ -1,4 +1,5 @@
 pub mod Laying
+pub mod KeyBounds
 pub mod ListCalls
 pub mod OpenCalls
 pub mod StepCalls

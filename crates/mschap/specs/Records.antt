@@ -14,7 +14,7 @@ use Rattle.accounts.specs.declared.Schedules.{Schedules}
 use Rattle.layouts.specs.Call.{Fills, sized, numbered, afterCall}
 use Rattle.layouts.specs.Keys.{keysAt}
 use Rattle.layouts.specs.Records.{recordSize, ntKeysAt, lmKeysAt, recordHead, recordKeys}
-use Rattle.layouts.specs.Records.{encodeRecord, decodeHead, isEncodedRecord}
+use Rattle.layouts.specs.Records.{encodeRecord, decodeHead, isRecordOf, isEncodedRecord}
 use Rattle.numbers.specs.Flags.{ntFlag, lmFlag, recordArguments, recordFrom, flagsOf}
 use Rattle.mschap.specs.Sizes.{valueOr}
 
@@ -70,13 +70,16 @@ SetFailuresCall bytes n r bytesAfter =
 abbrev pub isOneHash : ℕ → Bool
 isOneHash hash = eqb hash ntFlag || eqb hash lmFlag
 
+abbrev pub responseArgumentsAs : EntryLookup → List ℕ → ℕ → List ℕ → Bool
+responseArgumentsAs l bytes hash challenge =
+    isRecordOf l bytes && (isOneHash hash && sized challengeSize challenge)
+
 unfoldable pub recordResponseArguments : List ℕ → ℕ → List ℕ → Bool
 recordResponseArguments bytes hash challenge =
     isEncodedRecord bytes && (isOneHash hash && sized challengeSize challenge)
 
-abbrev pub namedHash : List ℕ → ℕ → Hash
-namedHash bytes hash =
-    cond (eqb hash ntFlag) (decodeHead bytes .entry .nt) (decodeHead bytes .entry .lm)
+abbrev pub namedHash : EntryLookup → ℕ → Hash
+namedHash l hash = cond (eqb hash ntFlag) (l .entry .nt) (l .entry .lm)
 
 abbrev pub namedKeys : List ℕ → ℕ → Schedules
 namedKeys bytes hash = cond (eqb hash ntFlag) (keysAt ntKeysAt bytes) (keysAt lmKeysAt bytes)
@@ -85,5 +88,5 @@ namedKeys bytes hash = cond (eqb hash ntFlag) (keysAt ntKeysAt bytes) (keysAt lm
 abbrev pub RecordResponseCall : List ℕ → ℕ → List ℕ → List ℕ → ℕ → List ℕ → Type 0
 RecordResponseCall bytes hash challenge out r outAfter =
     Fills (recordResponseArguments bytes hash challenge && sized answerSize out)
-    (cond (namedHash bytes hash .present) 0 102)
+    (cond (namedHash (decodeHead bytes) hash .present) 0 102)
     (responseUnder (namedKeys bytes hash .keys) challenge) out r outAfter

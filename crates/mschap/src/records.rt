@@ -7,6 +7,7 @@ use accounts::entry_failures;
 use layouts::BAD_ARGUMENT;
 use layouts::decode_head;
 use layouts::is_encoded_record;
+use layouts::is_record;
 use layouts::KEYS_SIZE;
 use layouts::RECORD_HEAD_SIZE;
 use layouts::keys_at;
@@ -24,7 +25,7 @@ ghost use mathlib.Core.Bool.{cond};
 ghost use Rattle.mschap.specs.Records.{MakeRecordCall, readRecordArguments};
 ghost use Rattle.mschap.specs.Records.{ReadRecordCall, recordFailures};
 ghost use Rattle.mschap.specs.Records.{setFailuresArguments, SetFailuresCall};
-ghost use Rattle.mschap.specs.Records.{isOneHash, recordResponseArguments, namedHash};
+ghost use Rattle.mschap.specs.Records.{isOneHash, responseArgumentsAs, namedHash};
 ghost use Rattle.mschap.specs.Records.{namedKeys, RecordResponseCall};
 
 const FAILURES_END: u32 = 256;
@@ -129,20 +130,25 @@ fn is_one_hash(hash: u32) -> bool
     hash == NT || hash == LM
 }
 
-fn are_record_response_arguments(account: &[u8], hash: u32, challenge: &[u8]) -> bool
-    ensures { λ r. ⌜ r
-        ≡ recordResponseArguments (now (account .entry)) hash (now (challenge .entry)) ⌝ }
+fn are_record_response_arguments(
+    head: EntryLookup,
+    account: &[u8],
+    hash: u32,
+    challenge: &[u8],
+) -> bool
+    ensures { λ r. ⌜ r ≡ responseArgumentsAs head (now (account .entry)) hash
+        (now (challenge .entry)) ⌝ }
 {
     both(
-        is_encoded_record(account),
+        is_record(head, account),
         both(is_one_hash(hash), challenge.len() == CHALLENGE_SIZE),
     )
 }
 
-fn named_hash(account: &[u8], hash: u32) -> Hash
-    ensures { λ r. ⌜ r ≡ namedHash (now (account .entry)) hash ⌝ }
+fn named_hash(head: EntryLookup, hash: u32) -> Hash
+    ensures { λ r. ⌜ r ≡ namedHash head hash ⌝ }
 {
-    let entry = decode_head(account).entry;
+    let entry = head.entry;
     let nt = entry.nt;
     let lm = entry.lm;
     if hash == NT {
@@ -178,10 +184,11 @@ pub extern "C" fn mschap_record_response(
     ensures { λ r. ⌜ RecordResponseCall (now (account .entry)) hash (now (challenge .entry))
         (now (out .entry)) r (now (out .exit)) ⌝ }
 {
-    if !are_record_response_arguments(account, hash, challenge) {
+    let head = decode_head(account);
+    if !are_record_response_arguments(head, account, hash, challenge) {
         return BAD_ARGUMENT;
     }
     let keys = named_keys(account, hash).keys;
     let response = credentials::scheduled_response(keys, octets::eight_at(challenge, 0));
-    fill(no_hash_refusal(named_hash(account, hash)), &response, out)
+    fill(no_hash_refusal(named_hash(head, hash)), &response, out)
 }

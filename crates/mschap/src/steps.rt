@@ -66,7 +66,7 @@ fn judging_at(flag: u8, nt: Hash) -> usize
     RECORD_HEAD_SIZE + 8 * octets::where_both(flag == 1, nt.present, 0, 48) as usize
 }
 
-// Writes the next conversation and the answer, unless the packet is refused. The round keys of a
+// Writes the next conversation and the answer, unless the packet was refused. The round keys of a
 // record that is handed back are copied as they are.
 fn put_stepped(
     phase: Phase,
@@ -121,6 +121,10 @@ pub extern "C" fn mschap_step(
     let lookup = decode_head(account);
     if !are_step_arguments(before, lookup, conversation, account, answer) {
         return BAD_ARGUMENT;
+    }
+    let refusal = before.refusal_of(packet, reply);
+    if refusal != 0 {
+        return wide(refusal);
     }
     let phase = before.phase;
     let nt = lookup.entry.nt;

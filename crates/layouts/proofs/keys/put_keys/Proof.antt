@@ -8,7 +8,7 @@ use native.Mathlib.Omega.{arith}
 use lib.ListN.{length, take, getD, take-append-drop}
 use lib.Seq.{take-all}
 use borrow.Author.Needs.{needs}
-use Rattle.octets.specs.Numbers.{toBe}
+use Rattle.octets.specs.Numbers.{toLe}
 use Rattle.octets.specs.Parts.{over, overAt}
 use Rattle.octets.proofs.Parts.{length-over-at}
 use Rattle.octets.proofs.Laid.{join}
@@ -50,10 +50,10 @@ loop-again c =
       search needs,
       ap length (put .copy-at .ensures) ∙ length-over-at (a .at + 8 * i) _ (h .loop .out) ∙ h .loop .inv .1,
       rw (add-one i)
-          (join (a .at) (encodeKeys (take i (a .t1))) (toBe 8 (getD (a .t1) i 0)) (a .out .now)
+          (join (a .at) (encodeKeys (take i (a .t1))) (toLe 8 (getD (a .t1) i 0)) (a .out .now)
           (length-encoded-front i (a .t1) (omega arith)) (h .loop .inv .2)
           (put .copy-at .ensures ∙ ap (λ (l : List ℕ). overAt (a .at + 8 * i) l (h .loop .out))
-          (made .u64-to-be .ensures))
+          (made .u64-to-le .ensures))
           ∙ ap (λ (l : List ℕ). overAt (a .at) l (a .out .now))
           (sym (encoded-more i (a .t1) (omega arith)))),
     )

@@ -2,17 +2,15 @@
 -- Assumes nothing.
 use mathlib.Core.Path.{refl, ap₂, _∙_}
 use mathlib.Core.Bool.{_&&_}
-use Rattle.mschap.specs.Records.{recordResponseArguments}
 use Rattle.mschap.proofs.records.are_record_response_arguments.Statement.{statement}
 use Rattle.mschap.proofs.records.are_record_response_arguments.Tie as tie
 use borrow.Author.Needs.{needs}
 
 returns : tie.Need-returns
-unfolding recordResponseArguments
 returns c =
     let one = c .before .before in
     c .both2 .ensures
-    ∙ ap₂ _&&_ (one .before .is-encoded-record .ensures)
+    ∙ ap₂ _&&_ (one .before .is-record .ensures)
     (c .before .both .ensures ∙ ap₂ _&&_ (one .is-one-hash .ensures) refl)
 
 pub are-record-response-arguments-spec : {M : Type 1} → statement M

@@ -10,22 +10,36 @@ use Rattle.octets.proofs.Parts.{fixed-whole}
 use Rattle.credentials.specs.Credentials.{responseUnder}
 use Rattle.credentials.proofs.Laws.{length-response-under}
 use Rattle.packets.specs.Sizes.{answerSize, challengeSize}
+use Rattle.accounts.specs.declared.EntryLookup.{EntryLookup}
 use Rattle.accounts.specs.declared.Hash.{Hash}
 use Rattle.accounts.specs.declared.Schedules.{Schedules}
 use Rattle.layouts.specs.Call.{sized}
 use Rattle.layouts.specs.Records.{isEncodedRecord}
 use Rattle.layouts.proofs.Filling.{both, fills-as, filled-with, refused-argument}
-use Rattle.mschap.specs.Records.{isOneHash, recordResponseArguments, namedHash, namedKeys}
+use Rattle.mschap.specs.Records.{isOneHash, responseArgumentsAs}
+use Rattle.mschap.specs.Records.{recordResponseArguments, namedHash}
 use Rattle.mschap.proofs.records.mschap_record_response.Statement.{statement}
 use Rattle.mschap.proofs.records.mschap_record_response.Tie as tie
 use borrow.Author.Needs.{needs}
 
+-- the arguments are valid or not
+tested : (c : tie.After-are-record-response-arguments)
+    → let a = c .before .before .before .before .before .args in
+    c .are-record-response-arguments .result
+    ≡ recordResponseArguments (a .account .now) (a .hash) (a .challenge .now)
+unfolding recordResponseArguments isEncodedRecord
+tested c =
+    let a = c .before .before .before .before .before .args in
+    c .are-record-response-arguments .ensures
+    ∙ ap (λ (l : EntryLookup). responseArgumentsAs l (a .account .now) (a .hash)
+    (a .challenge .now)) (c .before .decode-head .ensures)
+
 returns : tie.Need-returns
 returns c =
-    let out = c .before .before .before .before .before .args .out .now in
+    let out = c .before .before .before .before .before .before .args .out .now in
     refused-argument
     (ap (λ (t : Bool). t && sized answerSize out)
-    (sym (c .before .are-record-response-arguments .ensures) ∙ not-true _ (c .if1 .taken)))
+    (sym (tested (c .before)) ∙ not-true _ (c .if1 .taken)))
 
 -- the challenge has its size
 eight : (bytes : List ℕ) (hash : ℕ) (challenge : List ℕ)
@@ -44,9 +58,8 @@ returns-2 c =
     let taken = made .before in
     let keys = taken .before .before in
     let passed = keys .before in
-    let a = passed .before .before .before .before .before .args in
-    let valid = sym (passed .before .are-record-response-arguments .ensures)
-    ∙ not-false _ (passed .if1 .left) in
+    let a = passed .before .before .before .before .before .before .args in
+    let valid = sym (tested (passed .before)) ∙ not-false _ (passed .if1 .left) in
     let challenge = taken .eight-at .ensures
     ∙ fixed-whole 8 (a .challenge .now)
     (eight (a .account .now) (a .hash) (a .challenge .now) valid) in
@@ -54,7 +67,8 @@ returns-2 c =
     ∙ ap₂ (λ (s : Schedules) (x : List ℕ). responseUnder (s .keys) x)
     (keys .named-keys .ensures) challenge in
     let number = refusal .no-hash-refusal .ensures
-    ∙ ap (λ (h : Hash). cond (h .present) 0 102) (named .named-hash .ensures) in
+    ∙ ap (λ (h : Hash). cond (h .present) 0 102) (named .named-hash .ensures
+    ∙ ap (λ (l : EntryLookup). namedHash l (a .hash)) (passed .before .before .decode-head .ensures)) in
     fills-as (ap (λ (t : Bool). t && sized answerSize (a .out .now)) (sym valid)) refl refl
     (filled-with (ap length response ∙ length-response-under _ _) response number
     (put .fill .ensures))
@@ -63,4 +77,4 @@ pub mschap-record-response-spec : {M : Type 1} → statement M
 mschap-record-response-spec =
     tie.close
     (tie.spec
-    (λ c κs. search needs) returns (λ c κs. search needs) (λ c κs. search needs) (λ c κs. search needs) (λ c κs. search needs) (λ c κs. search needs) (λ c. search needs) (λ c κs. search needs) (λ c. search needs) returns-2)
+    (λ c κs. search needs) (λ c κs. search needs) returns (λ c κs. search needs) (λ c κs. search needs) (λ c κs. search needs) (λ c κs. search needs) (λ c κs. search needs) (λ c. search needs) (λ c κs. search needs) (λ c. search needs) returns-2)

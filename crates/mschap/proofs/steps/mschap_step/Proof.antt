@@ -4,15 +4,17 @@ use mathlib.Core.Path.{_≡_, refl, sym, ap, ap₂, subst, _∙_}
 use mathlib.Core.Bool.{Bool, true, cond}
 use mathlib.Core.List.{List}
 use Prim.Native.Nat.{ℕ}
-use borrow.Author.Tests.{not-true, not-false}
+use borrow.Author.Tests.{not-true, not-false, ne-eqb}
 use Rattle.accounts.specs.declared.EntryLookup.{EntryLookup}
 use Rattle.accounts.specs.declared.Schedules.{Schedules}
 use Rattle.packets.specs.Response.{readResponse}
 use Rattle.verify.specs.Response.{usesNt, judgingKeys, carryingLookup}
+use Rattle.authenticator.specs.Admit.{stepRefusal}
 use Rattle.authenticator.specs.Step.{Outcome, step, refusalIn}
 use Rattle.authenticator.specs.declared.Conversation.{Conversation}
 use Rattle.authenticator.specs.declared.Stepped.{Stepped}
 use Rattle.authenticator.proofs.Carried.{Seen, seenOf}
+use Rattle.authenticator.proofs.Steps.{number-step}
 use Rattle.layouts.specs.Call.{numbered}
 use Rattle.layouts.specs.Conversations.{decodeConversation}
 use Rattle.layouts.specs.Keys.{keysAt}
@@ -53,7 +55,8 @@ valid c = sym (tested (c .before)) ∙ not-false _ (c .if1 .left)
 
 put-stepped-requires : tie.Need-put-stepped-requires
 put-stepped-requires c κs =
-    let passed = c .before .before .before .before .before .before .before .before .before .before in
+    let passed = c .before .before .before .before .before .before .before .before .before .before
+    .before .before .before in
     let a = start (passed .before) .args in
     step-sizes (a .conversation .now) (a .account .now) (a .answer .now) (valid passed)
 
@@ -70,15 +73,36 @@ returns c =
       found = refl;
     }
 
--- they are valid
+-- they are valid, and the packet is refused
 returns-2 : tie.Need-returns-2
 returns-2 c =
+    let r = c .before .before in
+    let passed = r .before .before in
+    let a = start (passed .before) .args in
+    let before = passed .before .before .before .before .before .decode-conversation .ensures in
+    let some = ne-eqb _ 0 (c .before .if2 .taken) in
+    let refusal = c .wide .ensures ∙ r .refusal-of .ensures
+    ∙ ap (λ (v : Conversation). stepRefusal v (a .packet .now) (a .reply .now)) before
+    ∙ sym (number-step (decodeConversation (a .conversation .now)) (a .packet .now)
+    (decodeRecord (a .account .now)) (a .reply .now)) in
+    record {
+      number = refusal ∙ sym (ap (λ (t : Bool). numbered t (refusalIn (stepOf
+          (a .conversation .now) (a .packet .now) (a .account .now) (a .reply .now) .answer
+          .kind))) (valid passed));
+      next = simp (c .wide .ensures, some);
+      sent = simp (c .wide .ensures, some);
+      found = simp (c .wide .ensures, some);
+    }
+
+-- it is not refused
+returns-3 : tie.Need-returns-3
+returns-3 c =
     let put = c .before .before .before .before in
     let stepped = put .before .before .before .before .before in
     let keys = stepped .before .before in
     let at = keys .before in
     let flag = at .before in
-    let passed = flag .before .before in
+    let passed = flag .before .before .before .before .before in
     let head = passed .before .before .before .before in
     let a = start (passed .before) .args in
     let packet = a .packet .now in
@@ -118,6 +142,7 @@ mschap-step-spec =
     tie.close
     (tie.spec
     (λ c κs. search needs) (λ c κs. search needs) (λ c κs. search needs) (λ c. search needs)
-    (λ c. search needs) returns (λ c κs. search needs) (λ c κs. search needs)
-    (λ c κs. search needs) (λ c κs. search needs) put-stepped-requires (λ c. search needs)
-    (λ c. search needs) (λ c. search needs) returns-2)
+    (λ c. search needs) returns (λ c κs. search needs) (λ c κs. search needs) (λ c. search needs)
+    (λ c. search needs) (λ c. search needs) returns-2 (λ c κs. search needs)
+    (λ c κs. search needs) (λ c κs. search needs) (λ c κs. search needs) put-stepped-requires
+    (λ c. search needs) (λ c. search needs) (λ c. search needs) returns-3)
