@@ -10,16 +10,18 @@ use borrow.Author.Tests.{eq-eqb}
 use lib.Dec.{eqb, lit<}
 use lib.ListN.{length, take, drop, getD, replicate, length-replicate, length-append}
 use lib.Seq.{take-at, drop-at, take-all}
-use Rattle.octets.specs.Parts.{part}
+use Rattle.octets.specs.Parts.{part, fixed}
 use Rattle.octets.specs.Numbers.{fromDigits}
 use Rattle.octets.proofs.Numbers.{Below, digits-below}
+use Rattle.des.specs.Des.{scheduleOf}
 use Rattle.des.specs.Stored.{six, packKey, storedSchedule, threeSchedules}
-use Rattle.credentials.specs.Credentials.{schedulesSize, schedulesOf}
+use Rattle.credentials.specs.Credentials.{keysSize, schedulesSize, schedulesOf}
 use Rattle.credentials.proofs.Laws.{length-schedules-of}
 use Rattle.accounts.specs.Account.{noSchedules, schedulesFor}
 use Rattle.accounts.specs.declared.Hash.{Hash}
 use Rattle.accounts.specs.declared.Schedules.{Schedules}
-use Rattle.layouts.specs.Keys.{keysSize, encodeKeys, decodeKeys, keysAt}
+use Rattle.layouts.specs.Keys as layout
+use Rattle.layouts.specs.Keys.{encodeKeys, decodeKeys, keysAt}
 use Rattle.layouts.proofs.KeyLaws.{length-encoded, keys-back}
 
 -- ---- lists of small numbers
@@ -61,13 +63,19 @@ packed-fits k =
 
 schedule-fits : (key : List ℕ) → Fit (storedSchedule key)
 unfolding storedSchedule
-schedule-fits key = below-map (2 ^ 64) packKey (lit< tt) packed-fits _
+schedule-fits key = below-map (2 ^ 64) packKey (lit< tt) packed-fits (scheduleOf key)
 
 of-fits : (hash : List ℕ) → Fit (schedulesOf hash)
 unfolding schedulesOf threeSchedules
 of-fits hash =
-    below-join (2 ^ 64) _ _ (schedule-fits _)
-    (below-join (2 ^ 64) _ _ (schedule-fits _) (schedule-fits _))
+    let keys = fixed keysSize hash in
+    let one = part 0 7 keys in
+    let two = part 7 7 keys in
+    let three = part 14 7 keys in
+    below-join (2 ^ 64) (storedSchedule one) (storedSchedule two ++ storedSchedule three)
+    (schedule-fits one)
+    (below-join (2 ^ 64) (storedSchedule two) (storedSchedule three) (schedule-fits two)
+    (schedule-fits three))
 
 for-fits : (h : Hash) → Fit (schedulesFor h .keys)
 for-fits h = which (h .present)
@@ -89,12 +97,12 @@ for-length h = which (h .present)
 
 -- round keys that are decoded from bytes that are theirs
 pub keys-found : (at : ℕ) (bytes : List ℕ) (h : Hash)
-    → part at keysSize bytes ≡ encodeKeys (schedulesFor h .keys) → keysAt at bytes ≡ schedulesFor h
+    → part at layout.keysSize bytes ≡ encodeKeys (schedulesFor h .keys) → keysAt at bytes ≡ schedulesFor h
 keys-found at bytes h e =
     let ks = schedulesFor h .keys in
     let n = for-length h in
     ap from e ∙ ap (λ (t : Bool). chosen (encodeKeys ks) t)
-    (eq-eqb (length (encodeKeys ks)) keysSize (length-encoded ks ∙ ap (λ (k : ℕ). 8 * k) n))
+    (eq-eqb (length (encodeKeys ks)) layout.keysSize (length-encoded ks ∙ ap (λ (k : ℕ). 8 * k) n))
     ∙ ap (λ (l : List ℕ). let s : Schedules = record { keys = l } in s)
     (ap (λ (k : ℕ). decodeKeys k (encodeKeys ks)) (sym n) ∙ keys-back ks (for-fits h))
   where
@@ -102,4 +110,4 @@ keys-found at bytes h e =
     chosen b t = record { keys = cond t (decodeKeys schedulesSize b) (replicate schedulesSize 0) }
 
     from : List ℕ → Schedules
-    from b = chosen b (eqb (length b) keysSize)
+    from b = chosen b (eqb (length b) layout.keysSize)
