@@ -174,13 +174,14 @@
  *   the authenticator read the file, or the new one.
  *
  * ROUND KEYS
- *   A response is three blocks of DES, each under a third of the hash, and to make the round keys
- *   of the three takes longer than the blocks. So since 0.8.0 a record holds them beside each hash,
- *   three times 16 of 8 bytes each. mschap_make_record, mschap_find_account and an accepted change
- *   make them, in some microseconds for each hash, and a step that judges a Response makes none.
- *   Beside a hash that is not there they are 0. A program keeps and passes records as before, and
- *   need not know of this. It gains most where it keeps records: one that looks the account up in
- *   its file for each Response, or makes its record anew, has them made each time.
+ *   A response is three blocks of DES, each under a part of the hash, and to make the round keys of
+ *   the three takes longer than the blocks. So since 0.8.0 a record holds them too: behind its
+ *   first 42 bytes those of the NT hash and then those of the LM hash, three times 16 of 8 bytes
+ *   each, the most significant byte first. mschap_make_record, mschap_find_account and an accepted
+ *   change make them, in some microseconds for each hash, and a step that judges a Response makes
+ *   none. Beside a hash that is not there they are 0. A program keeps and passes records as before,
+ *   and need not know of this. It gains most where it keeps records: one that looks the account up
+ *   in its file for each Response, or makes its record anew, has them made each time.
  *
  *   A Response is judged by the round keys that the record carries, and mschap_record_response goes
  *   by them too; a change of the password goes by the hash. In each record that this library makes
@@ -218,9 +219,9 @@
  *   record again of what is known of the account (the library that stored it tells what is in it:
  *   mschap_read_record and mschap_record_failures), and open such a conversation again; one that
  *   0.7.0 stored goes on. The others are as 0.2.0 stored them.
- *   Bytes are not signed: store values where nobody else writes. Records, answers, passwords and a
- *   conversation that awaits a change hold secrets: store these where nobody else reads, too. A
- *   conversation keeps hashes, and no round keys.
+ *   Bytes are not signed: store values where nobody else writes (for records see ROUND KEYS too).
+ *   Records, answers, passwords and a conversation that awaits a change, which keeps hashes and no
+ *   round keys, hold secrets: store these where nobody else reads, too.
  *   Arguments that are exchanged by mistake are refused, or are no C: GCC 14 says so by default,
  *   and other compilers with -Werror=incompatible-pointer-types. Of these alone an exchange is not
  *   found, as they are numbers alike: now and max_age, and the five counts of accounts.
@@ -535,8 +536,8 @@ uint32_t mschap_record_response(const mschap_record *record, size_t record_size,
    right. But it tells how many names in the file have as many bytes as the one sought, since the
    bytes are compared only where the lengths are equal (see host/timing.c); and a name on a line
    takes longer than one on none, since 0.8.0 by some microseconds for each hash on the line, whose
-   round keys are made. Where that matters, make a record of a hash (mschap_make_record) for a name
-   on no line, and do not use it.
+   round keys are made. Where that matters, make a record of as many hashes (mschap_make_record) for
+   a name on no line, and do not use it.
    Returns MSCHAP_OK; MSCHAP_BAD_ARGUMENT unless record is MSCHAP_RECORD_SIZE bytes;
    MSCHAP_BAD_LINE for a line of another form, of any name, even behind the name's line; else
    MSCHAP_DOUBLED_NAME. With these two *offset is where the first such line starts; record is

@@ -16,9 +16,9 @@ pub enum HashKind {
 ///
 /// It has hashes, and no round keys of DES: these are in its record alone, and are made of the
 /// hashes each time that a record is, by [`to_bytes`](Account::to_bytes) and by each
-/// [`step`](crate::Conversation::step), in some microseconds for each hash. So whatever round keys
-/// a stored record carries, an account that is made of it is judged by those of its hashes. Who
-/// wants them kept from step to step passes the record's bytes to [`sys::step`].
+/// [`step`](crate::Conversation::step), in some microseconds whichever hashes there are. So
+/// whatever round keys a stored record carries, an account that is made of it is judged by those of
+/// its hashes. Who wants them kept from step to step passes the record's bytes to [`sys::step`].
 #[derive(Clone, Copy, Debug, Default, PartialEq, Eq)]
 pub struct Account {
     /// The NT hash, if there is one.
@@ -80,10 +80,29 @@ impl Account {
             }
         };
         Refusal::check(number)?;
+        Account::make_absent(found)?;
         // A record is made with the count 0. It is set whatever it is: the time is not to tell it.
         let failures = found.map_or(0, |account| account.failures);
         Refusal::check(sys::set_failures(&mut record, failures.into()))?;
         Ok(record)
+    }
+
+    /// The round keys of a hash take some microseconds to make. They are made also of a hash that
+    /// is not there, and not used, so that the time of a step does not tell whether there is an
+    /// account, or which hashes it has.
+    fn make_absent(found: Option<&Account>) -> Result<(), Refusal> {
+        const NONE: &[u8] = &[];
+        const SPARE: &[u8] = &[0; sys::HASH_SIZE];
+        let of = |is_there: bool, flag: u32| match is_there {
+            true => (0, NONE),
+            false => (flag, SPARE),
+        };
+        let has_nt = found.is_some_and(|account| account.nt_hash.is_some());
+        let has_lm = found.is_some_and(|account| account.lm_hash.is_some());
+        let (nt_flag, nt) = of(has_nt, sys::HAS_NT_HASH);
+        let (lm_flag, lm) = of(has_lm, sys::HAS_LM_HASH);
+        let mut unused = [0; sys::RECORD_SIZE];
+        Refusal::check(sys::make_record(nt_flag | lm_flag, nt, lm, &mut unused))
     }
 
     fn flags(&self) -> u32 {
