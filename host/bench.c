@@ -100,8 +100,10 @@ typedef void batch(struct work *w, long calls);
 /* The challenge of the next call by kept schedules, of all three blocks of this one's response. */
 static void next_challenge(struct work *w, const uint8_t *out)
 {
-    for (int i = 0; i < 8; i++)
-        w->challenge[i] = out[i] ^ out[8 + i] ^ out[16 + i];
+    uint64_t block[3];
+    memcpy(block, out, sizeof block);
+    block[0] ^= block[1] ^ block[2];
+    memcpy(w->challenge, block, sizeof w->challenge);
 }
 
 /* ---- ours */

@@ -175,13 +175,13 @@
  *
  * ROUND KEYS
  *   A response is three blocks of DES, each under a part of the hash, and to make the round keys of
- *   the three takes longer than the blocks. So since 0.8.0 a record holds them too: behind its
+ *   the three takes about as long as the blocks. So since 0.8.0 a record holds them too: behind its
  *   first 42 bytes those of the NT hash and then those of the LM hash, three times 16 of 8 bytes
  *   each, the most significant byte first. mschap_make_record, mschap_find_account and an accepted
- *   change make them, in some microseconds for each hash, and a step that judges a Response makes
- *   none. Beside a hash that is not there they are 0. A program keeps and passes records as before,
- *   and need not know of this. It gains most where it keeps records: one that looks the account up
- *   in its file for each Response, or makes its record anew, has them made each time.
+ *   change make them, in less than a microsecond for each hash, and a step that judges a Response
+ *   makes none. Beside a hash that is not there they are 0. A program keeps and passes records as
+ *   before, and need not know of this. It gains most where it keeps records: one that looks the
+ *   account up in its file for each Response, or makes its record anew, has them made each time.
  *
  *   A Response is judged by the round keys that the record carries, and mschap_record_response goes
  *   by them too; a change of the password goes by the hash. In each record that this library makes
@@ -473,15 +473,15 @@ uint32_t mschap_lm_hash(const uint8_t *password, size_t password_size,
 /* Makes a record of flags (MSCHAP_FOUND and so on, joined by |) and hashes. A hash is passed if
    and only if its flag says so; else pass NULL and 0. A name that is not known has the record of
    no flags: mschap_make_record(0, NULL, 0, NULL, 0, &record, sizeof record).
-   Makes the round keys of each hash too, in some microseconds (see ROUND KEYS); beside a hash that
-   is not passed they are 0.
+   Makes the round keys of each hash too (see ROUND KEYS); beside a hash that is not passed they are
+   0.
    Its count of failures is 0. So if a record is made again of what was read of it, with another
    flag for instance, set its count again too, unless the account is to be unlocked. Its round keys
    are then those of the hashes, whatever they were before.
    Returns MSCHAP_OK; MSCHAP_BAD_ARGUMENT for another bit in flags, a hash that is not
    MSCHAP_HASH_SIZE bytes, one without its flag or a flag without its hash, or unless record is
    MSCHAP_RECORD_SIZE bytes.
-   Stack: 96 bytes. */
+   Stack: 5,440 bytes. */
 uint32_t mschap_make_record(uint32_t flags,
                             const mschap_nthash *nt_hash, size_t nt_hash_size,
                             const mschap_lmhash *lm_hash, size_t lm_hash_size,
@@ -492,7 +492,7 @@ uint32_t mschap_make_record(uint32_t flags,
    nothing: what they answer is told by mschap_record_response.
    Returns MSCHAP_OK; MSCHAP_BAD_ARGUMENT for an invalid record, or unless both hashes are
    MSCHAP_HASH_SIZE bytes.
-   Stack: 368 bytes. */
+   Stack: 288 bytes. */
 uint32_t mschap_read_record(const mschap_record *record, size_t record_size,
                             uint32_t *flags,
                             mschap_nthash *nt_hash, size_t nt_hash_size,
@@ -501,14 +501,14 @@ uint32_t mschap_read_record(const mschap_record *record, size_t record_size,
 /* Returns a record's count of failures, 0 to 255: how many Responses in a row were judged invalid
    (see LOCKOUT; in the record of no account it has no effect); MSCHAP_INVALID for an invalid
    record.
-   Stack: 304 bytes. */
+   Stack: 240 bytes. */
 uint32_t mschap_record_failures(const mschap_record *record, size_t record_size);
 
 /* Sets a record's count of failures, 0 to 255, in place (see LOCKOUT): to the one that was kept,
    after mschap_find_account, or to 0, which unlocks the account. No other byte of the record
    changes.
    Returns MSCHAP_OK; MSCHAP_BAD_ARGUMENT for an invalid record, or for failures over 255.
-   Stack: 336 bytes. */
+   Stack: 304 bytes. */
 uint32_t mschap_set_failures(mschap_record *record, size_t record_size, uint32_t failures);
 
 /* The response (MSCHAP_RESPONSE_SIZE bytes) of a record's hash to a challenge
@@ -520,7 +520,7 @@ uint32_t mschap_set_failures(mschap_record *record, size_t record_size, uint32_t
    and whether LM is allowed. Compare the response in a time that does not tell where it is wrong.
    Returns MSCHAP_OK; MSCHAP_BAD_ARGUMENT for an invalid record, another hash than one of these two,
    or another size; MSCHAP_NO_RECORD if the record has no such hash.
-   Stack: 3,000 bytes. */
+   Stack: 3,056 bytes. */
 uint32_t mschap_record_response(const mschap_record *record, size_t record_size, uint32_t hash,
                                 const uint8_t *challenge, size_t challenge_size,
                                 uint8_t *response, size_t response_size);
@@ -535,14 +535,13 @@ uint32_t mschap_record_response(const mschap_record *record, size_t record_size,
    The time grows with the file. It does not tell where the line is, nor how much of a name is
    right. But it tells how many names in the file have as many bytes as the one sought, since the
    bytes are compared only where the lengths are equal (see host/timing.c); and a name on a line
-   takes longer than one on none, since 0.8.0 by some microseconds for each hash on the line, whose
-   round keys are made. Where that matters, make a record of as many hashes (mschap_make_record) for
-   a name on no line, and do not use it.
+   takes longer than one on none, by about a microsecond at most, since the round keys of each hash
+   on that line are made.
    Returns MSCHAP_OK; MSCHAP_BAD_ARGUMENT unless record is MSCHAP_RECORD_SIZE bytes;
    MSCHAP_BAD_LINE for a line of another form, of any name, even behind the name's line; else
    MSCHAP_DOUBLED_NAME. With these two *offset is where the first such line starts; record is
    unchanged.
-   Stack: 576 bytes. */
+   Stack: 5,616 bytes. */
 uint32_t mschap_find_account(const uint8_t *file, size_t file_size,
                              const uint8_t *name, size_t name_size,
                              uint32_t now, uint32_t max_age,
@@ -642,7 +641,7 @@ uint32_t mschap_open(uint32_t identifier, uint32_t terms,
    come. Returns then the first of these that applies: MSCHAP_REPLY_ROOM; MSCHAP_FRAME; and, unless
    the packet is a repeat, MSCHAP_ENDED; MSCHAP_CODE; MSCHAP_IDENTIFIER; MSCHAP_SIZE; MSCHAP_FLAGS.
    Returns MSCHAP_BAD_ARGUMENT for an invalid conversation or record, or an answer of another size.
-   Stack: 4,160 bytes. */
+   Stack: 5,856 bytes. */
 uint32_t mschap_step(mschap_conversation *conversation, size_t conversation_size,
                      const uint8_t *packet, size_t packet_size,
                      const mschap_record *record, size_t record_size,

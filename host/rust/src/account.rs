@@ -16,7 +16,7 @@ pub enum HashKind {
 ///
 /// It has hashes, and no round keys of DES: these are in its record alone, and are made of the
 /// hashes each time that a record is, by [`to_bytes`](Account::to_bytes) and by each
-/// [`step`](crate::Conversation::step), in some microseconds whichever hashes there are. So
+/// [`step`](crate::Conversation::step), in about a microsecond whichever hashes there are. So
 /// whatever round keys a stored record carries, an account that is made of it is judged by those of
 /// its hashes. Who wants them kept from step to step passes the record's bytes to [`sys::step`].
 #[derive(Clone, Copy, Debug, Default, PartialEq, Eq)]
@@ -87,9 +87,9 @@ impl Account {
         Ok(record)
     }
 
-    /// The round keys of a hash take some microseconds to make. They are made also of a hash that
-    /// is not there, and not used, so that the time of a step does not tell whether there is an
-    /// account, or which hashes it has.
+    /// To make the round keys of a hash takes as long as to judge by them. They are made also of a
+    /// hash that is not there, and not used, so that the time of a step does not tell whether there
+    /// is an account, or which hashes it has.
     fn make_absent(found: Option<&Account>) -> Result<(), Refusal> {
         const NONE: &[u8] = &[];
         const SPARE: &[u8] = &[0; sys::HASH_SIZE];
@@ -124,7 +124,7 @@ impl Account {
 /// judge elsewhere than in a step; none if the record has no such hash. Bytes that no record has
 /// are refused as [`Refusal::BadArgument`].
 ///
-/// It goes by the round keys that the record carries, so that it takes much less time than
+/// It goes by the round keys that the record carries, so that it takes about half the time of
 /// [`challenge_response`](crate::challenge_response). In a record that was made here they are those
 /// of its hashes. But any bytes are valid there: store records where nobody else writes. Flags and
 /// count have no part in it.
