@@ -88,8 +88,8 @@ impl Account {
     }
 
     /// To make the round keys of a hash takes as long as to judge by them. They are made also of a
-    /// hash that is not there, and not used, so that the time of a step does not tell whether there
-    /// is an account, or which hashes it has.
+    /// hash that is not there, and not used, so that the time tells little of whether there is an
+    /// account, or which hashes it has.
     fn make_absent(found: Option<&Account>) -> Result<(), Refusal> {
         const NONE: &[u8] = &[];
         const SPARE: &[u8] = &[0; sys::HASH_SIZE];
