@@ -80,6 +80,28 @@ static size_t read_record(struct argument *r)
 static size_t record_failures(struct argument *r) { return mschap_record_failures(BUFFER(0)); }
 static size_t set_failures(struct argument *r) { return mschap_set_failures(BUFFER(0), 255); }
 static size_t set_failures_over(struct argument *r) { return mschap_set_failures(BUFFER(0), 256); }
+static size_t record_response(struct argument *r)
+{
+    return mschap_record_response(BUFFER(0), MSCHAP_HAS_NT_HASH, BUFFER(1), BUFFER(2));
+}
+static size_t record_response_lm(struct argument *r)
+{
+    return mschap_record_response(BUFFER(0), MSCHAP_HAS_LM_HASH, BUFFER(1), BUFFER(2));
+}
+/* Another hash than one of the two: each number that is not theirs is refused. */
+static size_t record_response_other(struct argument *r)
+{
+    static const uint32_t others[] = {
+        0, 1, 3, 5, 7, 8, MSCHAP_HAS_NT_HASH | MSCHAP_HAS_LM_HASH, MSCHAP_EXPIRED, 0x102, 0x10002,
+        0x80000004, 0xffffffff,
+    };
+    size_t i;
+    for (i = 0; i < sizeof others / sizeof *others; i++)
+        if (mschap_record_response(BUFFER(0), others[i], BUFFER(1), BUFFER(2))
+            != MSCHAP_BAD_ARGUMENT)
+            return WRONG;
+    return MSCHAP_BAD_ARGUMENT;
+}
 #define ACCOUNT \
     "b:1:XXXXXXXXXXXXXXXXXXXXXXXXXXXXXXXX:FC156AF7EDCD6C0EDDE3337D427F4EAC:[U          ]:" \
     "LCT-00000001:"
@@ -203,8 +225,13 @@ static const uint8_t zeros[517];
 static const uint8_t text[5] = {'a', 0xc3, 0xa4, 'b'}; /* a, a with two dots, b */
 static const uint8_t password[517] = {'W', 1, 0, 4, 'a', 0, 0xe4, 0};
 static const uint8_t unpaired[517] = {'W', 1, 0, 2, 0, 0xd8};
-static const uint8_t record[43] = {'R', 2, 1, 1, [20] = 1, [41] = 3}; /* 3 failures */
-static const uint8_t nobody[43] = {'R', 2};
+static const uint8_t record[811] = {'R', 3, 1, 1, [20] = 1, [41] = 3}; /* 3 failures */
+static const uint8_t nobody[811] = {'R', 3};
+static const uint8_t nt_alone[811] = {'R', 3, 1, 1};
+static const uint8_t lm_alone[811] = {'R', 3, 1, [20] = 1};
+/* as 0.7.0 stored it, and with that version but the size of now */
+static const uint8_t outdated[43] = {'R', 2, 1, 1, [20] = 1, [41] = 3};
+static const uint8_t half_way[811] = {'R', 2, 1, 1, [20] = 1, [41] = 3};
 static const uint8_t one_line[98] = ACCOUNT, two_lines[196] = ACCOUNT "\n" ACCOUNT;
 static const uint8_t name[2] = {'b', 'x'};
 static const uint8_t none_used[29] = {'L', 1, 0, 0};
@@ -213,12 +240,12 @@ static const uint8_t one_used[37] = {'L', 1, 0, 1}; /* by the challenge of bytes
 static const uint8_t opened[61] = {'C', 3, 2, 1, 5, 7, 2};
 /* it has ended, and answered a Response, identifier 7, with a Failure, R=0 */
 static const uint8_t ended[61] = {'C', 3, 0, 1, 5, 7, [54] = 1, 2, 7, 1, 691 >> 8, 691 & 255};
-static const uint8_t failed[47] = {'A', 4, 0, 691 >> 8, 691 & 255};
-static const uint8_t counted[47] = {'A', 4, 0, 691 >> 8, 691 & 255, 0, 1, [45] = 4};
-static const uint8_t repeated[47] = {'A', 4, 1, 691 >> 8, 691 & 255};
-static const uint8_t changed[47] = {'A', 4, 0, 0, 0, 0, 1};
+static const uint8_t failed[815] = {'A', 5, 0, 691 >> 8, 691 & 255};
+static const uint8_t counted[815] = {'A', 5, 0, 691 >> 8, 691 & 255, 0, 1, [45] = 4};
+static const uint8_t repeated[815] = {'A', 5, 1, 691 >> 8, 691 & 255};
+static const uint8_t changed[815] = {'A', 5, 0, 0, 0, 0, 1};
 /* a change with another old hash under its new one */
-static const uint8_t spoiled[47] = {'A', 4, 0, 709 >> 8, 709 & 255, 5};
+static const uint8_t spoiled[815] = {'A', 5, 0, 709 >> 8, 709 & 255, 5};
 static const uint8_t peer[22] = {'P', 1, 1, 7, [12] = 8}; /* it sent a packet, identifier 7 */
 static const uint8_t response[63] = {2, 7, 0, 62, 49, [53] = 1, 'D', 'O', 'M', '\\', 'U', 's', 'e',
                                      'r'};
@@ -254,29 +281,53 @@ static const struct function {
     {"nt_hash", nt_hash, 0, BAD, {{password, 516, FIXED}, {NULL, 16, FIXED}}},
     {"lm_hash", lm_hash, 0, BAD, {{zeros, 14, 0, 0, 8}, {NULL, 16, FIXED}}},
     {"make_record", make_record, 0, BAD,
-     {{zeros, 16, FIXED}, {zeros, 16, FIXED}, {NULL, 42, FIXED}}},
-    {"make_record, NT", make_record_nt, 0, BAD, {{zeros, 16, FIXED}, {NULL, 42, FIXED}}},
-    {"make_record, no hash", make_record_bare, 0, BAD, {{NULL, 42, FIXED}}},
+     {{zeros, 16, FIXED}, {zeros, 16, FIXED}, {NULL, 810, FIXED}}},
+    {"make_record, NT", make_record_nt, 0, BAD, {{zeros, 16, FIXED}, {NULL, 810, FIXED}}},
+    {"make_record, no hash", make_record_bare, 0, BAD, {{NULL, 810, FIXED}}},
     {"make_record, other bits", make_record_bits, BAD, BAD,
-     {{zeros, 16, FIXED}, {zeros, 16, FIXED}, {NULL, 42, FIXED}}},
+     {{zeros, 16, FIXED}, {zeros, 16, FIXED}, {NULL, 810, FIXED}}},
     {"read_record", read_record, 0, BAD,
-     {{record, 42, FIXED}, {NULL, 16, FIXED}, {NULL, 16, FIXED}}},
-    {"record_failures", record_failures, 3, NOT, {{record, 42, TOLD}}},
-    {"record_failures, nobody", record_failures, 0, NOT, {{nobody, 42, TOLD}}},
-    {"set_failures", set_failures, 0, BAD, {{record, 42, FIXED}}},
-    {"set_failures, nobody", set_failures, 0, BAD, {{nobody, 42, FIXED}}},
-    {"set_failures, 256", set_failures_over, BAD, BAD, {{record, 42, FIXED}}},
+     {{record, 810, FIXED}, {NULL, 16, FIXED}, {NULL, 16, FIXED}}},
+    {"record_failures", record_failures, 3, NOT, {{record, 810, TOLD}}},
+    {"record_failures, nobody", record_failures, 0, NOT, {{nobody, 810, TOLD}}},
+    {"set_failures", set_failures, 0, BAD, {{record, 810, FIXED}}},
+    {"set_failures, nobody", set_failures, 0, BAD, {{nobody, 810, FIXED}}},
+    {"set_failures, 256", set_failures_over, BAD, BAD, {{record, 810, FIXED}}},
+    {"record_response", record_response, 0, BAD,
+     {{record, 810, FIXED}, {zeros, 8, FIXED}, {NULL, 24, FIXED}}},
+    {"record_response, LM", record_response_lm, 0, BAD,
+     {{record, 810, FIXED}, {zeros, 8, FIXED}, {NULL, 24, FIXED}}},
+    {"record_response, no NT", record_response, 102, BAD,
+     {{lm_alone, 810, FIXED}, {zeros, 8, FIXED}, {NULL, 24, FIXED}}},
+    {"record_response, no LM", record_response_lm, 102, BAD,
+     {{nt_alone, 810, FIXED}, {zeros, 8, FIXED}, {NULL, 24, FIXED}}},
+    {"record_response, nobody", record_response, 102, BAD,
+     {{nobody, 810, FIXED}, {zeros, 8, FIXED}, {NULL, 24, FIXED}}},
+    {"record_response, other", record_response_other, BAD, BAD,
+     {{record, 810, FIXED}, {zeros, 8, FIXED}, {NULL, 24, FIXED}}},
+    /* a record of before is refused, whatever its size */
+    {"read_record, of 0.7.0", read_record, BAD, BAD,
+     {{outdated, 42, FIXED}, {NULL, 16, FIXED}, {NULL, 16, FIXED}}},
+    {"read_record, half way", read_record, BAD, BAD,
+     {{half_way, 810, FIXED}, {NULL, 16, FIXED}, {NULL, 16, FIXED}}},
+    {"record_failures, of 0.7.0", record_failures, NOT, NOT, {{outdated, 42, TOLD}}},
+    {"set_failures, of 0.7.0", set_failures, BAD, BAD, {{outdated, 42, FIXED}}},
+    {"record_response, of 0.7.0", record_response, BAD, BAD,
+     {{outdated, 42, FIXED}, {zeros, 8, FIXED}, {NULL, 24, FIXED}}},
+    {"step, of 0.7.0", step, BAD, BAD,
+     {{opened, 60, FIXED}, {response, 62, FIXED}, {outdated, 42, FIXED}, {NULL, 17, FIXED},
+     {NULL, 814, FIXED}}},
     /* a byte less is the colon behind the sixth field of the last line */
     {"find_account", find_account, 0, BAD,
-     {{one_line, 97, 0, 14, 0}, {name, 1, 0, 0, 0}, {NULL, 42, FIXED}}},
+     {{one_line, 97, 0, 14, 0}, {name, 1, 0, 0, 0}, {NULL, 810, FIXED}}},
     {"find_account, doubled", find_account_two, 15, BAD,
-     {{two_lines, 195, 0, 14, 15}, {name, 1, 0, 0, 0}, {NULL, 42, FIXED}}},
+     {{two_lines, 195, 0, 14, 15}, {name, 1, 0, 0, 0}, {NULL, 810, FIXED}}},
     {"write_account", write_account, 0, BAD,
-     {{one_line, 97, 103, 14, 0}, {name, 1, 103, 103, 103}, {record, 42, FIXED}}},
+     {{one_line, 97, 103, 14, 0}, {name, 1, 103, 103, 103}, {record, 810, FIXED}}},
     {"write_account, doubled", write_account_two, 15, BAD,
-     {{two_lines, 195, 103, 14, 15}, {name, 1, 103, 103, 103}, {record, 42, FIXED}}},
+     {{two_lines, 195, 103, 14, 15}, {name, 1, 103, 103, 103}, {record, 810, FIXED}}},
     {"write_account, nobody", write_account, 102, BAD,
-     {{one_line, 97, 102, 102, 102}, {name, 1, 102, 102, 102}, {nobody, 42, FIXED}}},
+     {{one_line, 97, 102, 102, 102}, {name, 1, 102, 102, 102}, {nobody, 810, FIXED}}},
     {"count_accounts", count_accounts, 20020, 0, {{two_lines, 195, 0, 21010, 20020}}},
     {"make_list", make_list, 0, 24, {{NULL, 28, 24, 24, 24}}},
     {"list_used", list_used, 1, NOT, {{one_used, 36, TOLD}}},
@@ -295,25 +346,25 @@ static const struct function {
     {"open, identifier 256", opening_identifier, BAD, BAD,
      {{zeros, 8, FIXED}, {none_used, 28, FIXED}, {NULL, 60, FIXED}, {NULL, 17, FIXED}}},
     {"step", step, 0, BAD,
-     {{opened, 60, FIXED}, {response, 62, 3, 3, 0}, {nobody, 42, FIXED}, {NULL, 17, 2, 2, 0},
-     {NULL, 46, FIXED}}},
+     {{opened, 60, FIXED}, {response, 62, 3, 3, 0}, {nobody, 810, FIXED}, {NULL, 17, 2, 2, 0},
+     {NULL, 814, FIXED}}},
     {"step, a repeat", step, 0, BAD,
-     {{ended, 60, FIXED}, {response, 62, 3, 3, 0}, {nobody, 42, FIXED}, {NULL, 17, 2, 2, 0},
-     {NULL, 46, FIXED}}},
+     {{ended, 60, FIXED}, {response, 62, 3, 3, 0}, {nobody, 810, FIXED}, {NULL, 17, 2, 2, 0},
+     {NULL, 814, FIXED}}},
     {"step, ended", step, 1, BAD,
-     {{ended, 60, FIXED}, {challenge, 13, 3, 3, 1}, {nobody, 42, FIXED}, {NULL, 17, 2, 2, 1},
-     {NULL, 46, FIXED}}},
-    {"answer_reason", answer_reason, 691, NOT, {{failed, 46, TOLD}}},
-    {"answer_repeated", answer_repeated, 1, NOT, {{repeated, 46, TOLD}}},
-    {"answer_repeated, judged", answer_repeated, 0, NOT, {{failed, 46, TOLD}}},
-    {"answer_fault", answer_fault, MSCHAP_FAULT_OLD_HASH_WRONG, NOT, {{spoiled, 46, TOLD}}},
-    {"answer_fault, none", answer_fault, 0, NOT, {{changed, 46, TOLD}}},
-    {"answer_record", answer_record, 0, BAD, {{changed, 46, FIXED}, {NULL, 42, FIXED}}},
+     {{ended, 60, FIXED}, {challenge, 13, 3, 3, 1}, {nobody, 810, FIXED}, {NULL, 17, 2, 2, 1},
+     {NULL, 814, FIXED}}},
+    {"answer_reason", answer_reason, 691, NOT, {{failed, 814, TOLD}}},
+    {"answer_repeated", answer_repeated, 1, NOT, {{repeated, 814, TOLD}}},
+    {"answer_repeated, judged", answer_repeated, 0, NOT, {{failed, 814, TOLD}}},
+    {"answer_fault", answer_fault, MSCHAP_FAULT_OLD_HASH_WRONG, NOT, {{spoiled, 814, TOLD}}},
+    {"answer_fault, none", answer_fault, 0, NOT, {{changed, 814, TOLD}}},
+    {"answer_record", answer_record, 0, BAD, {{changed, 814, FIXED}, {NULL, 810, FIXED}}},
     {"answer_record, counted", answer_record, 0, BAD,
-     {{counted, 46, FIXED}, {NULL, 42, FIXED}}},
-    {"answer_record, none", answer_record, 102, BAD, {{failed, 46, FIXED}, {NULL, 42, FIXED}}},
+     {{counted, 814, FIXED}, {NULL, 810, FIXED}}},
+    {"answer_record, none", answer_record, 102, BAD, {{failed, 814, FIXED}, {NULL, 810, FIXED}}},
     {"answer_record, a repeat", answer_record, 102, BAD,
-     {{repeated, 46, FIXED}, {NULL, 42, FIXED}}},
+     {{repeated, 814, FIXED}, {NULL, 810, FIXED}}},
     {"conversation_awaits", awaits, 2, NOT, {{opened, 60, TOLD}}},
     {"conversation_awaits, ended", awaits, 0, NOT, {{ended, 60, TOLD}}},
     {"conversation_identifier", identifier, 7, NOT, {{opened, 60, TOLD}}},

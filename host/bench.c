@@ -53,6 +53,7 @@
 #define PLACES 4     /* in a list */
 #define SENT 2       /* in a peer: whether a packet was sent, and its identifier */
 #define CHARACTERS 4 /* in a password */
+#define LAST_KEYS (42 + 46 * 8) /* in a record: the last two round keys of the NT hash */
 
 /* What a batch works on. Every call takes its input from the output of the call before: so none can
    be dropped, no two can overlap, and one wrong byte shows in all that follows. */
@@ -91,7 +92,19 @@ struct opening {
 
 static struct opening empty, half, nearly, full, alike, few;
 
+/* A record whose NT hash is the key of the work that begins: it keeps the round keys of it. */
+static mschap_record kept;
+
 typedef void batch(struct work *w, long calls);
+
+/* The challenge of the next call by kept schedules, of all three blocks of this one's response. */
+static void next_challenge(struct work *w, const uint8_t *out)
+{
+    uint64_t block[3];
+    memcpy(block, out, sizeof block);
+    block[0] ^= block[1] ^ block[2];
+    memcpy(w->challenge, block, sizeof w->challenge);
+}
 
 /* ---- ours */
 
@@ -132,6 +145,30 @@ static void our_answer(struct work *w, long calls)
         memcpy(w->key, out, 16);
         memcpy(w->challenge, out + 16, 8);
     }
+}
+
+static void our_kept(struct work *w, long calls)
+{
+    uint8_t out[24];
+    while (calls-- > 0) {
+        w->wrong |= mschap_record_response(&kept, sizeof kept, MSCHAP_HAS_NT_HASH,
+                                           w->challenge, 8, out, sizeof out);
+        next_challenge(w, out);
+    }
+}
+
+/* The round keys of a hash, made into a record; the next hash is from the third schedule. */
+static void our_record(struct work *w, long calls)
+{
+    mschap_nthash hash;
+    mschap_record record;
+    memcpy(&hash, w->key, sizeof hash);
+    while (calls-- > 0) {
+        w->wrong |= mschap_make_record(MSCHAP_FOUND | MSCHAP_HAS_NT_HASH, &hash, sizeof hash,
+                                       NULL, 0, &record, sizeof record);
+        memcpy(&hash, record.bytes + LAST_KEYS, sizeof hash);
+    }
+    memcpy(w->key, &hash, sizeof hash);
 }
 
 static void our_hash_and_answer(struct work *w, long calls)
@@ -317,15 +354,20 @@ static void their_md4(struct work *w, long calls)
 
 /* libcrypto takes a key of 8 bytes, with a parity bit in each that it ignores: spreading the 7 is
    part of what a caller pays. */
-static void their_block(const uint8_t *key, uint8_t *block, uint8_t *out)
+static void their_schedule(const uint8_t *key, DES_key_schedule *schedule)
 {
     DES_cblock spread;
-    DES_key_schedule schedule;
     spread[0] = key[0];
     for (int i = 1; i < 7; i++)
         spread[i] = (uint8_t)(key[i - 1] << (8 - i) | key[i] >> i);
     spread[7] = (uint8_t)(key[6] << 1);
-    DES_set_key_unchecked(&spread, &schedule);
+    DES_set_key_unchecked(&spread, schedule);
+}
+
+static void their_block(const uint8_t *key, uint8_t *block, uint8_t *out)
+{
+    DES_key_schedule schedule;
+    their_schedule(key, &schedule);
     DES_ecb_encrypt((const_DES_cblock *)block, (DES_cblock *)out, &schedule, DES_ENCRYPT);
 }
 
@@ -355,6 +397,20 @@ static void their_three(const uint8_t *hash, uint8_t *challenge, uint8_t *out)
     memcpy(keys, hash, 16);
     for (int i = 0; i < 3; i++)
         their_block(keys + 7 * i, challenge, out + 8 * i);
+}
+
+/* The same with its schedules kept: made once, of the key of the work that begins. */
+static DES_key_schedule their_schedules[3];
+
+static void their_kept(struct work *w, long calls)
+{
+    uint8_t out[24];
+    while (calls-- > 0) {
+        for (int i = 0; i < 3; i++)
+            DES_ecb_encrypt(&w->challenge, (DES_cblock *)(out + 8 * i), &their_schedules[i],
+                            DES_ENCRYPT);
+        next_challenge(w, out);
+    }
 }
 
 static void their_answer(struct work *w, long calls)
@@ -400,6 +456,7 @@ static struct line {
     {.what = "challenge response", .run = {our_answer, THEIRS(their_answer)}},
     {.what = "NT hash, challenge response", .run = {our_hash_and_answer,
                                                     THEIRS(their_hash_and_answer)}},
+    {.what = "response by kept schedules", .run = {our_kept, THEIRS(their_kept)}},
     {.what = "judged Response", .run = {our_response, NULL}},
     {.what = "judged Response, wrong", .run = {our_wrong_response, NULL}},
     {.what = "judged Response, no record", .run = {our_unknown, NULL}},
@@ -415,16 +472,22 @@ static struct line {
     {.what = "opening, none of 8 used", .run = {open_few, NULL}},
     {.what = "message of 256 octets, read", .run = {read_failure, NULL}},
     {.what = "password of 13 octets UTF-8", .run = {make_password, NULL}},
+    {.what = "record of an NT hash", .run = {our_record, NULL}},
 };
 
 #define LINES (sizeof lines / sizeof lines[0])
 #define ANSWER 3
 #define HASH_AND_ANSWER 4
-#define RESPONSE 5
-#define OPEN_EMPTY 12
-#define OPEN_NEARLY 14
-#define OPEN_ALIKE 16
-#define OPEN_FEW 17
+#define KEPT 5
+#define RESPONSE 6
+#define OPEN_EMPTY 13
+#define OPEN_NEARLY 15
+#define OPEN_ALIKE 17
+#define OPEN_FEW 18
+/* What is aimed at: the response by kept schedules over OpenSSL's with its own kept, and a judged
+   Response over OpenSSL's challenge response, which makes three schedules. */
+#define KEPT_AIM 0.75
+#define RESPONSE_AIM 0.5
 
 static void begin(struct work *w)
 {
@@ -545,6 +608,21 @@ static uint32_t prepare(const struct work *w)
                                  change.packet, sizeof change.packet);
     change.size = sizeof change.packet;
     return wrong;
+}
+
+/* The schedules that are kept, of both sides. Returns 0 where ours could be made. */
+static uint32_t keep_schedules(const struct work *w)
+{
+    mschap_nthash hash;
+    memcpy(&hash, w->key, sizeof hash);
+#ifdef HAVE_OPENSSL
+    uint8_t keys[21] = {0};
+    memcpy(keys, w->key, 16);
+    for (int i = 0; i < 3; i++)
+        their_schedule(keys + 7 * i, &their_schedules[i]);
+#endif
+    return mschap_make_record(MSCHAP_FOUND | MSCHAP_HAS_NT_HASH, &hash, sizeof hash, NULL, 0,
+                              &kept, sizeof kept);
 }
 
 /* A list with that many places, of which the first are used: by drawn bytes, or by drawn bytes that
@@ -721,6 +799,15 @@ static uint32_t over_the_file(const char *path, char **commands, int count)
     return w.wrong;
 }
 
+#ifdef HAVE_OPENSSL
+static void aimed(const char *what, double ours, double theirs, double aim)
+{
+    double ratio = ours / theirs;
+    printf("%-30s%12.0f%12.0f%10.2f%10.2f%s\n", what, ours, theirs, ratio, aim,
+           ratio > aim ? "  missed" : "");
+}
+#endif
+
 int main(int argc, char **argv)
 {
     static struct work ours, theirs;
@@ -734,7 +821,7 @@ int main(int argc, char **argv)
     }
     make_file();
     begin(&ours);
-    if (prepare(&ours)) {
+    if (prepare(&ours) || keep_schedules(&ours)) {
         printf("the packets to be judged could not be made\n");
         return 1;
     }
@@ -805,9 +892,18 @@ int main(int argc, char **argv)
     }
     printf("\njudged Response / (challenge response + NT hash): %.2f\n",
            ns[RESPONSE][OURS] / ns[HASH_AND_ANSWER][OURS]);
-    /* The record holds the hash, so a step has only the answer to work out: this is what judging
-       adds to that. */
+    /* The record holds the hash with its schedules, so a step has only three blocks to work out:
+       this is what judging adds to them. */
     printf("judged Response / challenge response: %.2f\n", ns[RESPONSE][OURS] / ns[ANSWER][OURS]);
+    printf("judged Response / response by kept schedules: %.2f\n",
+           ns[RESPONSE][OURS] / ns[KEPT][OURS]);
+#ifdef HAVE_OPENSSL
+    printf("\n%-30s%12s%12s%10s%10s\n", "", "ours", "OpenSSL", "ratio", "at most");
+    aimed("by kept schedules, both", ns[KEPT][OURS], ns[KEPT][OPENSSL], KEPT_AIM);
+    aimed("judged / challenge response", ns[RESPONSE][OURS], ns[ANSWER][OPENSSL], RESPONSE_AIM);
+    printf("OpenSSL's challenge response (three schedules made) / by kept schedules: %.2f\n\n",
+           ns[ANSWER][OPENSSL] / ns[KEPT][OPENSSL]);
+#endif
     printf("opening, for each used place: %.2f ns; %.2f ns where all end as the challenge does\n",
            (ns[OPEN_NEARLY][OURS] - ns[OPEN_EMPTY][OURS]) / NEARLY,
                (ns[OPEN_ALIKE][OURS] - ns[OPEN_EMPTY][OURS]) / NEARLY);

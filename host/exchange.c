@@ -157,6 +157,11 @@ static int give_all(int turn)
     } else if (named("mschap_set_failures")) {
         give_record(0);
         number[1] = failures[turn % 3];
+    } else if (named("mschap_record_response")) {
+        give_record(0);
+        number[1] = MSCHAP_HAS_NT_HASH;
+        put(2, "12345678", MSCHAP_CHALLENGE_SIZE);
+        give_out(3, MSCHAP_RESPONSE_SIZE, turn);
     } else if (named("mschap_find_account")) {
         put(0, file, sizeof file - 1);
         put(1, "User", 4);

@@ -296,20 +296,52 @@ static void try_passwords(void)
     }
 }
 
-/* ---- records: kind, version, whether there is an account, and the account */
+/* ---- records: kind, version, whether there is an account, the account, and the round keys of the
+        NT hash and of the LM hash */
 
 #define FOUND 2
 #define NT 3
 #define LM 20
 #define FLAGS 37
 #define FAILURES 41
+#define ROUND_KEYS 42
+#define ACCOUNT_SIZE (ROUND_KEYS - NT)
 
-static uint32_t failures;
+static uint32_t failures, which; /* which: of the hashes */
 
 CALL(mschap_make_record, flags, BUFFER(0), BUFFER(1), BUFFER(2))
 CALL(mschap_read_record, BUFFER(0), &flags, BUFFER(1), BUFFER(2))
 CALL(mschap_record_failures, BUFFER(0))
 CALL(mschap_set_failures, BUFFER(0), failures)
+CALL(mschap_record_response, BUFFER(0), which, BUFFER(1), BUFFER(2))
+
+/* The round keys of the record that is given, whosever they are: drawn, or of one byte. */
+static void give_round_keys(int i, int kind)
+{
+    static const uint8_t bytes[] = {0, 255, 0x55};
+    for (size_t k = ROUND_KEYS; k < MSCHAP_RECORD_SIZE; k++)
+        given[i].octets[k] = kind < 3 ? bytes[kind] : draw();
+}
+
+/* Both responses of the record that is given, and what is no hash; its flags are f. */
+static void try_record_responses(uint32_t f)
+{
+    for (which = 0; which <= 8; which++) {
+        const int is_one = which == MSCHAP_HAS_NT_HASH || which == MSCHAP_HAS_LM_HASH;
+        give(1, MSCHAP_CHALLENGE_SIZE);
+        give(2, MSCHAP_RESPONSE_SIZE);
+        if (!is_one) {
+            TRY(mschap_record_response, MSCHAP_BAD_ARGUMENT);
+            continue;
+        }
+        TRY(mschap_record_response, f & which ? MSCHAP_OK : MSCHAP_NO_RECORD);
+        given[2].size--;
+        TRY(mschap_record_response, MSCHAP_BAD_ARGUMENT);
+        given[2].size++;
+        given[1].size--;
+        TRY(mschap_record_response, MSCHAP_BAD_ARGUMENT);
+    }
+}
 
 static void try_records(void)
 {
@@ -325,6 +357,12 @@ static void try_records(void)
         give(1, MSCHAP_HASH_SIZE);
         give(2, MSCHAP_HASH_SIZE);
         TRY(mschap_read_record, f < 128 ? MSCHAP_OK : ANY);
+        for (int kind = 0; kind < 8 && f < 128; kind++) {
+            try_record_responses(f);
+            give_round_keys(0, kind);
+        }
+        give(1, MSCHAP_HASH_SIZE);
+        give(2, MSCHAP_HASH_SIZE);
         for (failures = 0; failures <= 256 && f < 128; failures += f == 7 ? 1 : 64) {
             const int fits = failures < 256;
             TRY(mschap_set_failures, fits ? MSCHAP_OK : MSCHAP_BAD_ARGUMENT);
@@ -333,8 +371,12 @@ static void try_records(void)
         }
         given[0].octets[FOUND] = 2; /* no value */
         failures = f;
+        which = MSCHAP_HAS_NT_HASH;
         TRY(mschap_record_failures, MSCHAP_INVALID);
         TRY(mschap_set_failures, MSCHAP_BAD_ARGUMENT);
+        give(1, MSCHAP_CHALLENGE_SIZE);
+        give(2, MSCHAP_RESPONSE_SIZE);
+        TRY(mschap_record_response, MSCHAP_BAD_ARGUMENT);
         given[0].size--;
         TRY(mschap_record_failures, MSCHAP_INVALID);
         TRY(mschap_set_failures, MSCHAP_BAD_ARGUMENT);
@@ -603,12 +645,13 @@ CALL(mschap_domain_length, BUFFER(0))
 static const uint8_t text[] = {'C', 'L', 'I', 'E', 'N', 'T'};
 static mschap_nthash nt;
 static mschap_lmhash lan;
+static mschap_record made; /* of both, with their round keys */
 static uint8_t challenge[MSCHAP_CHALLENGE_SIZE];
 
 /* A conversation, behind its kind and version: the awaited code, LM, limit, identifier, retries,
-   the challenge, the account that is kept, which is as in a record from NT on, and the last answer:
-   whether there is one, code, identifier, which reply (0: Success, 1: Failure, 2: with a retry) and
-   the reason in two bytes. */
+   the challenge, the account that is kept, which is as in a record from NT on but without its round
+   keys, and the last answer: whether there is one, code, identifier, which reply (0: Success, 1:
+   Failure, 2: with a retry) and the reason in two bytes. */
 #define AWAITED 2
 #define LM_ALLOWED 3
 #define LIMIT 4
@@ -625,17 +668,12 @@ static void give_step(uint8_t code)
     const uint8_t front[] = {'C', MSCHAP_CONVERSATION_LAYOUT, code, 1, 5, 7, 2};
     uint8_t *conversation = give(0, MSCHAP_CONVERSATION_SIZE);
     uint8_t *record = give(2, MSCHAP_RECORD_SIZE);
-    memset(record, 0, MSCHAP_RECORD_SIZE);
-    record[0] = 'R';
-    record[1] = MSCHAP_RECORD_LAYOUT;
-    record[FOUND] = record[NT] = record[LM] = 1;
-    memcpy(record + NT + 1, &nt, sizeof nt);
-    memcpy(record + LM + 1, &lan, sizeof lan);
+    memcpy(record, &made, sizeof made);
     memset(conversation, 0, MSCHAP_CONVERSATION_SIZE);
     memcpy(conversation, front, sizeof front);
     memcpy(conversation + CHALLENGE, challenge, sizeof challenge);
     if (code == MSCHAP_AWAITS_CHANGE)
-        memcpy(conversation + KEPT, record + NT, MSCHAP_RECORD_SIZE - NT);
+        memcpy(conversation + KEPT, record + NT, ACCOUNT_SIZE);
     give(3, MSCHAP_REPLY_SIZE);
     give(4, MSCHAP_ANSWER_SIZE);
 }
@@ -728,6 +766,14 @@ static void try_judged(void)
         }
         given[1].octets[29] ^= 1;
         try_step(4);
+        give_step(2);
+        give_response(1, n, n / 2);
+        give_round_keys(2, (int)n % 4); /* not those of the hash: another response is right */
+        try_step(4);
+        mschap_record_response((mschap_record *)given[2].octets, MSCHAP_RECORD_SIZE,
+                               MSCHAP_HAS_NT_HASH, challenge, sizeof challenge,
+                               given[1].octets + 29, 24);
+        try_step(3);
     }
     for (size_t n = 0; n <= 512; n += 2) {
         give_step(6);
@@ -749,6 +795,8 @@ static void try_judged(void)
             packet[(draw() * 256u + draw()) % given[1].size] = draw();
         for (int flag = FLAGS; flag < FAILURES; flag++)
             given[2].octets[flag] = draw() % 2;
+        if (k % 3 == 0)
+            give_round_keys(2, draw() % 4);
         given[2].octets[FAILURES] = draw();
         given[0].octets[LIMIT] = draw();
         TRY(mschap_step, ANY);
@@ -871,6 +919,8 @@ static void try_steps(void)
     mschap_make_password(text, sizeof text, &password, sizeof password);
     mschap_nt_hash(&password, sizeof password, &nt, sizeof nt);
     mschap_lm_hash(text, sizeof text, &lan, sizeof lan);
+    mschap_make_record(MSCHAP_FOUND | MSCHAP_HAS_NT_HASH | MSCHAP_HAS_LM_HASH, &nt, sizeof nt,
+                       &lan, sizeof lan, &made, sizeof made);
     for (size_t i = 0; i < sizeof challenge; i++)
         challenge[i] = draw();
     try_judged();

@@ -3,11 +3,14 @@
  * and the last try, and for each fault of a change, and prints a line for each call: R of the
  * reply or its reason, and the way. The time is not to tell which way it was, so tests/timing.sh
  * counts the instructions of each call. Exit status 1 where a call does not draw its reply.
+ * Neither is it to tell the round keys: so a record carries those of its hashes, another's, and
+ * bytes that are no schedule's.
  *
  * With another function's name for its argument it calls that one instead: mschap_find_account with
  * names that are in a file and names that are not, as the time is not to tell where a name is, nor
- * how much of a name is right; and those through which the count of failures goes, with different
- * counts, as the time is not to tell the count.
+ * how much of a name is right; those through which the count of failures and the round keys go,
+ * with different ones, as the time is to tell neither; and the two that make round keys or answer
+ * by them, mschap_make_record and mschap_record_response, with different hashes.
  */
 #include <mschap.h>
 #include <stdio.h>
@@ -25,7 +28,10 @@
 #define LM 20
 #define FLAGS 37
 #define FAILURES 41
-#define ACCOUNT_SIZE 39 /* from NT on */
+#define ACCOUNT_SIZE 39 /* from NT on, without the round keys */
+#define NT_KEYS 42
+#define LM_KEYS 426
+#define KEYS_SIZE 384 /* of one hash */
 
 /* and a conversation: */
 #define AWAITED 2
@@ -34,7 +40,7 @@
 #define IDENTIFIER 5
 #define RETRIES 6
 #define CHALLENGE 7
-#define KEPT 15 /* the account, as a record has it from NT on */
+#define KEPT 15 /* the account, as a record has it from NT on, without round keys */
 
 /* and a change: the last four octets of the block, the old hash under the new one, and so on */
 #define LENGTH 516
@@ -56,6 +62,9 @@ static const uint8_t challenge[MSCHAP_CHALLENGE_SIZE] =
 static mschap_nthash nt_hash;
 static mschap_lmhash lm_hash;
 static uint8_t nt_right[MSCHAP_RESPONSE_SIZE], lm_right[MSCHAP_RESPONSE_SIZE];
+
+/* That user's record, and another's, for its round keys. */
+static mschap_record own, another;
 
 static uint8_t retries;
 static int failed;
@@ -90,10 +99,7 @@ static void rightful(void)
     conversation[IDENTIFIER] = 7;
     conversation[RETRIES] = retries;
     memcpy(conversation + CHALLENGE, challenge, sizeof challenge);
-    nobody();
-    record[FOUND] = record[NT] = record[LM] = 1;
-    memcpy(record + NT + 1, &nt_hash, sizeof nt_hash);
-    memcpy(record + LM + 1, &lm_hash, sizeof lm_hash);
+    found = own;
     memcpy(packet, head, sizeof head);
     memcpy(packet + LM_RESPONSE, lm_right, sizeof lm_right);
     memcpy(packet + NT_RESPONSE, nt_right, sizeof nt_right);
@@ -159,7 +165,8 @@ static void right_but_locked(const char *way)
     not_valid(way, record[FAILURES]);
 }
 
-/* Without a hash, the bytes that stand beside the flag stay: they are to have no effect. */
+/* Without a hash, the bytes that stand beside the flag stay, its round keys too: they are to have
+   no effect. */
 static void without(size_t hash)
 {
     record[hash] = 0;
@@ -311,6 +318,94 @@ static void all_counts(void)
     }
 }
 
+/* Other round keys than those of the hashes: another's, and what no hash has. */
+static const char *const carried[] = {"its own", "another's", "zeros", "ones", "a pattern"};
+#define CARRIED (sizeof carried / sizeof *carried)
+
+static void carry(size_t kind)
+{
+    static const uint8_t bytes[] = {0, 0xff, 0x5a};
+    if (kind == 1)
+        memcpy(record + NT_KEYS, another.bytes + NT_KEYS, 2 * KEYS_SIZE);
+    else if (kind > 1)
+        memset(record + NT_KEYS, bytes[kind - 2], 2 * KEYS_SIZE);
+}
+
+/* Both responses are right by the round keys that the record carries. */
+static void answer_by_carried(void)
+{
+    failed |= mschap_record_response(&found, sizeof found, MSCHAP_HAS_NT_HASH,
+                                     challenge, sizeof challenge,
+                                     packet + NT_RESPONSE, MSCHAP_RESPONSE_SIZE) != MSCHAP_OK;
+    failed |= mschap_record_response(&found, sizeof found, MSCHAP_HAS_LM_HASH,
+                                     challenge, sizeof challenge,
+                                     packet + LM_RESPONSE, MSCHAP_RESPONSE_SIZE) != MSCHAP_OK;
+}
+
+/* A record is judged by the round keys that it carries: the response that is right by them is
+   valid, the one that is right by the hash is not. */
+static void all_carried(void)
+{
+    char way[128];
+    rightful();
+    for (size_t kind = 0; kind < CARRIED; kind++) {
+        sprintf(way, "round keys: %s, right by them", carried[kind]);
+        carry(kind);
+        answer_by_carried();
+        valid(way);
+        carry(kind);
+        answer_by_carried();
+        packet[FLAG] = 0;
+        valid(way);
+        carry(kind);
+        answer_by_carried();
+        without(NT);
+        valid(way);
+        sprintf(way, "round keys: %s, right by them but for a bit", carried[kind]);
+        carry(kind);
+        answer_by_carried();
+        packet[NT_RESPONSE] ^= 1;
+        invalid(way);
+        carry(kind);
+        answer_by_carried();
+        packet[FLAG] = 0;
+        packet[LM_RESPONSE + 23] ^= 0x80;
+        invalid(way);
+        sprintf(way, "round keys: %s, right by them but locked", carried[kind]);
+        carry(kind);
+        answer_by_carried();
+        counted(5, 5);
+        right_but_locked(way);
+        sprintf(way, "round keys: %s, right by them but no record", carried[kind]);
+        carry(kind);
+        answer_by_carried();
+        record[FOUND] = 0;
+        invalid(way);
+        sprintf(way, "round keys: %s, right by them but no hash", carried[kind]);
+        carry(kind);
+        answer_by_carried();
+        without(NT);
+        without(LM);
+        invalid(way);
+        sprintf(way, "round keys: %s, right by them but LM off", carried[kind]);
+        carry(kind);
+        answer_by_carried();
+        conversation[LM_ALLOWED] = packet[FLAG] = 0;
+        invalid(way);
+        if (kind == 0)
+            continue;
+        sprintf(way, "round keys: %s, right by the hash", carried[kind]);
+        carry(kind);
+        invalid(way);
+        carry(kind);
+        packet[FLAG] = 0;
+        invalid(way);
+        carry(kind);
+        without(NT);
+        invalid(way);
+    }
+}
+
 /* A conversation that has kept the user's record, and the right change. */
 static void awaiting_change(void)
 {
@@ -409,34 +504,111 @@ static void all_lookups(void)
 static const uint8_t counts[] = {0, 1, 4, 5, 6, 254, 255};
 
 /* The record of a judged Response is handed out, its count told, and another one set. */
-static void all_records(const char *function)
+static void with_count(const char *function, uint8_t count, size_t kind)
 {
     mschap_record after;
     uint32_t number, told;
-    size_t i, k;
-    for (i = 0; i < sizeof counts; i++) {
-        rightful();
-        record[FAILURES] = counts[i];
-        if (strcmp(function, "mschap_answer_record") == 0) {
-            failed |= mschap_step(&talk, sizeof talk, packet, sizeof packet, &found, sizeof found,
-                                  reply, sizeof reply, &answer, sizeof answer) != MSCHAP_OK;
-            number = mschap_answer_record(&answer, sizeof answer, &after, sizeof after);
-            told = after.bytes[FAILURES];
-            failed |= number != MSCHAP_OK || told != (counts[i] < 5 ? 0 : counts[i]);
-            printf("handed count %u\n", counts[i]);
-        } else if (strcmp(function, "mschap_record_failures") == 0) {
-            failed |= mschap_record_failures(&found, sizeof found) != counts[i];
-            printf("told count %u\n", counts[i]);
-        } else {
-            for (k = 0; k < sizeof counts; k++) {
-                number = mschap_set_failures(&found, sizeof found, counts[k]);
-                failed |= number != MSCHAP_OK || record[FAILURES] != counts[k];
-                printf("set count %u\n", counts[k]);
-            }
+    size_t k;
+    rightful();
+    record[FAILURES] = count;
+    carry(kind);
+    if (strcmp(function, "mschap_answer_record") == 0) {
+        answer_by_carried();
+        failed |= mschap_step(&talk, sizeof talk, packet, sizeof packet, &found, sizeof found,
+                              reply, sizeof reply, &answer, sizeof answer) != MSCHAP_OK;
+        number = mschap_answer_record(&answer, sizeof answer, &after, sizeof after);
+        told = after.bytes[FAILURES];
+        failed |= number != MSCHAP_OK || told != (count < 5 ? 0 : count);
+        record[FAILURES] = after.bytes[FAILURES];
+        failed |= memcmp(&after, &found, sizeof found) != 0;
+        printf("handed count %u, round keys %s\n", count, carried[kind]);
+    } else if (strcmp(function, "mschap_record_failures") == 0) {
+        failed |= mschap_record_failures(&found, sizeof found) != count;
+        printf("told count %u, round keys %s\n", count, carried[kind]);
+    } else {
+        for (k = 0; k < sizeof counts; k++) {
+            after = found;
+            after.bytes[FAILURES] = counts[k];
+            number = mschap_set_failures(&found, sizeof found, counts[k]);
+            failed |= number != MSCHAP_OK || memcmp(&after, &found, sizeof found) != 0;
+            printf("set count %u, round keys %s\n", counts[k], carried[kind]);
         }
+    }
+}
+
+/* The response of a record by each of its hashes, which may be two groups: what differs between NT
+   and LM is no secret. */
+static void responses(size_t kind)
+{
+    static const uint32_t hashes[] = {MSCHAP_HAS_NT_HASH, MSCHAP_HAS_LM_HASH};
+    uint8_t response[MSCHAP_RESPONSE_SIZE];
+    size_t i;
+    rightful();
+    carry(kind);
+    for (i = 0; i < 2; i++) {
+        failed |= mschap_record_response(&found, sizeof found, hashes[i],
+                                         challenge, sizeof challenge,
+                                         response, sizeof response) != MSCHAP_OK;
+        failed |= kind == 0 && memcmp(response, i ? lm_right : nt_right, sizeof response) != 0;
+        printf("%s round keys %s\n", i ? "by-LM" : "by-NT", carried[kind]);
+    }
+}
+
+static void make_found(const mschap_nthash *nt, const mschap_lmhash *lm)
+{
+    failed |= mschap_make_record(MSCHAP_FOUND | MSCHAP_HAS_NT_HASH | MSCHAP_HAS_LM_HASH,
+                                 nt, sizeof *nt, lm, sizeof *lm, &found, sizeof found)
+              != MSCHAP_OK;
+}
+
+/* A record made of both hashes, of bytes that may be any. */
+static void records_made(size_t kind)
+{
+    static const uint8_t bytes[] = {0, 0xff, 0x5a};
+    mschap_nthash nt = nt_hash;
+    mschap_lmhash lm = lm_hash;
+    if (kind == 1) {
+        memcpy(&nt, another.bytes + NT + 1, sizeof nt);
+        memcpy(&lm, another.bytes + LM + 1, sizeof lm);
+    } else if (kind > 1) {
+        memset(&nt, bytes[kind - 2], sizeof nt);
+        memset(&lm, bytes[kind - 2], sizeof lm);
+    }
+    make_found(&nt, &lm);
+    failed |= kind < 2 && memcmp(&found, kind ? &another : &own, sizeof found) != 0;
+    printf("made hashes: %s\n", carried[kind]);
+}
+
+static void all_records(const char *function)
+{
+    size_t i, kind;
+    for (kind = 0; kind < CARRIED; kind++) {
+        if (strcmp(function, "mschap_record_response") == 0)
+            responses(kind);
+        else if (strcmp(function, "mschap_make_record") == 0)
+            records_made(kind);
+        else
+            for (i = 0; i < sizeof counts; i++)
+                with_count(function, counts[i], kind);
     }
     if (failed)
         fprintf(stderr, "timing: %s answers otherwise\n", function);
+}
+
+/* The record of a text's two hashes. Where the calls that make one are counted, it has a line of
+   its own group: a large copy takes other instructions where the stack is aligned otherwise. */
+static int makes;
+
+static void make_record(const uint8_t *text, size_t size, mschap_record *made)
+{
+    mschap_password password;
+    failed |= mschap_make_password(text, size, &password, sizeof password) != MSCHAP_OK;
+    failed |= mschap_nt_hash(&password, sizeof password, &nt_hash, sizeof nt_hash) != MSCHAP_OK;
+    failed |= mschap_lm_hash(text, size, &lm_hash, sizeof lm_hash) != MSCHAP_OK;
+    make_found(&nt_hash, &lm_hash);
+    *made = found;
+    if (makes)
+        printf("prepared hashes of a password\n");
 }
 
 /* The change from the password to an empty one, as our peer writes it. */
@@ -462,7 +634,7 @@ static void write_right_change(const mschap_password *password)
 
 int main(int argc, char **argv)
 {
-    static const uint8_t text[] = {'M', 'y', 'P', 'w'};
+    static const uint8_t text[] = {'M', 'y', 'P', 'w'}, others[] = {'c', 'l', 'i', 'e', 'n', 't'};
     static const uint8_t tries[] = {2, 1, 0}; /* retries left: the first try to the last */
     mschap_password password;
     size_t i;
@@ -472,8 +644,9 @@ int main(int argc, char **argv)
         return failed;
     }
     failed |= mschap_make_password(text, sizeof text, &password, sizeof password) != MSCHAP_OK;
-    failed |= mschap_nt_hash(&password, sizeof password, &nt_hash, sizeof nt_hash) != MSCHAP_OK;
-    failed |= mschap_lm_hash(text, sizeof text, &lm_hash, sizeof lm_hash) != MSCHAP_OK;
+    makes = argc == 2 && strcmp(argv[1], "mschap_make_record") == 0;
+    make_record(others, sizeof others, &another);
+    make_record(text, sizeof text, &own);
     failed |= mschap_challenge_response(nt_hash.bytes, sizeof nt_hash, challenge, sizeof challenge,
                                         nt_right, sizeof nt_right) != MSCHAP_OK;
     failed |= mschap_challenge_response(lm_hash.bytes, sizeof lm_hash, challenge, sizeof challenge,
@@ -486,6 +659,7 @@ int main(int argc, char **argv)
         retries = tries[i];
         all_ways();
         all_counts();
+        all_carried();
     }
     write_right_change(&password);
     all_faults();

@@ -1,8 +1,10 @@
 #!/bin/sh
 # Compiles host/bench.c against the archive that `rt staticlib mschap` wrote, and runs it: a table
-# of times, next to OpenSSL's where its headers are installed; and one of the times over an account
-# file, next to those of awk and, where it is installed, Python. Exit status 1 where two differ in
-# an octet or in a count, or a call is not answered as it should be.
+# of times, next to OpenSSL's where its headers are installed, and below it the two ratios that are
+# aimed at, the response by kept schedules over OpenSSL's with its own kept, and a judged Response
+# over OpenSSL's challenge response; and one of the times over an account file, next to those of awk
+# and, where it is installed, Python. Exit status 1 where two differ in an octet or in a count, or a
+# call is not answered as it should be; not where a ratio is missed, since others may be at work.
 set -eu
 cd "$(dirname "$0")/.."
 archive=${1:-target/staticlib/libmschap.a}

@@ -1,8 +1,10 @@
 #!/bin/sh
 # A Response that is not valid takes the same instructions in whatever way it is not: a wrong
 # response, no record, no hash, LM off, or a locked account, at which the right response is no more
-# valid than a wrong one. So do the functions through which the count of failures goes, whatever the
-# count is: it tells whether a guess at a locked account was right. A change that is not accepted
+# valid than a wrong one; and whatever round keys the record carries, those of its hashes, another's
+# or bytes that no hash has. So do the functions through which the count of failures goes, whatever
+# the count is: it tells whether a guess at a locked account was right; and those that make round
+# keys or answer by them, whatever the hashes or the round keys are. A change that is not accepted
 # takes the same but for 8, whatever its fault is: it comes from who knew the old password, and a
 # branch of the compiler's is let pass. A lookup in an account file takes the same wherever the
 # name's line is, and for names of one length that are on no line, however much of them is right.
@@ -16,6 +18,7 @@ ${CC:-cc} -Wall -Wextra -Werror -std=c99 -pedantic -I host/include host/timing.c
     -o "$program"
 functions='mschap_step mschap_find_account'
 functions="$functions mschap_answer_record mschap_record_failures mschap_set_failures"
+functions="$functions mschap_make_record mschap_record_response"
 if ! command -v valgrind > /dev/null; then
     for function in $functions; do
         "$program" $function > /dev/null
@@ -48,6 +51,7 @@ awk '
         if (!("R=1" in calls) || !("R=0" in calls) || !("709" in calls)) bad = 1
         if (!("found" in calls) || !("none" in calls)) bad = 1
         if (!("handed" in calls) || !("told" in calls) || !("set" in calls)) bad = 1
+        if (!("made" in calls) || !("by-NT" in calls) || !("by-LM" in calls)) bad = 1
         for (i = 1; i <= groups; i++)
             if (most[group[i]] - least[group[i]] > (group[i] == "709" ? 8 : 0)) bad = 1
         for (i = 1; bad && i <= NR; i++) print "timing: " line[i]

@@ -57,7 +57,7 @@
  * Check each return value. examples/authenticator.c and examples/peer.c are whole programs. Where
  * accounts are kept in another way, mschap_make_record makes the record that a step takes, of the
  * hash that mschap_make_password and mschap_nt_hash make of a password in UTF-8; and what a step
- * gives, count and all, is stored in its place.
+ * gives, count, round keys and all, is stored in its place (see ROUND KEYS).
  *
  * OLD PHONES
  *   A phone that answers by LM alone is let in only by a conversation that asks for LM:
@@ -173,6 +173,27 @@
  *   that none of them writes at the same time. A hash is as good as its password: let nobody but
  *   the authenticator read the file, or the new one.
  *
+ * ROUND KEYS
+ *   A response is three blocks of DES, each under a part of the hash, and to make the round keys of
+ *   the three takes about as long as the blocks. So since 0.8.0 a record holds them too: behind its
+ *   first 42 bytes those of the NT hash and then those of the LM hash, three times 16 of 8 bytes
+ *   each, the most significant byte first. mschap_make_record, mschap_find_account and an accepted
+ *   change make them, in less than a microsecond for each hash, and a step that judges a Response
+ *   makes none. Beside a hash that is not there they are 0. A program keeps and passes records as
+ *   before, and need not know of this. It gains most where it keeps records: one that looks the
+ *   account up in its file for each Response, or makes its record anew, has them made each time.
+ *
+ *   A Response is judged by the round keys that the record carries, and mschap_record_response goes
+ *   by them too; a change of the password goes by the hash. In each record that this library makes
+ *   the two belong together, and so they do in each that a step gives for such a one. But any bytes
+ *   are valid as round keys, and it is not checked whose they are. So whoever can write a record
+ *   can set them, and get in by a password of his own while its hash is the owner's, as if he had
+ *   written the hash: let nobody else write where records are stored. Such a record comes back from
+ *   a step with the round keys that it had. Written into an account file and found there again it
+ *   has the hash's own, so that then another password gets in than before.
+ *   The round keys are as secret as the hash: they are all that a response needs, and the hash can
+ *   be worked out from them. Let nobody else read them.
+ *
  * LINKING
  *   `make lib` writes libmschap.a, libmschap.so, this header and mschap.pc below target/mschap, for
  *   x86-64 Linux; `make install PREFIX=/usr/local` copies them. Then
@@ -193,11 +214,14 @@
  *   library makes and reads. They hold no pointer, so they may be copied, stored and read again.
  *   Each begins with its kind and the version of that kind's layout, MSCHAP_RECORD_LAYOUT and so
  *   on; one of another kind or version, of another size or with bytes that no value has is refused
- *   with MSCHAP_BAD_ARGUMENT. Records, conversations and answers have a new layout since 0.7.0:
- *   those that were stored before are refused. Make such a record again of what is known of the
- *   account, and open such a conversation again. The others are as 0.2.0 stored them.
- *   Bytes are not signed: store values where nobody else writes. Records, answers, passwords and a
- *   conversation that awaits a change hold secrets: store these where nobody else reads, too.
+ *   with MSCHAP_BAD_ARGUMENT. Records and answers have a new layout and size since 0.8.0, and
+ *   conversations a new layout since 0.7.0: those that were stored before are refused. Make such a
+ *   record again of what is known of the account (the library that stored it tells what is in it:
+ *   mschap_read_record and mschap_record_failures), and open such a conversation again; one that
+ *   0.7.0 stored goes on. The others are as 0.2.0 stored them.
+ *   Bytes are not signed: store values where nobody else writes (for records see ROUND KEYS too).
+ *   Records, answers, passwords and a conversation that awaits a change, which keeps hashes and no
+ *   round keys, hold secrets: store these where nobody else reads, too.
  *   Arguments that are exchanged by mistake are refused, or are no C: GCC 14 says so by default,
  *   and other compilers with -Werror=incompatible-pointer-types. Of these alone an exchange is not
  *   found, as they are numbers alike: now and max_age, and the five counts of accounts.
@@ -240,13 +264,13 @@ extern "C" {
 
 /* ---- versions */
 
-#define MSCHAP_VERSION 0x000700      /* of this interface: major, minor, patch, a byte each */
-#define MSCHAP_VERSION_TEXT "0.7.0"
+#define MSCHAP_VERSION 0x000800      /* of this interface: major, minor, patch, a byte each */
+#define MSCHAP_VERSION_TEXT "0.8.0"
 
 /* of the layout of each kind of value */
-#define MSCHAP_RECORD_LAYOUT 2       /* since 0.7.0, with the count of failures */
+#define MSCHAP_RECORD_LAYOUT 3       /* since 0.8.0, with the round keys of both hashes */
 #define MSCHAP_CONVERSATION_LAYOUT 3 /* since 0.7.0, with the limit */
-#define MSCHAP_ANSWER_LAYOUT 4       /* since 0.7.0, with the record's count of failures */
+#define MSCHAP_ANSWER_LAYOUT 5       /* since 0.8.0, with the record's round keys */
 #define MSCHAP_PEER_LAYOUT 1
 #define MSCHAP_PASSWORD_LAYOUT 1
 #define MSCHAP_LIST_LAYOUT 1
@@ -278,7 +302,7 @@ extern "C" {
                                     identifier, flags) that is none */
 #define MSCHAP_MALFORMED 101     /* text that is not UTF-8, or characters that are not UTF-16 */
 #define MSCHAP_NO_RECORD 102     /* the answer has no record to be stored, or the record is that of
-                                    no account */
+                                    no account, or has no hash of the kind that was asked for */
 #define MSCHAP_NO_ACCOUNT 103    /* the name is on no line of the account file */
 
 /* What a function that returns a value returns instead, if it was passed an invalid one. */
@@ -354,9 +378,9 @@ extern "C" {
 #define MSCHAP_CHALLENGE_SIZE 8
 #define MSCHAP_RESPONSE_SIZE 24
 #define MSCHAP_FILLER_SIZE 512
-#define MSCHAP_RECORD_SIZE 42
+#define MSCHAP_RECORD_SIZE 810
 #define MSCHAP_CONVERSATION_SIZE 60
-#define MSCHAP_ANSWER_SIZE 46
+#define MSCHAP_ANSWER_SIZE 814
 #define MSCHAP_PEER_SIZE 21
 #define MSCHAP_PASSWORD_SIZE 516
 #define MSCHAP_LIST_PLACES 4096                        /* the most places of a list */
@@ -449,22 +473,26 @@ uint32_t mschap_lm_hash(const uint8_t *password, size_t password_size,
 /* Makes a record of flags (MSCHAP_FOUND and so on, joined by |) and hashes. A hash is passed if
    and only if its flag says so; else pass NULL and 0. A name that is not known has the record of
    no flags: mschap_make_record(0, NULL, 0, NULL, 0, &record, sizeof record).
+   Makes the round keys of each hash too (see ROUND KEYS); beside a hash that is not passed they are
+   0.
    Its count of failures is 0. So if a record is made again of what was read of it, with another
-   flag for instance, set its count again too, unless the account is to be unlocked.
+   flag for instance, set its count again too, unless the account is to be unlocked. Its round keys
+   are then those of the hashes, whatever they were before.
    Returns MSCHAP_OK; MSCHAP_BAD_ARGUMENT for another bit in flags, a hash that is not
    MSCHAP_HASH_SIZE bytes, one without its flag or a flag without its hash, or unless record is
    MSCHAP_RECORD_SIZE bytes.
-   Stack: 96 bytes. */
+   Stack: 5,440 bytes. */
 uint32_t mschap_make_record(uint32_t flags,
                             const mschap_nthash *nt_hash, size_t nt_hash_size,
                             const mschap_lmhash *lm_hash, size_t lm_hash_size,
                             mschap_record *record, size_t record_size);
 
 /* Reads a record: the inverse of mschap_make_record. The bytes of a hash whose flag is not set have
-   no meaning. The count of failures is told by mschap_record_failures.
+   no meaning. The count of failures is told by mschap_record_failures, and of the round keys
+   nothing: what they answer is told by mschap_record_response.
    Returns MSCHAP_OK; MSCHAP_BAD_ARGUMENT for an invalid record, or unless both hashes are
    MSCHAP_HASH_SIZE bytes.
-   Stack: 368 bytes. */
+   Stack: 288 bytes. */
 uint32_t mschap_read_record(const mschap_record *record, size_t record_size,
                             uint32_t *flags,
                             mschap_nthash *nt_hash, size_t nt_hash_size,
@@ -473,31 +501,47 @@ uint32_t mschap_read_record(const mschap_record *record, size_t record_size,
 /* Returns a record's count of failures, 0 to 255: how many Responses in a row were judged invalid
    (see LOCKOUT; in the record of no account it has no effect); MSCHAP_INVALID for an invalid
    record.
-   Stack: 304 bytes. */
+   Stack: 240 bytes. */
 uint32_t mschap_record_failures(const mschap_record *record, size_t record_size);
 
 /* Sets a record's count of failures, 0 to 255, in place (see LOCKOUT): to the one that was kept,
    after mschap_find_account, or to 0, which unlocks the account. No other byte of the record
    changes.
    Returns MSCHAP_OK; MSCHAP_BAD_ARGUMENT for an invalid record, or for failures over 255.
-   Stack: 336 bytes. */
+   Stack: 304 bytes. */
 uint32_t mschap_set_failures(mschap_record *record, size_t record_size, uint32_t failures);
+
+/* The response (MSCHAP_RESPONSE_SIZE bytes) of a record's hash to a challenge
+   (MSCHAP_CHALLENGE_SIZE), by the round keys that the record carries (see ROUND KEYS), for those
+   who judge elsewhere than in a step. hash says which one: MSCHAP_HAS_NT_HASH or
+   MSCHAP_HAS_LM_HASH. In a record that this library made it is what mschap_challenge_response gives
+   of that hash, without the time that it takes to make the round keys. No other flag has a part in
+   it, nor has the count of failures: to judge by these is then the caller's, and so are the lockout
+   and whether LM is allowed. Compare the response in a time that does not tell where it is wrong.
+   Returns MSCHAP_OK; MSCHAP_BAD_ARGUMENT for an invalid record, another hash than one of these two,
+   or another size; MSCHAP_NO_RECORD if the record has no such hash.
+   Stack: 3,056 bytes. */
+uint32_t mschap_record_response(const mschap_record *record, size_t record_size, uint32_t hash,
+                                const uint8_t *challenge, size_t challenge_size,
+                                uint8_t *response, size_t response_size);
 
 /* ---- account files (see ACCOUNT FILES): now is the present time, and max_age how old a password
         may be, both in seconds */
 
 /* Looks an account up by the exact bytes of its name, in one pass over the whole file. Writes the
-   record, with the count of failures 0 (the file has none: set it before the step, see LOCKOUT),
-   and into *offset where the name's line starts. For a name on no line that is the record of no
-   account, without MSCHAP_FOUND, and 0. The time grows with the file. It does not tell where the
-   line is, nor how much of a name is right. But it tells how many names in the file have as many
-   bytes as the one sought, since the bytes are compared only where the lengths are equal (see
-   host/timing.c); and a name on a line takes longer than one on none, by less than a microsecond.
+   record, with the count of failures 0 (the file has none: set it before the step, see LOCKOUT) and
+   the round keys of its hashes, and into *offset where the name's line starts. For a name on no
+   line that is the record of no account, without MSCHAP_FOUND, and 0.
+   The time grows with the file. It does not tell where the line is, nor how much of a name is
+   right. But it tells how many names in the file have as many bytes as the one sought, since the
+   bytes are compared only where the lengths are equal (see host/timing.c); and a name on a line
+   takes longer than one on none, by about a microsecond at most, since the round keys of each hash
+   on that line are made.
    Returns MSCHAP_OK; MSCHAP_BAD_ARGUMENT unless record is MSCHAP_RECORD_SIZE bytes;
    MSCHAP_BAD_LINE for a line of another form, of any name, even behind the name's line; else
    MSCHAP_DOUBLED_NAME. With these two *offset is where the first such line starts; record is
    unchanged.
-   Stack: 576 bytes. */
+   Stack: 5,616 bytes. */
 uint32_t mschap_find_account(const uint8_t *file, size_t file_size,
                              const uint8_t *name, size_t name_size,
                              uint32_t now, uint32_t max_age,
@@ -507,7 +551,8 @@ uint32_t mschap_find_account(const uint8_t *file, size_t file_size,
 /* Writes a changed record, as mschap_answer_record gives it after an accepted change, into its
    line, in place: both hashes, in digits of upper case or, where there is none, as 32 X, and now as
    the last change. Every other byte of the file stays, the flags of the line too, whatever those of
-   the record are; its count of failures is not written. Writes into *offset where the line starts.
+   the record are; its count of failures and its round keys are not written. Writes into *offset
+   where the line starts.
    How to store the file: see ACCOUNT FILES. Do not pass the record of a judged Response, of which
    the count alone is to be kept (see LOCKOUT): the new time would keep its password from expiring.
    Returns MSCHAP_OK; MSCHAP_BAD_ARGUMENT for an invalid record; MSCHAP_NO_RECORD for the record of
@@ -596,7 +641,7 @@ uint32_t mschap_open(uint32_t identifier, uint32_t terms,
    come. Returns then the first of these that applies: MSCHAP_REPLY_ROOM; MSCHAP_FRAME; and, unless
    the packet is a repeat, MSCHAP_ENDED; MSCHAP_CODE; MSCHAP_IDENTIFIER; MSCHAP_SIZE; MSCHAP_FLAGS.
    Returns MSCHAP_BAD_ARGUMENT for an invalid conversation or record, or an answer of another size.
-   Stack: 4,160 bytes. */
+   Stack: 5,856 bytes. */
 uint32_t mschap_step(mschap_conversation *conversation, size_t conversation_size,
                      const uint8_t *packet, size_t packet_size,
                      const mschap_record *record, size_t record_size,
@@ -632,8 +677,9 @@ uint32_t mschap_answer_fault(const mschap_answer *answer, size_t answer_size);
 
 /* The record that a step gives, to be stored in the place of the account's: after every judged
    Response for which there was an account, the record that was passed with its new count of
-   failures; after an accepted change of the password, the new one. LOCKOUT says what is done with
-   each: of the first an account file gets nothing, and the second is for mschap_write_account.
+   failures, and its round keys as they were; after an accepted change of the password, the new one,
+   with those of its new hash. LOCKOUT says what is done with each: of the first an account file
+   gets nothing, and the second is for mschap_write_account.
    Returns MSCHAP_OK, with the record; MSCHAP_NO_RECORD if there is none, after a Response for which
    there was no account, a change that was not accepted, and a repeat, whose record was given when
    it was judged; MSCHAP_BAD_ARGUMENT for an invalid answer, or unless record is MSCHAP_RECORD_SIZE

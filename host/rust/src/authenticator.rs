@@ -171,11 +171,11 @@ impl Conversation {
         let awaited = self.awaited();
         let mut answer = [0; sys::ANSWER_SIZE];
         Refusal::check(sys::step(&mut self.0, packet, &record, reply, &mut answer))?;
-        let mut updated = [0; sys::RECORD_SIZE];
-        let updated = match sys::answer_record(&answer, &mut updated) {
-            sys::OK => Account::from_bytes(&updated)?,
-            _ => None,
-        };
+        // Where there is no record to be stored, the one that was passed is read, and not used: so
+        // that the time tells little of it.
+        let mut updated = record;
+        let is_given = sys::answer_record(&answer, &mut updated) == sys::OK;
+        let updated = Account::from_bytes(&updated)?.filter(|_| is_given);
         let update = match (updated, awaited) {
             (None, _) => Update::Nothing,
             (Some(account), Awaited::Change) => Update::Changed(account),

@@ -60,7 +60,8 @@
 //!
 //! What is stored (a [`Conversation`], a [`Peer`], an [`Account`]'s record, an [`Issued`], a
 //! [`Password`]) begins with its kind and the version of that kind's layout; `from_bytes` refuses
-//! bytes of another kind or version.
+//! bytes of another kind or version. Records have a new layout since 0.8.0, with the round keys of
+//! their hashes, by which [`record_response`] answers.
 
 #![deny(missing_docs)]
 #![deny(unsafe_code)]
@@ -77,7 +78,7 @@ mod refusal;
 #[allow(unsafe_code)]
 pub mod sys;
 
-pub use account::Account;
+pub use account::{record_response, Account, HashKind};
 pub use account_file::{count_accounts, find_account, write_account};
 pub use account_file::{Counts, FileFault, Found, Times};
 pub use authenticator::{account_of, domain_of, Answer, Awaited, Conversation, Terms, Update};

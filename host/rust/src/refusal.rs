@@ -50,8 +50,8 @@ pub enum Refusal {
     BadArgument,
     /// 101: text that is not UTF-8, or characters that are not UTF-16.
     Malformed,
-    /// 102: the answer has no record to be stored, or the record is that of no account. The types
-    /// here leave no way to it.
+    /// 102: the answer has no record to be stored, or the record is that of no account, or has no
+    /// hash of the kind that was asked for. The functions here answer `None` instead.
     NoRecord,
     /// 103: the name is on no line of the account file. The functions here answer `None` instead.
     NoAccount,
@@ -82,7 +82,7 @@ const NUMBERS: [(u32, Refusal); 23] = [
     (24, Refusal::List),
     (sys::BAD_ARGUMENT, Refusal::BadArgument),
     (101, Refusal::Malformed),
-    (102, Refusal::NoRecord),
+    (sys::NO_RECORD, Refusal::NoRecord),
     (sys::NO_ACCOUNT, Refusal::NoAccount),
 ];
 

@@ -6,14 +6,14 @@
 //! each one does. Here every value is bytes: the types around this module tell them apart.
 
 /// The version of the interface that is declared here: major, minor and patch, a byte each.
-pub const VERSION: u32 = 0x000700;
+pub const VERSION: u32 = 0x000800;
 
-/// The version of a record's layout: with the count of failures, since 0.7.0.
-pub const RECORD_LAYOUT: u8 = 2;
+/// The version of a record's layout: with the round keys of both hashes, since 0.8.0.
+pub const RECORD_LAYOUT: u8 = 3;
 /// The version of a conversation's layout: with the limit, since 0.7.0.
 pub const CONVERSATION_LAYOUT: u8 = 3;
-/// The version of an answer's layout: with the record's count of failures, since 0.7.0.
-pub const ANSWER_LAYOUT: u8 = 4;
+/// The version of an answer's layout: with the record's round keys, since 0.8.0.
+pub const ANSWER_LAYOUT: u8 = 5;
 /// The version of a peer's layout.
 pub const PEER_LAYOUT: u8 = 1;
 /// The version of a password's layout.
@@ -30,6 +30,9 @@ pub const DOUBLED_NAME: u32 = 15;
 /// A value or a buffer of another size, kind or version, bytes that no value has, or a number that
 /// is none.
 pub const BAD_ARGUMENT: u32 = 100;
+/// The answer has no record to be stored, or the record is that of no account, or has no hash of
+/// the kind that was asked for.
+pub const NO_RECORD: u32 = 102;
 /// The name is on no line of the account file.
 pub const NO_ACCOUNT: u32 = 103;
 /// What a function that returns a value returns instead, if it was passed an invalid one.
@@ -109,11 +112,11 @@ pub const RESPONSE_SIZE: usize = 24;
 /// Bytes of a filler.
 pub const FILLER_SIZE: usize = 512;
 /// Bytes of a record.
-pub const RECORD_SIZE: usize = 42;
+pub const RECORD_SIZE: usize = 810;
 /// Bytes of a conversation.
 pub const CONVERSATION_SIZE: usize = 60;
 /// Bytes of a step's answer.
-pub const ANSWER_SIZE: usize = 46;
+pub const ANSWER_SIZE: usize = 814;
 /// Bytes of a peer.
 pub const PEER_SIZE: usize = 21;
 /// Bytes of a password.
@@ -212,6 +215,17 @@ pub mod raw {
         pub fn mschap_record_failures(record: *const u8, record_size: usize) -> u32;
         /// Sets a record's count of failures, in place.
         pub fn mschap_set_failures(record: *mut u8, record_size: usize, failures: u32) -> u32;
+        /// The response of a record's NT or LM hash to a challenge, by the round keys that the
+        /// record carries.
+        pub fn mschap_record_response(
+            record: *const u8,
+            record_size: usize,
+            hash: u32,
+            challenge: *const u8,
+            challenge_size: usize,
+            response: *mut u8,
+            response_size: usize,
+        ) -> u32;
         /// Looks an account up in an account file: its record, and where its line starts.
         pub fn mschap_find_account(
             file: *const u8,
@@ -509,6 +523,23 @@ pub fn record_failures(record: &[u8]) -> u32 {
 pub fn set_failures(record: &mut [u8], failures: u32) -> u32 {
     // SAFETY: slices, as said above.
     unsafe { raw::mschap_set_failures(record.as_mut_ptr(), record.len(), failures) }
+}
+
+/// The response of a record's hash, [`HAS_NT_HASH`] or [`HAS_LM_HASH`], to a challenge, by the
+/// round keys that the record carries.
+pub fn record_response(record: &[u8], hash: u32, challenge: &[u8], response: &mut [u8]) -> u32 {
+    // SAFETY: slices, as said above.
+    unsafe {
+        raw::mschap_record_response(
+            record.as_ptr(),
+            record.len(),
+            hash,
+            challenge.as_ptr(),
+            challenge.len(),
+            response.as_mut_ptr(),
+            response.len(),
+        )
+    }
 }
 
 /// Looks an account up in an account file: its record, and where its line starts.
