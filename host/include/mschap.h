@@ -177,7 +177,7 @@
  *   A response is three blocks of DES, each under a part of the hash, and to make the round keys of
  *   the three takes about as long as the blocks. So since 0.8.0 a record holds them too: behind its
  *   first 42 bytes those of the NT hash and then those of the LM hash, three times 16 of 8 bytes
- *   each, the most significant byte first. mschap_make_record, mschap_find_account and an accepted
+ *   each, the least significant byte first. mschap_make_record, mschap_find_account and an accepted
  *   change make them, in less than a microsecond for each hash, and a step that judges a Response
  *   makes none. Beside a hash that is not there they are 0. A program keeps and passes records as
  *   before, and need not know of this. It gains most where it keeps records: one that looks the
@@ -481,7 +481,7 @@ uint32_t mschap_lm_hash(const uint8_t *password, size_t password_size,
    Returns MSCHAP_OK; MSCHAP_BAD_ARGUMENT for another bit in flags, a hash that is not
    MSCHAP_HASH_SIZE bytes, one without its flag or a flag without its hash, or unless record is
    MSCHAP_RECORD_SIZE bytes.
-   Stack: 5,440 bytes. */
+   Stack: 4,672 bytes. */
 uint32_t mschap_make_record(uint32_t flags,
                             const mschap_nthash *nt_hash, size_t nt_hash_size,
                             const mschap_lmhash *lm_hash, size_t lm_hash_size,
@@ -520,7 +520,7 @@ uint32_t mschap_set_failures(mschap_record *record, size_t record_size, uint32_t
    and whether LM is allowed. Compare the response in a time that does not tell where it is wrong.
    Returns MSCHAP_OK; MSCHAP_BAD_ARGUMENT for an invalid record, another hash than one of these two,
    or another size; MSCHAP_NO_RECORD if the record has no such hash.
-   Stack: 3,056 bytes. */
+   Stack: 2,656 bytes. */
 uint32_t mschap_record_response(const mschap_record *record, size_t record_size, uint32_t hash,
                                 const uint8_t *challenge, size_t challenge_size,
                                 uint8_t *response, size_t response_size);
@@ -641,7 +641,7 @@ uint32_t mschap_open(uint32_t identifier, uint32_t terms,
    come. Returns then the first of these that applies: MSCHAP_REPLY_ROOM; MSCHAP_FRAME; and, unless
    the packet is a repeat, MSCHAP_ENDED; MSCHAP_CODE; MSCHAP_IDENTIFIER; MSCHAP_SIZE; MSCHAP_FLAGS.
    Returns MSCHAP_BAD_ARGUMENT for an invalid conversation or record, or an answer of another size.
-   Stack: 5,856 bytes. */
+   Stack: 5,536 bytes. */
 uint32_t mschap_step(mschap_conversation *conversation, size_t conversation_size,
                      const uint8_t *packet, size_t packet_size,
                      const mschap_record *record, size_t record_size,

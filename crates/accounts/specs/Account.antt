@@ -8,6 +8,7 @@ use mathlib.Core.Option.{Option, none, some}
 use mathlib.Core.Path.{_≡_}
 use Prim.Native.Nat.{ℕ}
 use lib.ListN.{replicate}
+use Rattle.des.specs.Stored.{keysIn}
 use Rattle.credentials.specs.Credentials.{schedulesOf, schedulesSize}
 use Rattle.accounts.specs.declared.Hash.{Hash}
 use Rattle.accounts.specs.declared.Schedules.{Schedules}
@@ -36,6 +37,10 @@ hashFrom (some h) = hashOf h
 -- none: zeros
 abbrev pub noSchedules : Schedules
 noSchedules = record { keys = replicate schedulesSize 0 }
+
+-- those that are lent in octets
+abbrev pub storedIn : List ℕ → Schedules
+storedIn octets = record { keys = keysIn octets }
 
 -- "the three schedules beside each hash"; none where there is no hash
 abbrev pub schedulesFor : Hash → Schedules

@@ -13,6 +13,7 @@ ghost use Rattle.authenticator.specs.Judge.{
   judge,
   verdictOf,
 };
+ghost use Rattle.accounts.specs.Account.{storedIn};
 ghost use Rattle.verify.specs.Response.{carryingLookup};
 use crate::Conversation;
 use crate::Phase;
@@ -20,7 +21,6 @@ use crate::Reply;
 use crate::Verdict;
 use accounts::Entry;
 use accounts::EntryLookup;
-use accounts::Schedules;
 use accounts::changed_entry;
 use accounts::no_entry;
 use message::reasons;
@@ -58,14 +58,15 @@ impl Conversation {
     }
 
     // A Response that is not refused. The record that is kept is the one that is handed out.
-    fn response(self, packet: &[u8], lookup: EntryLookup, schedules: Schedules) -> Verdict
-        ensures { λ r. ⌜ r ≡ verdictOf (judgeResponse self (carryingLookup lookup schedules)
+    fn response(self, packet: &[u8], lookup: EntryLookup, keys: &[u8]) -> Verdict
+        ensures { λ r. ⌜ r ≡ verdictOf (judgeResponse self
+            (carryingLookup lookup (storedIn (now (keys .entry))))
             (readResponse (now (packet .entry)))) ⌝ }
     {
         let terms = self.terms;
         let challenge = self.challenge;
         let fields = packets::read_response(packet);
-        let checked = verify::check_response(terms, challenge, lookup, schedules, fields);
+        let checked = verify::check_response(terms, challenge, lookup, keys, fields);
         let reason = checked.reason;
         let updated = checked.updated;
         let entry = updated.entry;
@@ -95,10 +96,7 @@ impl Conversation {
                 reply: Reply::Success,
                 fault,
                 next,
-                updated: EntryLookup {
-                    found: true,
-                    entry,
-                },
+                updated: EntryLookup { found: true, entry },
             };
         }
         let updated = no_entry();
@@ -111,18 +109,13 @@ impl Conversation {
     }
 
     // How a packet that is not refused is judged, by the phase.
-    pub(crate) fn judge(
-        self,
-        packet: &[u8],
-        lookup: EntryLookup,
-        schedules: Schedules,
-    ) -> Verdict
-        ensures { λ r. ⌜ r
-            ≡ verdictOf (judge self (now (packet .entry)) (carryingLookup lookup schedules)) ⌝ }
+    pub(crate) fn judge(self, packet: &[u8], lookup: EntryLookup, keys: &[u8]) -> Verdict
+        ensures { λ r. ⌜ r ≡ verdictOf (judge self (now (packet .entry))
+            (carryingLookup lookup (storedIn (now (keys .entry))))) ⌝ }
     {
         let phase = self.phase;
         match phase {
-            Phase::Response => self.response(packet, lookup, schedules),
+            Phase::Response => self.response(packet, lookup, keys),
             Phase::Change => self.change(packet),
             Phase::Ended => {
                 let updated = no_entry();

@@ -17,6 +17,7 @@ ghost use Rattle.authenticator.specs.Step.{stepReason, stepRepeats, step
 ghost use Rattle.authenticator.specs.Step.{repeatedAs, step};
 ghost use Rattle.authenticator.specs.Step.{steppedOf, handsBack, handedOut};
 ghost use Rattle.packets.specs.Response.{readResponse};
+ghost use Rattle.accounts.specs.Account.{storedIn};
 ghost use Rattle.verify.specs.Response.{judgingKeys, carryingLookup};
 ghost use Rattle.verify.specs.Faults.{faultNumber};
 use accounts::Account;
@@ -208,19 +209,20 @@ impl Conversation {
     }
 
     // One step, by an entry and the round keys beside the hash that counts for the packet: those of
-    // the NT hash where `verify::uses_nt` says so, else those of the LM hash. Whoever has a record
-    // in another form than `Lookup` need not make one.
+    // the NT hash where `verify::uses_nt` says so, else those of the LM hash. They are lent in
+    // octets, as C has them, and not copied.
     pub fn step_by(
         self,
         packet: &[u8],
         lookup: EntryLookup,
-        schedules: Schedules,
+        keys: &[u8],
         reply: &mut [u8],
     ) -> Stepped
         ensures { λ r. ⌜ (r ≡ steppedOf (step self (now (packet .entry))
-            (carryingLookup lookup schedules) (now (reply .entry)) .answer))
+            (carryingLookup lookup (storedIn (now (keys .entry)))) (now (reply .entry)) .answer))
             × (now (reply .exit) ≡ step self (now (packet .entry))
-            (carryingLookup lookup schedules) (now (reply .entry)) .buffer) ⌝ }
+            (carryingLookup lookup (storedIn (now (keys .entry)))) (now (reply .entry))
+            .buffer) ⌝ }
     {
         let last = self.last;
         let repeated = is_repeat(last, packet);
@@ -238,7 +240,7 @@ impl Conversation {
         if repeated {
             return self.repeat(reply);
         }
-        let judged = self.judge(packet, lookup, schedules);
+        let judged = self.judge(packet, lookup, keys);
         let value = judged.reply;
         let written = write_reply(self.id, value, reply);
         let reason = reason_of(value);
@@ -272,8 +274,10 @@ impl Conversation {
     {
         let phase = self.phase;
         let account = lookup.account;
-        let keys = judging_keys(account, packet);
-        let stepped = self.step_by(packet, entry_lookup_of(lookup), keys, reply);
+        let schedules = judging_keys(account, packet);
+        let numbers = schedules.keys;
+        let keys = credentials::key_octets(numbers);
+        let stepped = self.step_by(packet, entry_lookup_of(lookup), &keys, reply);
         let kind = stepped.kind;
         let fault = stepped.fault;
         let next = stepped.next;

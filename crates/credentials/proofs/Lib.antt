@@ -2,3 +2,4 @@ pub mod Padded
 pub mod Plain
 pub mod Laws
 mod Worked
+pub mod KeyOctets

@@ -101,6 +101,11 @@ responseOf hash challenge = desThree (fixed keysSize hash) challenge
 unfoldable pub schedulesOf : List ℕ → List ℕ
 schedulesOf hash = threeSchedules (fixed keysSize hash)
 
+-- stored round keys in octets: each number in eight, the least significant first
+unfoldable pub encodeKeys : List ℕ → List ℕ
+encodeKeys [] = []
+encodeKeys (k ∷ ks) = toLe 8 k ++ encodeKeys ks
+
 -- A.7 under stored round keys, whatever hash they are of
 unfoldable pub responseUnder : List ℕ → List ℕ → List ℕ
 responseUnder ks challenge = threeUnder ks challenge

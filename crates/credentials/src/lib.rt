@@ -3,11 +3,13 @@ use refusals::refuse_if;
 ghost use mathlib.Core.Path.{_≡_};
 ghost use mathlib.Core.Bool.{cond};
 ghost use mathlib.Core.List.{_++_};
-ghost use Prim.Native.Nat.{_≤_};
+ghost use Prim.Native.Nat.{_^_, _≤_, _<_};
 ghost use lib.ListN.{length};
 ghost use Rattle.octets.specs.Parts.{fixed};
+ghost use Rattle.octets.specs.Numbers.{toLe};
+ghost use Rattle.des.specs.Stored.{keysIn};
 ghost use Rattle.rc4.specs.Rc4.{crypted};
-ghost use Rattle.credentials.specs.Credentials.{longestNt, keysSize, upper, badNtPassword, lmKeys, ntHashed, lmHashed, responseOf, schedulesOf, responseUnder, oldUnderNew, plainBlock, badFiller, sealRefusal, sealedAs, lengthIn, contentFor, lengthTold, passwordLength, unsealedAs};
+ghost use Rattle.credentials.specs.Credentials.{longestNt, keysSize, upper, badNtPassword, lmKeys, ntHashed, lmHashed, responseOf, schedulesOf, encodeKeys, responseUnder, oldUnderNew, plainBlock, badFiller, sealRefusal, sealedAs, lengthIn, contentFor, lengthTold, passwordLength, unsealedAs};
 
 // Sizes in octets: a hash, the longest password for NT and for LM, a response's keys (three DES
 // keys of 7 octets), and a password's block (room for the longest one, and its length).
@@ -23,6 +25,9 @@ pub const BLOCK_SIZE: usize = LONGEST_NT + 4;
 
 // A hash's stored round keys: sixteen for each of its three keys.
 pub const SCHEDULES_SIZE: usize = 3 * 16;
+
+// The same in octets.
+pub const STORED_SIZE: usize = 8 * SCHEDULES_SIZE;
 
 // A hash, or a refusal (8) with sixteen octets 0. 0 is no refusal.
 pub struct Hashed {
@@ -167,9 +172,30 @@ pub fn hash_schedules(hash: [u8; HASH_SIZE]) -> [u64; SCHEDULES_SIZE]
     des::three_schedules(response_keys(hash))
 }
 
-// A.7 under the round keys kept beside a hash, so that none is made again.
-pub fn scheduled_response(keys: [u64; SCHEDULES_SIZE], challenge: [u8; 8]) -> [u8; 24]
-    ensures { λ r. ⌜ r ≡ responseUnder keys challenge ⌝ }
+// A number in eight octets, the least significant first.
+fn eight_octets(x: u64) -> [u8; 8]
+    ensures { λ r. ⌜ (r ≡ toLe 8 x) × (x < 2 ^ 64) ⌝ }
+{
+    octets::u64_to_le(x)
+}
+
+// Stored round keys in octets, as a response is made by them.
+pub fn key_octets(keys: [u64; SCHEDULES_SIZE]) -> [u8; STORED_SIZE]
+    ensures { λ r. ⌜ (r ≡ encodeKeys keys) × (keysIn r ≡ keys) ⌝ }
+{
+    let mut r = [0u8; STORED_SIZE];
+    let mut i: usize = 0;
+    while i < SCHEDULES_SIZE {
+        octets::copy_at(&mut r, 8 * i, &eight_octets(keys[i]));
+        i += 1;
+    }
+    r
+}
+
+// A.7 under stored round keys, which are lent in octets: those of another number of octets are
+// zeros.
+pub fn scheduled_response(keys: &[u8], challenge: [u8; 8]) -> [u8; 24]
+    ensures { λ r. ⌜ r ≡ responseUnder (keysIn (now (keys .entry))) challenge ⌝ }
 {
     des::encrypt_three_under(keys, challenge)
 }

@@ -13,3 +13,4 @@ pub mod Expanded
 pub mod Parity
 pub mod Worked
 pub mod Stored
+pub mod StoredOctets

@@ -1,12 +1,15 @@
 -- What the parts of the code compute, as numbers. Only the code's inner functions cite these; no
 -- public promise does.
 -- Assumes nothing: these are definitions.
-use mathlib.Core.List.{List, [], _∷_}
+use mathlib.Core.List.{List, [], _∷_, _++_, map}
 use Prim.Native.Nat.{ℕ, zero, suc, _+_, _-_, _*_, _/_, _%_, _^_}
 use lib.ListN.{getD}
 use lib.Bits.{bitXor, bitAnd}
 use Rattle.des.specs.Tables.{permutation, boxes, pc2, shifts}
-use Rattle.des.specs.Des.{permute, select, keysFrom}
+use Rattle.octets.specs.Numbers.{toBe}
+use Rattle.octets.specs.Parts.{part}
+use Rattle.des.specs.Des.{permute, select, keysFrom, crypt}
+use Rattle.des.specs.Stored.{unpackKey}
 
 -- those bits of x that the mask m names have changed places with the bits n places above them
 unfoldable pub bitsSwapped : ℕ → ℕ → ℕ → ℕ
@@ -70,3 +73,10 @@ rotatedBy i = shiftsOf (suc i) shifts
 -- the round keys from the C and D of PC-1, which are one number of 56 bits ("Key schedule")
 abbrev pub keysOf : ℕ → List ℕ
 keysOf cd = keysFrom shifts (cd / 2 ^ 28) (cd % 2 ^ 28)
+
+-- a block of 64 bits under each of three stored schedules of sixteen round keys
+abbrev pub blocksUnder : List ℕ → ℕ → List ℕ
+blocksUnder ks x =
+    toBe 8 (crypt (map unpackKey (part 0 16 ks)) x)
+    ++ (toBe 8 (crypt (map unpackKey (part 16 16 ks)) x)
+    ++ toBe 8 (crypt (map unpackKey (part 32 16 ks)) x))

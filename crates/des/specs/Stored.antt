@@ -1,9 +1,12 @@
 -- Round keys as they are kept beside a stored hash (document 02, request 2026-10), and DES under
 -- them (FIPS 46-2).
 -- Assumes nothing: these are definitions.
+use mathlib.Core.Bool.{cond}
 use mathlib.Core.List.{List, [], _∷_, _++_, map}
-use Prim.Native.Nat.{ℕ, _/_, _%_, _^_}
-use Rattle.octets.specs.Numbers.{fromDigits, fromBe, toBe}
+use Prim.Native.Nat.{ℕ, zero, suc, _*_, _/_, _%_, _^_}
+use lib.Dec.{eqb}
+use lib.ListN.{length, drop, replicate}
+use Rattle.octets.specs.Numbers.{fromDigits, fromBe, toBe, fromLe}
 use Rattle.octets.specs.Parts.{part}
 use Rattle.des.specs.Des.{crypt, scheduleOf}
 
@@ -48,3 +51,19 @@ unfoldable pub threeUnder : List ℕ → List ℕ → List ℕ
 threeUnder ks block =
     desUnder (part 0 16 ks) block
     ++ (desUnder (part 16 16 ks) block ++ desUnder (part 32 16 ks) block)
+
+-- ---- stored schedules in octets
+
+-- how many octets 48 numbers take
+abbrev pub storedSize : ℕ
+storedSize = 8 * 48
+
+-- n numbers of eight octets each, the least significant octet first
+unfoldable pub decodeKeys : ℕ → List ℕ → List ℕ
+decodeKeys zero octets = []
+decodeKeys (suc n) octets = fromLe (part 0 8 octets) ∷ decodeKeys n (drop 8 octets)
+
+-- the 48 numbers in as many octets as they take; in any other number of octets, zeros
+abbrev pub keysIn : List ℕ → List ℕ
+keysIn octets =
+    cond (eqb (length octets) storedSize) (decodeKeys 48 octets) (replicate 48 0)

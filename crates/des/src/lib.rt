@@ -9,11 +9,14 @@ mod windows;
 
 ghost use mathlib.Core.Path.{_≡_};
 ghost use mathlib.Core.List.{_++_};
-ghost use Prim.Native.Nat.{_<_};
-ghost use Rattle.octets.specs.Numbers.{toBe};
+ghost use Prim.Native.Nat.{_+_, _≤_, _<_};
+ghost use lib.ListN.{length};
+ghost use Rattle.octets.specs.Numbers.{toBe, fromLe};
+ghost use Rattle.octets.specs.Parts.{part};
 ghost use Rattle.des.specs.Des.{crypt, half, expandKey, dropParity, scheduleOf, desEncrypt, desDecrypt, desThree};
-ghost use Rattle.des.specs.Inner.{foldedTable};
+ghost use Rattle.des.specs.Inner.{foldedTable, blocksUnder};
 ghost use Rattle.des.specs.Stored.{threeSchedules, threeUnder};
+ghost use Rattle.des.specs.Stored.{storedSize, decodeKeys, keysIn};
 
 // ---- keys of seven octets and of eight
 
@@ -149,6 +152,9 @@ pub fn encrypt_three(keys: [u8; 21], block: [u8; 8]) -> [u8; 24]
 
 // ---- DES under stored round keys
 
+// The octets of three stored schedules.
+const STORED_SIZE: usize = 384;
+
 // The stored round keys of the three keys of 21 octets, which never change while the keys stay.
 pub fn three_schedules(keys: [u8; 21]) -> [u64; 48]
     ensures { λ r. ⌜ r ≡ threeSchedules keys ⌝ }
@@ -158,13 +164,30 @@ pub fn three_schedules(keys: [u8; 21]) -> [u64; 48]
     packed::schedule_put(b, 32, octets::seven_at(&keys, 14))
 }
 
-// One block under each of three stored schedules, the three in step as above: no round key is made
-// here.
-pub fn encrypt_three_under(keys: [u64; 48], block: [u8; 8]) -> [u8; 24]
-    ensures { λ r. ⌜ r ≡ threeUnder keys block ⌝ }
+// The number in the eight octets from a place on, of which the compiler makes one load.
+fn number_at(octets: &[u8], at: usize) -> u64
+    requires { ⌜ at + 8 ≤ length (now octets) ⌝ }
+    ensures { λ r. ⌜ r ≡ fromLe (part at 8 (now (octets .entry))) ⌝ }
 {
-    let t = tables::folded();
-    let y = permutations::initial_permutation(octets::u64_from_be(block));
+    octets::u64_from_be([
+        octets[at + 7],
+        octets[at + 6],
+        octets[at + 5],
+        octets[at + 4],
+        octets[at + 3],
+        octets[at + 2],
+        octets[at + 1],
+        octets[at],
+    ])
+}
+
+// A block of 64 bits under each of three stored schedules, the three in step as above: no round key
+// is made here. They are read from the octets that are lent, so that none is copied.
+fn three_under<'a>(t: &'a [u32; 512], keys: &'a [u8], x: u64) -> [u8; 24]
+    requires { ⌜ (now t ≡ foldedTable) × (length (now keys) ≡ storedSize) ⌝ }
+    ensures { λ r. ⌜ r ≡ blocksUnder (decodeKeys 48 (now (keys .entry))) x ⌝ }
+{
+    let y = permutations::initial_permutation(x);
     let mut l1 = (y / 0x1_0000_0000) as u32;
     let mut r1 = (y % 0x1_0000_0000) as u32;
     let mut l2 = l1;
@@ -173,13 +196,13 @@ pub fn encrypt_three_under(keys: [u64; 48], block: [u8; 8]) -> [u8; 24]
     let mut r3 = r1;
     let mut i: usize = 0;
     while i < 16 {
-        let n1 = l1 ^ rounds::stored_cipher_function(&t, r1, keys[i]);
+        let n1 = l1 ^ rounds::stored_cipher_function(t, r1, number_at(keys, 8 * i));
         l1 = r1;
         r1 = n1;
-        let n2 = l2 ^ rounds::stored_cipher_function(&t, r2, keys[16 + i]);
+        let n2 = l2 ^ rounds::stored_cipher_function(t, r2, number_at(keys, 128 + 8 * i));
         l2 = r2;
         r2 = n2;
-        let n3 = l3 ^ rounds::stored_cipher_function(&t, r3, keys[32 + i]);
+        let n3 = l3 ^ rounds::stored_cipher_function(t, r3, number_at(keys, 256 + 8 * i));
         l3 = r3;
         r3 = n3;
         i += 1;
@@ -189,4 +212,18 @@ pub fn encrypt_three_under(keys: [u64; 48], block: [u8; 8]) -> [u8; 24]
         octets::u64_to_be(rounds::output_block(l2, r2)),
         octets::u64_to_be(rounds::output_block(l3, r3)),
     )
+}
+
+// One block under each of three stored schedules, which are lent in octets; zeros where there are
+// not as many octets as they take.
+pub fn encrypt_three_under(keys: &[u8], block: [u8; 8]) -> [u8; 24]
+    ensures { λ r. ⌜ r ≡ threeUnder (keysIn (now (keys .entry))) block ⌝ }
+{
+    let t = tables::folded();
+    let x = octets::u64_from_be(block);
+    if keys.len() != STORED_SIZE {
+        let none = [0u8; STORED_SIZE];
+        return three_under(&t, &none, x);
+    }
+    three_under(&t, keys, x)
 }

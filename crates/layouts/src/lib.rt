@@ -29,7 +29,6 @@ pub use conversations::put_conversation;
 pub use keys::BOTH_KEYS_SIZE;
 pub use keys::KEYS_SIZE;
 pub use keys::encode_schedules;
-pub use keys::keys_at;
 pub use lists::LIST_HEAD_SIZE;
 pub use lists::is_list;
 pub use lists::places_in;

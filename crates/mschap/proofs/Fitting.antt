@@ -10,7 +10,7 @@ use lib.Dec.{eqb}
 use lib.ListN.{length, take, replicate}
 use lib.Seq.{take-all, take-at, drop-at}
 use Rattle.octets.proofs.Parts.{length-part}
-use Rattle.credentials.specs.Credentials.{schedulesSize, unsealedAs, passwordIn}
+use Rattle.credentials.specs.Credentials.{encodeKeys, unsealedAs, passwordIn}
 use Rattle.credentials.proofs.Laws.{length-nt}
 use Rattle.message.specs.Reasons.{passwordExpired, changingPassword}
 use Rattle.packets.specs.Response.{readResponse}
@@ -22,6 +22,7 @@ use Rattle.accounts.specs.Account.{
   notFound,
   found,
   changed,
+  storedIn,
   schedulesFor,
   withSchedules,
   accountOf,
@@ -59,14 +60,13 @@ use Rattle.authenticator.specs.declared.Phase.{Phase}
 use Rattle.authenticator.specs.declared.Phase.the-variants.{Response, Change, Ended}
 use Rattle.layouts.specs.Conversations.{encodeConversation, decodeConversation}
 use Rattle.layouts.specs.Conversations.{isEncodedConversation}
-use Rattle.layouts.specs.Keys.{keysSize, bothKeysSize, encodeKeys, decodeKeys, keysAt}
-use Rattle.layouts.specs.Keys.{encodeSchedules}
+use Rattle.layouts.specs.Keys.{keysSize, bothKeysSize, keysAt, encodeSchedules}
 use Rattle.layouts.specs.Answers.{answerHeadSize, answerHead, encodeAnswer, decodeAnswer}
 use Rattle.layouts.specs.Answers.{answerKeys, isEncodedAnswer}
 use Rattle.layouts.specs.Records.{recordHeadSize, recordSize, ntKeysAt, lmKeysAt, recordHead}
-use Rattle.layouts.specs.Records.{recordKeys, decodeHead, decodeRecord}
+use Rattle.layouts.specs.Records.{recordKeys, encodeRecord, decodeHead, decodeRecord}
 use Rattle.layouts.specs.Records.{isEncodedRecord}
-use Rattle.layouts.specs.Call.{sized, numbered}
+use Rattle.layouts.specs.Call.{numbered}
 use Rattle.layouts.proofs.Filling.{both}
 use Rattle.layouts.specs.declared.StepResult.{StepResult}
 use Rattle.numbers.specs.Results.{resultOf}
@@ -77,7 +77,7 @@ use Rattle.mschap.specs.Step.{stepOf, stepArguments, handedKeys, StepCal
 use Rattle.mschap.specs.Step.{AnswerRecordCall}
 use Rattle.layouts.proofs.RecordLaws.{SizedEntry, decoded-head-sized, record-fits, head-back}
 use Rattle.layouts.proofs.RecordLaws.{length-head, length-encoded-record}
-use Rattle.layouts.proofs.KeyLaws.{length-encoded}
+use Rattle.credentials.proofs.KeyOctets.{length-encoded}
 use Rattle.layouts.proofs.AnswerLaws.{decoded-answer-sized, length-result, length-encoded-answer}
 use Rattle.layouts.proofs.AnswerLaws.{answer-fits, answer-back}
 use Rattle.numbers.proofs.FlagLaws.{made-keys}
@@ -211,11 +211,45 @@ module _ (c : Conversation) (s : SizedConversation c) where
             reason = d .reason;
           })
 
--- round keys, by the bytes that they are decoded from
-abbrev keysFrom : List ℕ → Schedules
-keysFrom b = record {
-  keys = cond (sized keysSize b) (decodeKeys schedulesSize b) (replicate schedulesSize 0);
-}
+-- ---- a record and its round keys
+
+-- decoded from its head and the bytes of its round keys
+record-by : (u : EntryLookup) (keys : List ℕ) → SizedEntry (u .entry)
+    → decodeRecord (recordHead u ++ keys)
+    ≡ lookupOf (u .found) (withSchedules (u .entry) (keysAt 0 keys) (keysAt keysSize keys))
+record-by u keys s =
+    let head = length-head u s in
+    let bytes = recordHead u ++ keys in
+    ap (λ (x : EntryLookup). lookupOf (x .found) (withSchedules (x .entry) (keysAt ntKeysAt bytes)
+    (keysAt lmKeysAt bytes))) (head-back u keys s)
+    ∙ ap₂ (λ (n m : List ℕ). lookupOf (u .found) (withSchedules (u .entry) (storedIn n)
+    (storedIn m)))
+    (part-behind 0 keysSize recordHeadSize (recordHead u) keys head)
+    (part-behind keysSize keysSize recordHeadSize (recordHead u) keys head)
+
+-- those of its own hashes
+keys-made : (found : Bool) (e : Entry)
+    → let k = encodeSchedules (accountOf e) in
+    lookupOf found (withSchedules e (keysAt 0 k) (keysAt keysSize k)) ≡ lookupOf found (accountOf e)
+keys-made found e =
+    let nt = encodeKeys (schedulesFor (e .nt) .keys) in
+    let lm = encodeKeys (schedulesFor (e .lm) .keys) in
+    let n = length-encoded (schedulesFor (e .nt) .keys)
+    ∙ ap (λ (k : ℕ). 8 * k) (for-length (e .nt)) in
+    let m = length-encoded (schedulesFor (e .lm) .keys)
+    ∙ ap (λ (k : ℕ). 8 * k) (for-length (e .lm)) in
+    ap₂ (λ (x y : Schedules). lookupOf found (withSchedules e x y))
+    (keys-found 0 (nt ++ lm) (e .nt) (take-at nt lm keysSize n))
+    (keys-found keysSize (nt ++ lm) (e .lm)
+    (ap (take keysSize) (drop-at nt lm keysSize n) ∙ take-all keysSize lm (omega (arith, m))))
+
+-- So the bytes of a record that is made of an entry are decoded to just that record: its round keys
+-- are those of its hashes (`Agree` holds of it).
+pub made-back : (found : Bool) (e : Entry) → SizedEntry e
+    → decodeRecord (encodeRecord (lookupOf found (accountOf e))) ≡ lookupOf found (accountOf e)
+made-back found e s =
+    record-by (record { found = found; entry = e }) (encodeSchedules (accountOf e)) s
+    ∙ keys-made found e
 
 module _ (conversation packet account buffer : List ℕ)
     (valid : isEncodedConversation conversation ≡ true)
@@ -285,18 +319,9 @@ module _ (conversation packet account buffer : List ℕ)
   -- own hashes.
   pub record-decoded : decodeRecord (recordHead (told .updated) ++ keys) ≡ done .answer .updated
   record-decoded =
-      let l = decodeRecord account in
-      let u = entryLookupOf (done .answer .updated) in
-      let head = length-head u (sizes .updated) in
-      let bytes = recordHead u ++ keys in
-      ap (λ (x : EntryLookup). lookupOf (x .found) (withSchedules (x .entry) (keysAt ntKeysAt bytes)
-      (keysAt lmKeysAt bytes))) (head-back u keys (sizes .updated))
-      ∙ ap₂ (λ (n m : List ℕ). lookupOf (u .found) (withSchedules (u .entry) (keysFrom n)
-      (keysFrom m)))
-      (part-behind 0 keysSize recordHeadSize (recordHead u) keys head)
-      (part-behind keysSize keysSize recordHeadSize (recordHead u) keys head)
+      record-by u keys (sizes .updated)
       ∙ which (handsBack (decodeConversation conversation .phase) (done .answer .kind))
-      ∙ sym (handed-back (decodeConversation conversation) packet l buffer)
+      ∙ sym (handed-back (decodeConversation conversation) packet (decodeRecord account) buffer)
     where
       u : EntryLookup
       u = entryLookupOf (done .answer .updated)
@@ -306,21 +331,11 @@ module _ (conversation packet account buffer : List ℕ)
           lookupOf (u .found) (withSchedules (u .entry) (keysAt 0 k) (keysAt keysSize k))
           ≡ handedOut t (decodeRecord account .account) u
       which true =
-          ap₂ (λ (n m : List ℕ). lookupOf (u .found) (withSchedules (u .entry) (keysFrom n)
-          (keysFrom m)))
+          ap₂ (λ (n m : List ℕ). lookupOf (u .found) (withSchedules (u .entry) (storedIn n)
+          (storedIn m)))
           (part-of-part 0 keysSize recordHeadSize bothKeysSize account (omega arith))
           (part-of-part keysSize keysSize recordHeadSize bothKeysSize account (omega arith))
-      which false =
-          let nt = encodeKeys (schedulesFor (u .entry .nt) .keys) in
-          let lm = encodeKeys (schedulesFor (u .entry .lm) .keys) in
-          let n = length-encoded (schedulesFor (u .entry .nt) .keys)
-          ∙ ap (λ (k : ℕ). 8 * k) (for-length (u .entry .nt)) in
-          let m = length-encoded (schedulesFor (u .entry .lm) .keys)
-          ∙ ap (λ (k : ℕ). 8 * k) (for-length (u .entry .lm)) in
-          ap₂ (λ (x y : Schedules). lookupOf (u .found) (withSchedules (u .entry) x y))
-          (keys-found 0 (nt ++ lm) (u .entry .nt) (take-at nt lm keysSize n))
-          (keys-found keysSize (nt ++ lm) (u .entry .lm)
-          (ap (take keysSize) (drop-at nt lm keysSize n) ∙ take-all keysSize lm (omega (arith, m))))
+      which false = keys-made (u .found) (u .entry)
 
 -- a call that returned 0 had valid arguments
 valid-call : (b : Bool) (n : ℕ) → 0 ≡ numbered b n → b ≡ true

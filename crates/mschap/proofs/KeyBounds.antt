@@ -15,14 +15,14 @@ use Rattle.octets.specs.Numbers.{fromDigits}
 use Rattle.octets.proofs.Numbers.{Below, digits-below}
 use Rattle.des.specs.Des.{scheduleOf}
 use Rattle.des.specs.Stored.{six, packKey, storedSchedule, threeSchedules}
-use Rattle.credentials.specs.Credentials.{keysSize, schedulesSize, schedulesOf}
+use Rattle.credentials.specs.Credentials.{keysSize, schedulesSize, schedulesOf, encodeKeys}
 use Rattle.credentials.proofs.Laws.{length-schedules-of}
-use Rattle.accounts.specs.Account.{noSchedules, schedulesFor}
+use Rattle.credentials.proofs.KeyOctets.{keys-in-back}
+use Rattle.accounts.specs.Account.{noSchedules, storedIn, schedulesFor}
 use Rattle.accounts.specs.declared.Hash.{Hash}
 use Rattle.accounts.specs.declared.Schedules.{Schedules}
 use Rattle.layouts.specs.Keys as layout
-use Rattle.layouts.specs.Keys.{encodeKeys, decodeKeys, keysAt}
-use Rattle.layouts.proofs.KeyLaws.{length-encoded, keys-back}
+use Rattle.layouts.specs.Keys.{keysAt}
 
 -- ---- lists of small numbers
 
@@ -99,15 +99,6 @@ for-length h = which (h .present)
 pub keys-found : (at : ℕ) (bytes : List ℕ) (h : Hash)
     → part at layout.keysSize bytes ≡ encodeKeys (schedulesFor h .keys) → keysAt at bytes ≡ schedulesFor h
 keys-found at bytes h e =
-    let ks = schedulesFor h .keys in
-    let n = for-length h in
-    ap from e ∙ ap (λ (t : Bool). chosen (encodeKeys ks) t)
-    (eq-eqb (length (encodeKeys ks)) layout.keysSize (length-encoded ks ∙ ap (λ (k : ℕ). 8 * k) n))
+    ap storedIn e
     ∙ ap (λ (l : List ℕ). let s : Schedules = record { keys = l } in s)
-    (ap (λ (k : ℕ). decodeKeys k (encodeKeys ks)) (sym n) ∙ keys-back ks (for-fits h))
-  where
-    chosen : List ℕ → Bool → Schedules
-    chosen b t = record { keys = cond t (decodeKeys schedulesSize b) (replicate schedulesSize 0) }
-
-    from : List ℕ → Schedules
-    from b = chosen b (eqb (length b) layout.keysSize)
+    (keys-in-back (schedulesFor h .keys) (for-length h) (for-fits h))

@@ -81,12 +81,13 @@ recordResponseArguments bytes hash challenge =
 abbrev pub namedHash : EntryLookup → ℕ → Hash
 namedHash l hash = cond (eqb hash ntFlag) (l .entry .nt) (l .entry .lm)
 
-abbrev pub namedKeys : List ℕ → ℕ → Schedules
-namedKeys bytes hash = cond (eqb hash ntFlag) (keysAt ntKeysAt bytes) (keysAt lmKeysAt bytes)
+-- where its round keys begin
+abbrev pub namedAt : ℕ → ℕ
+namedAt hash = cond (eqb hash ntFlag) ntKeysAt lmKeysAt
 
 -- 102: there is no such hash
 abbrev pub RecordResponseCall : List ℕ → ℕ → List ℕ → List ℕ → ℕ → List ℕ → Type 0
 RecordResponseCall bytes hash challenge out r outAfter =
     Fills (recordResponseArguments bytes hash challenge && sized answerSize out)
     (cond (namedHash (decodeHead bytes) hash .present) 0 102)
-    (responseUnder (namedKeys bytes hash .keys) challenge) out r outAfter
+    (responseUnder (keysAt (namedAt hash) bytes .keys) challenge) out r outAfter

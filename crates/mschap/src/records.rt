@@ -2,18 +2,16 @@
 use crate::INVALID;
 use accounts::EntryLookup;
 use accounts::Hash;
-use accounts::Schedules;
 use accounts::entry_failures;
 use layouts::BAD_ARGUMENT;
-use layouts::decode_head;
-use layouts::is_encoded_record;
-use layouts::is_record;
 use layouts::KEYS_SIZE;
 use layouts::RECORD_HEAD_SIZE;
-use layouts::keys_at;
+use layouts::decode_head;
+use layouts::fill;
+use layouts::is_encoded_record;
+use layouts::is_record;
 use layouts::put_record;
 use layouts::put_record_head;
-use layouts::fill;
 use numbers::are_record_arguments;
 use numbers::flags_of;
 use numbers::record_from;
@@ -26,7 +24,7 @@ ghost use Rattle.mschap.specs.Records.{MakeRecordCall, readRecordArgumen
 ghost use Rattle.mschap.specs.Records.{ReadRecordCall, recordFailures};
 ghost use Rattle.mschap.specs.Records.{setFailuresArguments, SetFailuresCall};
 ghost use Rattle.mschap.specs.Records.{isOneHash, responseArgumentsAs, namedHash};
-ghost use Rattle.mschap.specs.Records.{namedKeys, RecordResponseCall};
+ghost use Rattle.mschap.specs.Records.{namedAt, RecordResponseCall};
 
 const FAILURES_END: u32 = 256;
 
@@ -157,13 +155,15 @@ fn named_hash(head: EntryLookup, hash: u32) -> Hash
     lm
 }
 
-fn named_keys(account: &[u8], hash: u32) -> Schedules
-    ensures { λ r. ⌜ r ≡ namedKeys (now (account .entry)) hash ⌝ }
+// Where its round keys begin.
+fn named_at(hash: u32) -> usize
+    ensures { λ r. ⌜ r ≡ namedAt hash ⌝ }
 {
     if hash == NT {
-        return keys_at(account, RECORD_HEAD_SIZE);
+        RECORD_HEAD_SIZE
+    } else {
+        RECORD_HEAD_SIZE + KEYS_SIZE
     }
-    keys_at(account, RECORD_HEAD_SIZE + KEYS_SIZE)
 }
 
 fn no_hash_refusal(hash: Hash) -> u8
@@ -188,7 +188,7 @@ pub extern "C" fn mschap_record_response(
     if !are_record_response_arguments(head, account, hash, challenge) {
         return BAD_ARGUMENT;
     }
-    let keys = named_keys(account, hash).keys;
+    let keys = octets::part_of(account, named_at(hash), KEYS_SIZE);
     let response = credentials::scheduled_response(keys, octets::eight_at(challenge, 0));
     fill(no_hash_refusal(named_hash(head, hash)), &response, out)
 }

@@ -1,5 +1,6 @@
 // The authenticator takes one step for each packet, and what its answer tells.
 use crate::INVALID;
+use accounts::Entry;
 use accounts::EntryLookup;
 use accounts::Hash;
 use accounts::account_of;
@@ -11,6 +12,7 @@ use layouts::ANSWER_HEAD_SIZE;
 use layouts::ANSWER_SIZE;
 use layouts::BAD_ARGUMENT;
 use layouts::BOTH_KEYS_SIZE;
+use layouts::KEYS_SIZE;
 use layouts::RECORD_HEAD_SIZE;
 use layouts::RECORD_SIZE;
 use layouts::decode_answer;
@@ -20,7 +22,6 @@ use layouts::encode_schedules;
 use layouts::is_conversation;
 use layouts::is_encoded_answer;
 use layouts::is_record;
-use layouts::keys_at;
 use layouts::put_answer;
 use layouts::put_conversation;
 use layouts::put_record_head;
@@ -33,8 +34,10 @@ use verify::fault_number;
 ghost use mathlib.Core.Path.{_≡_};
 ghost use mathlib.Core.Bool.{cond};
 ghost use lib.ListN.{length};
+ghost use Rattle.accounts.specs.Account.{accountOf};
 ghost use Rattle.layouts.specs.Answers.{answerSize};
 ghost use Rattle.layouts.specs.Conversations.{conversationSize};
+ghost use Rattle.layouts.specs.Keys.{encodeSchedules};
 ghost use Rattle.layouts.specs.Records.{recordSize, ntKeysAt, lmKeysAt};
 ghost use Rattle.verify.specs.Response.{usesNt};
 ghost use Rattle.mschap.specs.Step.{StepCall, answerReason, answerRepeated};
@@ -66,6 +69,19 @@ fn judging_at(flag: u8, nt: Hash) -> usize
     RECORD_HEAD_SIZE + 8 * octets::where_both(flag == 1, nt.present, 0, 48) as usize
 }
 
+// The bytes of the round keys of an entry's own hashes. None are made where it has no hash, as after
+// a repeat.
+fn made_keys(entry: Entry) -> [u8; BOTH_KEYS_SIZE]
+    ensures { λ r. ⌜ r ≡ encodeSchedules (accountOf entry) ⌝ }
+{
+    let nt = entry.nt;
+    let lm = entry.lm;
+    if both(!nt.present, !lm.present) {
+        return [0; BOTH_KEYS_SIZE];
+    }
+    encode_schedules(account_of(entry))
+}
+
 // Writes the next conversation and the answer, unless the packet was refused. The round keys of a
 // record that is handed back are copied as they are.
 fn put_stepped(
@@ -95,7 +111,7 @@ fn put_stepped(
     }
     let updated = stepped.updated;
     let entry = updated.entry;
-    let made = encode_schedules(account_of(entry));
+    let made = made_keys(entry);
     put_answer(result, &made, out);
     0
 }
@@ -129,7 +145,8 @@ pub extern "C" fn mschap_step(
     let phase = before.phase;
     let nt = lookup.entry.nt;
     let at = judging_at(packets::octet(packet, packets::FLAG_OFFSET), nt);
-    let stepped = before.step_by(packet, lookup, keys_at(account, at), reply);
+    let keys = octets::part_of(account, at, KEYS_SIZE);
+    let stepped = before.step_by(packet, lookup, keys, reply);
     put_stepped(phase, stepped, account, conversation, answer)
 }
 

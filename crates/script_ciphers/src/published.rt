@@ -54,6 +54,7 @@ pub fn keys_line(line: &[u8]) {
     let keys = named_keys(line);
     script::put_numbers(keys);
     script::put_space();
-    let response = credentials::scheduled_response(keys, script::eight(line, 1));
+    let lent = credentials::key_octets(keys);
+    let response = credentials::scheduled_response(&lent, script::eight(line, 1));
     script::put_hex(&response)
 }

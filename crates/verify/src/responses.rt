@@ -7,6 +7,7 @@
 // without a branch.
 ghost use mathlib.Core.Path.{_≡_};
 ghost use mathlib.Core.Bool.{cond, _&&_};
+ghost use Rattle.accounts.specs.Account.{storedIn};
 ghost use Rattle.verify.specs.Response.{usesNt, carrying, carryingLookup};
 ghost use Rattle.verify.specs.Response.{valid, firstReason, checkedResponse};
 use crate::CheckedResponse;
@@ -16,7 +17,6 @@ use crate::lockout::is_locked;
 use accounts::Entry;
 use accounts::EntryLookup;
 use accounts::Hash;
-use accounts::Schedules;
 use accounts::entry_failures;
 use message::reasons;
 
@@ -42,14 +42,14 @@ fn is_valid(
     terms: Terms,
     challenge: [u8; 8],
     entry: Entry,
-    schedules: Schedules,
+    keys: &[u8],
     fields: packets::Response,
 ) -> bool
-    ensures { λ r. ⌜ r ≡ valid terms challenge (carrying entry schedules) fields ⌝ }
+    ensures { λ r. ⌜ r
+        ≡ valid terms challenge (carrying entry (storedIn (now (keys .entry)))) fields ⌝ }
 {
     let nt = entry.nt;
     let lm = entry.lm;
-    let keys = schedules.keys;
     let nt_response = fields.nt;
     let lm_response = fields.lm;
     let flagged = fields.flag == 1;
@@ -70,41 +70,29 @@ fn reason_if(test: bool, reason: u16, rest: u16) -> u16
 fn first_reason(valid: bool, entry: Entry) -> u16
     ensures { λ r. ⌜ r ≡ firstReason valid entry ⌝ }
 {
-    let expired = reason_if(
-        entry.expired,
-        reasons::PASSWORD_EXPIRED,
-        reasons::NO_REASON,
-    );
-    let dialin = reason_if(
-        entry.dialin_denied,
-        reasons::NO_DIALIN_PERMISSION,
-        expired,
-    );
-    let hours = reason_if(
-        entry.hours_denied,
-        reasons::RESTRICTED_LOGON_HOURS,
-        dialin,
-    );
+    let expired = reason_if(entry.expired, reasons::PASSWORD_EXPIRED, reasons::NO_REASON);
+    let dialin = reason_if(entry.dialin_denied, reasons::NO_DIALIN_PERMISSION, expired);
+    let hours = reason_if(entry.hours_denied, reasons::RESTRICTED_LOGON_HOURS, dialin);
     let disabled = reason_if(entry.disabled, reasons::ACCOUNT_DISABLED, hours);
     reason_if(!valid, reasons::AUTHENTICATION_FAILURE, disabled)
 }
 
 // The first reason that applies (0 is Success), and what was looked up with the record's count as
 // the Response leaves it. A locked account is answered as one that is not known. The round keys are
-// those beside the hash that counts (`uses_nt`).
+// those beside the hash that counts (`uses_nt`), lent in octets so that they are not copied.
 pub fn check_response(
     terms: Terms,
     challenge: [u8; 8],
     lookup: EntryLookup,
-    schedules: Schedules,
+    keys: &[u8],
     fields: packets::Response,
 ) -> CheckedResponse
-    ensures { λ r. ⌜ r
-        ≡ checkedResponse terms challenge (carryingLookup lookup schedules) fields ⌝ }
+    ensures { λ r. ⌜ r ≡ checkedResponse terms challenge
+        (carryingLookup lookup (storedIn (now (keys .entry)))) fields ⌝ }
 {
     let entry = lookup.entry;
     let locked = is_locked(terms, entry.failures);
-    let valid = is_valid(terms, challenge, entry, schedules, fields);
+    let valid = is_valid(terms, challenge, entry, keys, fields);
     let failures = failures_after(locked, valid, entry.failures);
     let reason = first_reason(lookup.found & (!locked & valid), entry);
     let after = entry_failures(entry, failures);

@@ -7,7 +7,7 @@ use Rattle.credentials.proofs.scheduled_response.Tie as tie
 
 returns : tie.Need-returns
 unfolding responseUnder
-returns c = cc
+returns c = c .encrypt-three-under .ensures
 
 pub scheduled-response-spec : {M : Type 1} → statement M
 scheduled-response-spec = tie.close (tie.spec (λ c κs. search needs) returns)

@@ -117,13 +117,30 @@ pub fn account(account: &Account) -> [u8; ACCOUNT_SIZE] {
     let mut bytes = [0; ACCOUNT_SIZE];
     bytes[..ENTRY_SIZE].copy_from_slice(&entry(&account.entry()));
     let (nt, lm) = bytes[ENTRY_SIZE..].split_at_mut(KEYS_SIZE);
-    nt.copy_from_slice(&account.nt_keys.octets());
-    lm.copy_from_slice(&account.lm_keys.octets());
+    nt.copy_from_slice(&keys(&account.nt_keys));
+    lm.copy_from_slice(&keys(&account.lm_keys));
     bytes
 }
 
+/// Schedules: each number with its least significant byte first.
+fn keys(schedules: &Schedules) -> [u8; KEYS_SIZE] {
+    let mut bytes = [0; KEYS_SIZE];
+    for (to, number) in bytes.chunks_exact_mut(8).zip(schedules.0) {
+        to.copy_from_slice(&number.to_le_bytes());
+    }
+    bytes
+}
+
+fn to_keys(bytes: &[u8]) -> Schedules {
+    let mut numbers = [0; 48];
+    for (number, from) in numbers.iter_mut().zip(bytes.chunks_exact(8)) {
+        *number = u64::from_le_bytes(part(from, 0));
+    }
+    Schedules(numbers)
+}
+
 pub fn to_account(bytes: &[u8]) -> Option<Account> {
-    let keys = |from| Schedules::of_octets(&part(bytes, from));
+    let keys = |from| to_keys(&bytes[from..from + KEYS_SIZE]);
     let entry = to_entry(&bytes[..ENTRY_SIZE])?;
     Some(entry.with(keys(ENTRY_SIZE), keys(ENTRY_SIZE + KEYS_SIZE)))
 }

@@ -3,6 +3,7 @@
 use borrow.Author.Needs.{needs}
 use mathlib.Core.Path.{_≡_, refl, ap, _∙_}
 use Rattle.packets.specs.declared.Response.{Response}
+use Rattle.accounts.specs.Account.{storedIn}
 use Rattle.verify.specs.Response.{carryingLookup, checkedResponse}
 use Rattle.authenticator.specs.Judge.{judgeResponse}
 use Rattle.authenticator.proofs.Judgements.{verdictFor, verdict-same}
@@ -15,9 +16,10 @@ returns c =
     let reply = c .before in
     let checked = reply .before .before .before in
     let fields = checked .before in
-    let a = fields .before .before .before .before .args in
+    let a = fields .before .before .before .before .before .args in
     let e = checked .check-response .ensures
-    ∙ ap (λ (f : Response). checkedResponse (a .self .terms) (a .self .challenge) (carryingLookup (a .lookup) (a .schedules)) f)
+    ∙ ap (λ (f : Response). checkedResponse (a .self .terms) (a .self .challenge)
+    (carryingLookup (a .lookup) (storedIn (a .keys .now))) f)
     (fields .read-response .ensures) in
     verdict-same (reply .reply-for .ensures) (c .after .ensures) refl
     ∙ ap (verdictFor (a .self)) e

@@ -3,12 +3,16 @@
 -- Assumes nothing.
 use borrow.Author.Needs.{needs}
 use mathlib.Core.Bool.{Bool}
+use mathlib.Core.List.{List}
 use mathlib.Core.Path.{_≡_, sym, ap, ap₂, _∙_}
+use Prim.Native.Nat.{ℕ}
 use Rattle.accounts.specs.declared.Account.{Account}
 use Rattle.accounts.specs.declared.EntryLookup.{EntryLookup}
 use Rattle.accounts.specs.declared.Lookup.{Lookup}
 use Rattle.accounts.specs.declared.Schedules.{Schedules}
-use Rattle.verify.specs.Response.{carryingLookup}
+use Rattle.accounts.specs.Account.{storedIn}
+use Rattle.packets.specs.Response.{readResponse}
+use Rattle.verify.specs.Response.{judgingKeys, carryingLookup}
 use Rattle.authenticator.specs.Step.{Outcome, step, steppedOf, handsBack, handedOut}
 use Rattle.authenticator.specs.declared.Answer.{Answer}
 use Rattle.authenticator.specs.declared.Phase.{Phase}
@@ -31,18 +35,22 @@ returns : tie.Need-returns
 returns c =
     let back = c .before in
     let s = back .before .before .before .before .before in
-    let e = s .before .before in
-    let k = e .before in
+    let e = s .before .before .before in
+    let o = e .before in
+    let k = o .before .before in
     let a = k .before .before .before .before .args in
     let p = a .packet .now in
     let b = a .reply .now in
     let phase = a .self .phase in
     let account = a .lookup .account in
     let whole = step (a .self) p (a .lookup) b in
+    let keys : storedIn (o .key-octets .result) ≡ judgingKeys account (readResponse p) =
+    ap (λ (ks : List ℕ). let r : Schedules = record { keys = ks } in r) (o .key-octets .ensures .1)
+    ∙ k .judging-keys .ensures in
     let read : seenOf (step (a .self) p (carryingLookup (e .entry-lookup-of .result)
-    (k .judging-keys .result)) b) ≡ seenOf whole =
+    (storedIn (o .key-octets .result))) b) ≡ seenOf whole =
     ap₂ (λ (l : EntryLookup) (ks : Schedules). seenOf (step (a .self) p (carryingLookup l ks) b))
-    (e .entry-lookup-of .ensures) (k .judging-keys .ensures)
+    (e .entry-lookup-of .ensures) keys
     ∙ sym (same-read (a .self) p b (a .lookup)) in
     let stepped : s .step-by .result ≡ steppedOf (whole .answer) =
     s .step-by .ensures .0 ∙ ap (λ (x : Seen). x .stepped) read in
@@ -64,5 +72,5 @@ pub step-spec : {M : Type 1} → statement M
 step-spec =
     tie.close
     (tie.spec
-    (λ c κs. search needs) (λ c κs. search needs) (λ c κs. search needs) (λ c κs. search needs)
-    (λ c κs. search needs) (λ c. search needs) returns)
+    (λ c κs. search needs) (λ c κs. search needs) (λ c κs. search needs) (λ c. search needs)
+    (λ c κs. search needs) (λ c κs. search needs) (λ c κs. search needs) (λ c. search needs) returns)

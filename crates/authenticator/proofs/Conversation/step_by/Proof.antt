@@ -11,6 +11,7 @@ use lib.ListN.{length}
 use Rattle.accounts.specs.declared.EntryLookup.{EntryLookup}
 use Rattle.accounts.specs.declared.Lookup.{Lookup}
 use Rattle.packets.specs.Frame.{writtenOver}
+use Rattle.accounts.specs.Account.{storedIn}
 use Rattle.verify.specs.Response.{carryingLookup}
 use Rattle.verify.specs.declared.ChangeFault.the-variants.{NoFault}
 use Rattle.authenticator.specs.Conversation.{answerWith, withLast}
@@ -32,11 +33,11 @@ abbrev repeat : tie.After-refusal → tie.After-is-repeat
 repeat c = c .before .before
 
 abbrev start : tie.After-refusal → tie.Start
-start c = repeat c .before .before .before .before
+start c = repeat c .before .before .before .before .before
 
 -- the record that is passed: the round keys stand beside either hash
 abbrev passed-record : tie.Start → Lookup
-passed-record s = carryingLookup (s .args .lookup) (s .args .schedules)
+passed-record s = carryingLookup (s .args .lookup) (storedIn (s .args .keys .now))
 
 -- whether the packet is a repeat, and the refusal
 repeat-told : (c : tie.After-refusal) → repeat c .is-repeat .result
@@ -71,7 +72,7 @@ returns c =
         written = 0;
         updated = l;
       } in s)
-      (refusal-told k) (c .no-entry .ensures)
+          (refusal-told k) (c .no-entry .ensures)
           ∙ sym (ap (λ (o : Outcome). steppedOf (o .answer)) whole),
       sym (ap (λ (o : Outcome). o .buffer) whole),
     )
@@ -134,7 +135,7 @@ returns-3 c =
     ∙ written-whole _ b (reply-fits (a .self .id) (j .judge .result .reply)) (ok .readable .room)
     ∙ ap length same in (
       ap (λ (x : Verdict). answer x (n .with-last .result) (w .write-reply .result)
-      (e .reason-of .result)) (j .judge .ensures)
+          (e .reason-of .result)) (j .judge .ensures)
           ∙ ap (λ (x : Conversation). answer judgement x (w .write-reply .result)
           (e .reason-of .result)) next
           ∙ ap₂ (answer judgement (withLast (answerWith (a .self) (judgement .reply))

@@ -1,13 +1,13 @@
 -- `layouts::keys::encode_schedules` meets its contract.
 -- Assumes nothing.
-use mathlib.Core.List.{List}
-use mathlib.Core.Path.{_≡_, ap, _∙_}
+use mathlib.Core.List.{List, _++_}
+use mathlib.Core.Path.{_≡_, ap, ap₂, _∙_}
 use Prim.Native.Nat.{ℕ, _*_}
 use borrow.Author.Needs.{needs}
-use lib.ListN.{length, replicate, length-replicate}
+use lib.ListN.{length, length-replicate}
 use Rattle.octets.proofs.Laid.{first, next, laid-whole}
-use Rattle.layouts.specs.Keys.{encodeKeys}
-use Rattle.layouts.proofs.KeyLaws.{length-encoded}
+use Rattle.credentials.specs.Credentials.{encodeKeys}
+use Rattle.credentials.proofs.KeyOctets.{length-encoded}
 use Rattle.layouts.proofs.keys.encode_schedules.Statement.{statement}
 use Rattle.layouts.proofs.keys.encode_schedules.Tie as tie
 
@@ -24,16 +24,22 @@ sized ks e = length-encoded ks ∙ ap (λ (n : ℕ). 8 * n) e
 returns : tie.Need-returns
 returns c =
     let second = c .before in
-    let one = second .before .before .before in
-    let start = one .before .before .before .before in
+    let lm = second .before .before in
+    let one = lm .before .before .before in
+    let nt = one .before .before in
+    let start = nt .before .before .before .before in
     let a = start .args .account in
-    let s₁ = first 384 (sized (a .«nt_keys» .keys) (nt-numbers start)) (one .put-keys .ensures) in
-    let s₂ = next s₁ (encodeKeys (a .«lm_keys» .keys)) 384
-    (sized (a .«lm_keys» .keys) (lm-numbers start)) (second .put-keys2 .ensures) in
-    laid-whole s₂ (length-replicate {A = ℕ} 768 0)
+    let e₁ = nt .key-octets .ensures .0 in
+    let e₂ = lm .key-octets2 .ensures .0 in
+    let s₁ = first 384 (ap length e₁ ∙ sized (a .«nt_keys» .keys) (nt-numbers start))
+    (one .copy .ensures) in
+    let s₂ = next s₁ (lm .key-octets2 .result) 384
+    (ap length e₂ ∙ sized (a .«lm_keys» .keys) (lm-numbers start)) (second .copy-at .ensures) in
+    laid-whole s₂ (length-replicate {A = ℕ} 768 0) ∙ ap₂ _++_ e₁ e₂
 
 pub encode-schedules-spec : {M : Type 1} → statement M
 encode-schedules-spec =
     tie.close
     (tie.spec
+    (λ c. search needs) (λ c κs. search needs) (λ c. search needs) (λ c κs. search needs)
     (λ c. search needs) (λ c κs. search needs) (λ c. search needs) (λ c κs. search needs) returns)

@@ -6,14 +6,16 @@ use mathlib.Core.List.{List}
 use Prim.Native.Nat.{ℕ}
 use borrow.Author.Tests.{not-true, not-false, eqb-true}
 use lib.ListN.{length}
+use Rattle.octets.specs.Parts as octets
 use Rattle.octets.proofs.Parts.{fixed-whole}
+use Rattle.des.specs.Stored.{keysIn}
 use Rattle.credentials.specs.Credentials.{responseUnder}
 use Rattle.credentials.proofs.Laws.{length-response-under}
 use Rattle.packets.specs.Sizes.{answerSize, challengeSize}
 use Rattle.accounts.specs.declared.EntryLookup.{EntryLookup}
 use Rattle.accounts.specs.declared.Hash.{Hash}
-use Rattle.accounts.specs.declared.Schedules.{Schedules}
 use Rattle.layouts.specs.Call.{sized}
+use Rattle.layouts.specs.Keys.{keysSize}
 use Rattle.layouts.specs.Records.{isEncodedRecord}
 use Rattle.layouts.proofs.Filling.{both, fills-as, filled-with, refused-argument}
 use Rattle.mschap.specs.Records.{isOneHash, responseArgumentsAs}
@@ -56,16 +58,18 @@ returns-2 c =
     let named = refusal .before in
     let made = named .before in
     let taken = made .before in
-    let keys = taken .before .before in
-    let passed = keys .before in
+    let part = taken .before in
+    let at = part .before in
+    let passed = at .before in
     let a = passed .before .before .before .before .before .before .args in
     let valid = sym (tested (passed .before)) ∙ not-false _ (passed .if1 .left) in
     let challenge = taken .eight-at .ensures
     ∙ fixed-whole 8 (a .challenge .now)
     (eight (a .account .now) (a .hash) (a .challenge .now) valid) in
+    let keys = part .part-of .ensures
+    ∙ ap (λ (n : ℕ). octets.part n keysSize (a .account .now)) (at .named-at .ensures) in
     let response = made .scheduled-response .ensures
-    ∙ ap₂ (λ (s : Schedules) (x : List ℕ). responseUnder (s .keys) x)
-    (keys .named-keys .ensures) challenge in
+    ∙ ap₂ (λ (b x : List ℕ). responseUnder (keysIn b) x) keys challenge in
     let number = refusal .no-hash-refusal .ensures
     ∙ ap (λ (h : Hash). cond (h .present) 0 102) (named .named-hash .ensures
     ∙ ap (λ (l : EntryLookup). namedHash l (a .hash)) (passed .before .before .decode-head .ensures)) in
@@ -77,4 +81,6 @@ pub mschap-record-response-spec : {M : Type 1} → statement M
 mschap-record-response-spec =
     tie.close
     (tie.spec
-    (λ c κs. search needs) (λ c κs. search needs) returns (λ c κs. search needs) (λ c κs. search needs) (λ c κs. search needs) (λ c κs. search needs) (λ c κs. search needs) (λ c. search needs) (λ c κs. search needs) (λ c. search needs) returns-2)
+    (λ c κs. search needs) (λ c κs. search needs) returns (λ c κs. search needs)
+    (λ c κs. search needs) (λ c κs. search needs) (λ c κs. search needs) (λ c κs. search needs)
+    (λ c κs. search needs) (λ c. search needs) (λ c κs. search needs) (λ c. search needs) returns-2)

@@ -5,6 +5,7 @@ use mathlib.Core.Bool.{Bool, true, cond}
 use mathlib.Core.List.{List}
 use Prim.Native.Nat.{ℕ}
 use borrow.Author.Tests.{not-true, not-false, ne-eqb}
+use Rattle.accounts.specs.Account.{storedIn}
 use Rattle.accounts.specs.declared.EntryLookup.{EntryLookup}
 use Rattle.accounts.specs.declared.Schedules.{Schedules}
 use Rattle.packets.specs.Response.{readResponse}
@@ -110,9 +111,9 @@ returns-3 c =
     let reply = a .reply .now in
     let before = head .before .decode-conversation .ensures in
     let lookup = head .decode-head .ensures in
-    let read : keys .keys-at .result ≡ judgingKeys (decodeRecord account .account)
+    let read : storedIn (keys .part-of .result .now) ≡ judgingKeys (decodeRecord account .account)
     (readResponse packet) =
-    keys .keys-at .ensures
+    ap storedIn (keys .part-of .ensures)
     ∙ ap (λ (n : ℕ). keysAt n account) (at .judging-at .ensures
     ∙ ap₂ (λ (n : ℕ) (l : EntryLookup). cond (usesNt n (l .entry .nt)) ntKeysAt lmKeysAt)
     (flag .octet .ensures) lookup)
@@ -120,7 +121,7 @@ returns-3 c =
     let done : Conversation → EntryLookup → Schedules → Outcome =
     λ v l s. step v packet (carryingLookup l s) reply in
     let seen = ap₂ (λ (v : Conversation) (l : EntryLookup).
-    seenOf (done v l (keys .keys-at .result))) before lookup
+    seenOf (done v l (storedIn (keys .part-of .result .now)))) before lookup
     ∙ ap (λ (s : Schedules). seenOf (done (decodeConversation (a .conversation .now))
     (decodeHead account) s)) read in
     let e = stepped .step-by .ensures in

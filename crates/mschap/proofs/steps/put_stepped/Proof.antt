@@ -94,12 +94,11 @@ returns-2 c =
 returns-3 : tie.Need-returns-3
 returns-3 c =
     let put = c .before .before in
-    let keys = put .before .before .before in
-    let made = keys .before in
+    let made = put .before .before .before in
     let else = made .before .before .before in
     let back = else .before in
     let entry = start back .args .stepped .updated .entry in
-    let same = keys .encode-schedules .ensures ∙ ap encodeSchedules (made .account-of .ensures) in
+    let same = made .made-keys .ensures in
     record {
       number = no-number back;
       next = written back (back .before .before .before .put-conversation .ensures);
@@ -115,5 +114,5 @@ put-stepped-spec =
     (tie.spec
     (λ c κs. search needs) (λ c κs. search needs) returns (λ c κs. search needs) (λ c κs. search needs)
     (λ c κs. search needs) (λ c κs. search needs) (λ c κs. search needs) (λ c. search needs)
-    (λ c. search needs) returns-2 (λ c κs. search needs) (λ c κs. search needs)
+    (λ c. search needs) returns-2 (λ c κs. search needs)
     (λ c. search needs) (λ c κs. search needs) (λ c. search needs) (λ c. search needs) returns-3)

@@ -8,6 +8,7 @@ use mathlib.Core.List.{List}
 use Prim.Native.Nat.{ℕ}
 use lib.Dec.{eqb}
 use Rattle.octets.specs.Parts.{agrees}
+use Rattle.des.specs.Stored.{keysIn}
 use Rattle.credentials.specs.Credentials.{responseUnder}
 use Rattle.verify.specs.Response.{answers, valid}
 use Rattle.verify.proofs.responses.is_valid.Statement.{statement}
@@ -28,7 +29,7 @@ returns c =
     let e = c .before .before .before .before .before in
     let a = e .before .before .before .before .before .before .before .before .args in
     let challenge = a .challenge in
-    let keys = a .schedules .keys in
+    let keys = keysIn (a .keys .now) in
     let flagged = eqb (a .fields .flag) 1 in
     let nt = a .entry .nt in
     let lm = a .entry .lm in

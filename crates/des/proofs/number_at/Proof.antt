@@ -1,4 +1,4 @@
--- `layouts::keys::number_at` meets its contract.
+-- `des::number_at` meets its contract.
 -- Assumes nothing.
 use mathlib.Core.Path.{_≡_, sym, ap, _∙_}
 use mathlib.Core.List.{[], _∷_}
@@ -7,9 +7,9 @@ use native.Mathlib.Omega.{arith}
 use lib.ListN.{length, getD}
 use Rattle.octets.specs.Parts.{part}
 use Rattle.octets.specs.Numbers.{fromBe, fromLe}
-use Rattle.layouts.proofs.KeyLaws.{listedFrom, part-from}
-use Rattle.layouts.proofs.keys.number_at.Statement.{statement}
-use Rattle.layouts.proofs.keys.number_at.Tie as tie
+use Rattle.des.proofs.StoredOctets.{listedFrom, part-from}
+use Rattle.des.proofs.number_at.Statement.{statement}
+use Rattle.des.proofs.number_at.Tie as tie
 use borrow.Author.Needs.{needs}
 
 -- the most significant octet last, and first
@@ -20,7 +20,7 @@ turned a b c d e f g h = omega arith
 returns : tie.Need-returns
 returns c =
     let s = c .before .before .before .before .before .before .before .before .before .before in
-    let b = s .args .bytes .now in
+    let b = s .args .octets .now in
     let at = s .args .at in
     let place : at + 0 ≡ at = omega arith in
     let room : at + 8 ≤ length b = s .pre in
