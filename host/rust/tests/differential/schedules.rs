@@ -528,3 +528,38 @@ fn schedules_are_not_in_a_file() {
     let seen = run("schedules and files", 5_000, file);
     seen.at_least(2_000, "read again with its own");
 }
+
+/// The response of each hash of a record, by the schedules that the record carries: the archive's is
+/// the independent program's, and a hash that is not there draws a number and leaves the buffer.
+fn response(random: &mut Random, seen: &mut Seen) {
+    let (own, other) = (Passwords::drawn(random), Passwords::drawn(random));
+    let held = Held::drawn(random, 10, &own, &other);
+    let account = &held.account;
+    let challenge = random.array();
+    for (flag, hash, keys) in [
+        (sys::HAS_NT_HASH, account.nt, &account.nt_keys),
+        (sys::HAS_LM_HASH, account.lm, &account.lm_keys),
+    ] {
+        let mut response = [0xA5; 24];
+        let number = sys::record_response(&held.bytes, flag, &challenge, &mut response);
+        let Some(hash) = hash else {
+            assert_eq!((number, response), (sys::NO_RECORD, [0xA5; 24]));
+            seen.note("no such hash");
+            continue;
+        };
+        assert_eq!((number, response), (sys::OK, keys.response(&challenge)));
+        let by_hash = hashes::challenge_response(&hash, &challenge);
+        seen.note(match response == by_hash {
+            true => "as by the hash",
+            false => "another than by the hash",
+        });
+    }
+}
+
+#[test]
+fn record_responses_agree() {
+    let seen = run("record responses", 5_000, response);
+    seen.at_least(1_000, "no such hash");
+    seen.at_least(1_000, "as by the hash");
+    seen.at_least(3_000, "another than by the hash");
+}
