@@ -27,7 +27,7 @@ use Rattle.rc4.proofs.Laws.{crypted-twice, length-crypted}
 use Rattle.credentials.specs.declared.Content.the-variants.{Over, Odd, Password}
 use Rattle.credentials.specs.declared.Unsealed.{Unsealed}
 use Rattle.credentials.specs.declared.Sealed.{Sealed}
-use Rattle.credentials.specs.Credentials.{blockSize, ntHashOf, badNtPassword, lmKeys, upper, responseOf, schedulesOf, responseUnder, oldUnderNew, plainBlock, sealedBlock, badFiller, sealRefusal, sealedAs, lengthIn, contentFor, lengthTold, passwordLength, ValidLength, unsealedAs, passwordIn}
+use Rattle.credentials.specs.Credentials.{blockSize, ntHashOf, badNtPassword, lmKeys, upper, responseOf, schedulesOf, responseUnder, oldUnderNew, hashUnderChallenge, plainBlock, sealedBlock, badFiller, sealRefusal, sealedAs, lengthIn, contentFor, lengthTold, passwordLength, ValidLength, unsealedAs, passwordIn}
 use Rattle.credentials.specs.Credentials.{lengthUnder}
 use Rattle.credentials.proofs.Plain.{front, front-length, body-length, plain-parts, length-plain}
 
@@ -83,6 +83,10 @@ response-tells hash c d n o m p e =
 pub length-old-under-new : (old new : List ℕ) → length (oldUnderNew old new) ≡ 16
 unfolding oldUnderNew
 length-old-under-new old new = two-blocks _ _ _ _
+
+pub length-under-challenge : (hash challenge : List ℕ) → length (hashUnderChallenge hash challenge) ≡ 16
+unfolding hashUnderChallenge
+length-under-challenge hash challenge = two-blocks _ _ _ _
 
 module _ (filler password : List ℕ) (room : length filler ≡ 512) (fits : length password ≤ 512) where
   -- ---- opening what was sealed

@@ -3,3 +3,4 @@ pub mod Plain
 pub mod Laws
 mod Worked
 pub mod KeyOctets
+pub mod UnderChallenge

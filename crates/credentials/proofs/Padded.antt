@@ -47,3 +47,13 @@ two-blocks keys x y {r} {a} {b} {k₁} {k₂} h er ea eb e₁ e₂ =
     ∙ ap₂ _++_
     (ea ∙ ap (λ (k : List ℕ). desEncrypt k x) (e₁ ∙ fixed-part 0 7 keys (omega arith)))
     (eb ∙ ap (λ (k : List ℕ). desEncrypt k y) (e₂ ∙ fixed-part 7 7 keys (omega arith)))
+
+-- ---- the halves of sixteen octets, each under a cipher of its own
+
+pub halves-joined : (f g : List ℕ → List ℕ) (l : List ℕ) {r a b x y : List ℕ} → length l ≡ 16
+    → r ≡ a ++ b → a ≡ f x → b ≡ g y → x ≡ fixed 8 (part 0 8 l) → y ≡ fixed 8 (part 8 8 l)
+    → r ≡ f (part 0 8 l) ++ g (part 8 8 l)
+halves-joined f g l n er ea eb ex ey =
+    er
+    ∙ ap₂ _++_ (ea ∙ ap f (ex ∙ fixed-part 0 8 l (omega arith)))
+    (eb ∙ ap g (ey ∙ fixed-part 8 8 l (omega arith)))

@@ -8,7 +8,7 @@ use Rattle.octets.specs.Parts.{part}
 use Rattle.rc4.specs.Rc4.{swapped, upto, mixJ, mix, mixed, started, nextI, nextJ, nextState, outputOctet, keystream, xors, ciphered, crypted}
 use Rattle.des.specs.Tables.{ip, fp, expansion, permutation, s1, s2, s3, s4, s5, s6, s7, s8, boxes, pc1, pc2, shifts}
 use Rattle.des.specs.Des.{cipherF, crypt, roundKeys, expandKey, scheduleOf, desEncrypt}
-use Rattle.credentials.specs.Credentials.{oldUnderNew, plainBlock, sealedBlock}
+use Rattle.credentials.specs.Credentials.{oldUnderNew, hashUnderChallenge, plainBlock, sealedBlock}
 
 -- the NT hashes of the two
 abbrev old : List ℕ
@@ -21,6 +21,16 @@ new = 0x65 ∷ 0xde ∷ 0x9a ∷ 0xde ∷ 0x0b ∷ 0xbd ∷ 0xa2 ∷ 0xaf ∷ 0x
 under : oldUnderNew old new ≡ 0x71 ∷ 0xbd ∷ 0x6c ∷ 0xba ∷ 0x24 ∷ 0x58 ∷ 0x6c ∷ 0x0a ∷ 0x13 ∷ 0x54 ∷ 0xf1 ∷ 0xb6 ∷ 0x11 ∷ 0xcb ∷ 0x4c ∷ 0xaf ∷ []
 unfolding oldUnderNew desEncrypt scheduleOf expandKey roundKeys crypt cipherF ip fp expansion permutation boxes s1 s2 s3 s4 s5 s6 s7 s8 pc1 pc2 shifts
 under = refl
+
+-- RFC 2433 B.2's challenge
+abbrev challenge : List ℕ
+challenge = 0x10 ∷ 0x2d ∷ 0xb5 ∷ 0xdf ∷ 0x08 ∷ 0x5d ∷ 0x30 ∷ 0x41 ∷ []
+
+-- slip 13: both halves are under its first seven octets, and not the second under the next ones as
+-- in A.17
+under-challenge : hashUnderChallenge old challenge ≡ 0x9e ∷ 0x05 ∷ 0x21 ∷ 0xf3 ∷ 0xf7 ∷ 0xea ∷ 0xee ∷ 0x39 ∷ 0x55 ∷ 0xf6 ∷ 0x1e ∷ 0x38 ∷ 0xbe ∷ 0x9a ∷ 0x8e ∷ 0xf3 ∷ []
+unfolding hashUnderChallenge desEncrypt scheduleOf expandKey roundKeys crypt cipherF ip fp expansion permutation boxes s1 s2 s3 s4 s5 s6 s7 s8 pc1 pc2 shifts
+under-challenge = refl
 
 -- n octets of a filler from the place i on
 abbrev filler : ℕ → ℕ → List ℕ

@@ -11,7 +11,7 @@ use Rattle.octets.specs.Parts.{part, fixed}
 use Rattle.octets.specs.Numbers.{fromLe, toLe}
 use Rattle.octets.specs.Digits.{between}
 use Rattle.md4.specs.Md4.{md4Of}
-use Rattle.des.specs.Des.{desEncrypt, desThree}
+use Rattle.des.specs.Des.{desEncrypt, desDecrypt, desThree}
 use Rattle.des.specs.Stored.{threeSchedules, threeUnder}
 use Rattle.rc4.specs.Rc4.{crypted}
 use Rattle.credentials.specs.declared.Hashed.{Hashed}
@@ -110,11 +110,32 @@ encodeKeys (k ∷ ks) = toLe 8 k ++ encodeKeys ks
 unfoldable pub responseUnder : List ℕ → List ℕ → List ℕ
 responseUnder ks challenge = threeUnder ks challenge
 
+-- ---- a hash under a block
+
+-- A.9 and A.17: each half of a hash, of eight octets, under a key of its own
+abbrev pub halvesUnder : List ℕ → List ℕ → List ℕ → List ℕ
+halvesUnder first second hash = desEncrypt first (part 0 8 hash)
+    ++ desEncrypt second (part 8 8 hash)
+
 -- A.17, NtPasswordHashEncryptedWithBlock(): the first half under the new hash's octets 0 to 6, the
 -- second under 7 to 13
 unfoldable pub oldUnderNew : List ℕ → List ℕ → List ℕ
-oldUnderNew old new = desEncrypt (part 0 7 new) (part 0 8 old)
-    ++ desEncrypt (part 7 7 new) (part 8 8 old)
+oldUnderNew old new = halvesUnder (part 0 7 new) (part 7 7 new) old
+
+-- the octets of a challenge that are a key: "1st 7-octets Block"
+abbrev pub challengeKey : List ℕ → List ℕ
+challengeKey challenge = part 0 7 challenge
+
+-- A.9, PasswordHashEncryptedWithBlock(), by which A.8 has an LM hash and A.10 an NT hash under the
+-- challenge: both halves under its first seven octets
+unfoldable pub hashUnderChallenge : List ℕ → List ℕ → List ℕ
+hashUnderChallenge hash challenge =
+    halvesUnder (challengeKey challenge) (challengeKey challenge) hash
+
+-- what undoes it
+unfoldable pub hashFromChallenge : List ℕ → List ℕ → List ℕ
+hashFromChallenge field challenge = desDecrypt (challengeKey challenge) (part 0 8 field)
+    ++ desDecrypt (challengeKey challenge) (part 8 8 field)
 
 -- ---- the sealed password
 

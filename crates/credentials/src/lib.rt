@@ -9,7 +9,7 @@ ghost use Rattle.octets.specs.Parts.{fixed};
 ghost use Rattle.octets.specs.Numbers.{toLe};
 ghost use Rattle.des.specs.Stored.{keysIn};
 ghost use Rattle.rc4.specs.Rc4.{crypted};
-ghost use Rattle.credentials.specs.Credentials.{longestNt, keysSize, upper, badNtPassword, lmKeys, ntHashed, lmHashed, responseOf, schedulesOf, encodeKeys, responseUnder, oldUnderNew, plainBlock, badFiller, sealRefusal, sealedAs, lengthIn, contentFor, lengthTold, passwordLength, unsealedAs};
+ghost use Rattle.credentials.specs.Credentials.{longestNt, keysSize, upper, badNtPassword, lmKeys, ntHashed, lmHashed, responseOf, schedulesOf, encodeKeys, responseUnder, halvesUnder, oldUnderNew, hashUnderChallenge, hashFromChallenge, plainBlock, badFiller, sealRefusal, sealedAs, lengthIn, contentFor, lengthTold, passwordLength, unsealedAs};
 
 // Sizes in octets: a hash, the longest password for NT and for LM, a response's keys (three DES
 // keys of 7 octets), and a password's block (room for the longest one, and its length).
@@ -200,13 +200,43 @@ pub fn scheduled_response(keys: &[u8], challenge: [u8; 8]) -> [u8; 24]
     des::encrypt_three_under(keys, challenge)
 }
 
+// ---- a hash under a block
+
+// Each half of a hash under a key of its own.
+fn halves_under(first: [u8; 7], second: [u8; 7], hash: [u8; HASH_SIZE]) -> [u8; HASH_SIZE]
+    ensures { λ r. ⌜ r ≡ halvesUnder first second hash ⌝ }
+{
+    let a = des::encrypt(first, octets::eight_at(&hash, 0));
+    let b = des::encrypt(second, octets::eight_at(&hash, 8));
+    joined(a, b)
+}
+
 // A.17, NtPasswordHashEncryptedWithBlock(): the old hash under the new one.
 pub fn old_under_new(old: [u8; HASH_SIZE], new: [u8; HASH_SIZE]) -> [u8; HASH_SIZE]
     ensures { λ r. ⌜ r ≡ oldUnderNew old new ⌝ }
 {
-    let first = des::encrypt(octets::seven_at(&new, 0), octets::eight_at(&old, 0));
-    let second = des::encrypt(octets::seven_at(&new, 7), octets::eight_at(&old, 8));
-    joined(first, second)
+    let first = octets::seven_at(&new, 0);
+    let second = octets::seven_at(&new, 7);
+    halves_under(first, second, old)
+}
+
+// A.9, PasswordHashEncryptedWithBlock(): a hash under the challenge, both halves by its first seven
+// octets.
+pub fn hash_under_challenge(hash: [u8; HASH_SIZE], challenge: [u8; 8]) -> [u8; HASH_SIZE]
+    ensures { λ r. ⌜ r ≡ hashUnderChallenge hash challenge ⌝ }
+{
+    let key = octets::seven_at(&challenge, 0);
+    halves_under(key, key, hash)
+}
+
+// What undoes it: the hash that a field of a version 1 change holds.
+pub fn hash_from_challenge(field: [u8; HASH_SIZE], challenge: [u8; 8]) -> [u8; HASH_SIZE]
+    ensures { λ r. ⌜ r ≡ hashFromChallenge field challenge ⌝ }
+{
+    let key = octets::seven_at(&challenge, 0);
+    let a = des::decrypt(key, octets::eight_at(&field, 0));
+    let b = des::decrypt(key, octets::eight_at(&field, 8));
+    joined(a, b)
 }
 
 // ---- the sealed password
