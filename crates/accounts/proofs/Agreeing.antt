@@ -2,7 +2,6 @@
 -- request 2026-10): "after every operation that makes a record or is lent one in which they agree".
 -- Assumes nothing.
 use mathlib.Core.Bool.{Bool, true, cond}
-use mathlib.Core.List.{List}
 use mathlib.Core.Path.{_≡_, ap}
 use Prim.Native.Nat.{ℕ}
 use Rattle.credentials.specs.Credentials.{schedulesOf}
@@ -33,8 +32,8 @@ pub made-agrees : (e : Entry) → Agree (accountOf e)
 made-agrees e = record { nt = own-schedules (e .nt); lm = own-schedules (e .lm) }
 
 -- the record of an accepted change
-pub changed-agrees : (e : Entry) (h : List ℕ) → Agree (changed e h)
-changed-agrees e h = made-agrees _
+pub changed-agrees : (e : Entry) (nt lm : Hash) → Agree (changed e nt lm)
+changed-agrees e nt lm = made-agrees _
 
 -- a record with another count, where they agreed before
 pub counted-agrees : (n : ℕ) (a : Account) → Agree a → Agree (withFailures n a)

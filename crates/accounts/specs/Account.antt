@@ -79,11 +79,11 @@ entryFailures n e =
       failures = n;
     }
 
--- after an accepted change: the new NT hash, no LM hash, expired cleared, the other marks kept; "an
--- accepted change sets the count to 0"
-abbrev pub changedEntry : Entry → List ℕ → Entry
-changedEntry e h =
-    entryWith (hashOf h) noHash (e .disabled) (e .«hours_denied») (e .«dialin_denied») false
+-- after an accepted change: its new hashes, an NT hash, an LM hash or both, expired cleared, the
+-- other marks kept; "an accepted change sets the count to 0"
+abbrev pub changedEntry : Entry → Hash → Hash → Entry
+changedEntry e nt lm =
+    entryWith nt lm (e .disabled) (e .«hours_denied») (e .«dialin_denied») false
 
 -- ---- records made
 
@@ -145,9 +145,9 @@ entryLookupOf l = record { found = l .found; entry = entryOf (l .account) }
 
 -- ---- updated
 
--- a new hash has its own round keys
-abbrev pub changed : Entry → List ℕ → Account
-changed e h = accountOf (changedEntry e h)
+-- new hashes have their own round keys
+abbrev pub changed : Entry → Hash → Hash → Account
+changed e nt lm = accountOf (changedEntry e nt lm)
 
 -- the same record with another count: "where its hash stays, handed out with them"
 abbrev pub withFailures : ℕ → Account → Account

@@ -259,13 +259,14 @@ pub fn entry_lookup_of(lookup: Lookup) -> EntryLookup
 
 // ---- updated
 
-// What an accepted change of the password makes of an entry: it counts no failures.
-pub fn changed_entry(entry: Entry, hash: [u8; 16]) -> Entry
-    ensures { λ r. ⌜ r ≡ changedEntry entry hash ⌝ }
+// What an accepted change of the password makes of an entry, by its new hashes: it counts no
+// failures.
+pub fn changed_entry(entry: Entry, nt: Hash, lm: Hash) -> Entry
+    ensures { λ r. ⌜ r ≡ changedEntry entry nt lm ⌝ }
 {
     entry_with(
-        hash_of(hash),
-        no_hash(),
+        nt,
+        lm,
         entry.disabled,
         entry.hours_denied,
         entry.dialin_denied,
@@ -273,11 +274,11 @@ pub fn changed_entry(entry: Entry, hash: [u8; 16]) -> Entry
     )
 }
 
-// The record after an accepted change, with the round keys of the new hash.
-pub fn changed(entry: Entry, hash: [u8; 16]) -> Account
-    ensures { λ r. ⌜ r ≡ changed entry hash ⌝ }
+// The record after an accepted change, with the round keys of the new hashes.
+pub fn changed(entry: Entry, nt: Hash, lm: Hash) -> Account
+    ensures { λ r. ⌜ r ≡ changed entry nt lm ⌝ }
 {
-    account_of(changed_entry(entry, hash))
+    account_of(changed_entry(entry, nt, lm))
 }
 
 // The same entry with another count of failures.
