@@ -5,6 +5,7 @@ use mathlib.Core.List.{List}
 use Prim.Native.Nat.{ℕ}
 use Rattle.packets.specs.declared.Response.{Response}
 use Rattle.packets.specs.declared.Change.{Change}
+use Rattle.packets.specs.declared.ChangeOne.{ChangeOne}
 use Rattle.packets.specs.declared.ChallengeFields.{ChallengeFields}
 
 pub response-same : {a a' b b' : List ℕ} {c c' : ℕ} → a ≡ a' → b ≡ b' → c ≡ c'
@@ -19,3 +20,8 @@ pub change-same : {a a' b b' c c' d d' e e' f f' : List ℕ} {g g' : ℕ} → a 
     → _≡_ {A = Change} (record { block = a; verifier = b; lmblock = c; lmverifier = d; lm = e; nt = f; flags = g })
     (record { block = a'; verifier = b'; lmblock = c'; lmverifier = d'; lm = e'; nt = f'; flags = g' })
 change-same h₁ h₂ h₃ h₄ h₅ h₆ h₇ = cc
+
+pub change-one-same : {a a' b b' c c' d d' : List ℕ} {e e' f f' : ℕ} → a ≡ a' → b ≡ b' → c ≡ c' → d ≡ d' → e ≡ e' → f ≡ f'
+    → _≡_ {A = ChangeOne} (record { lmold = a; lmnew = b; ntold = c; ntnew = d; length = e; flags = f })
+    (record { lmold = a'; lmnew = b'; ntold = c'; ntnew = d'; length = e'; flags = f' })
+change-one-same h₁ h₂ h₃ h₄ h₅ h₆ = cc

@@ -13,16 +13,18 @@ use lib.ListN.{length, take, drop, length-append, length-drop, take-append-drop,
 use lib.Seq.{take-append-le, drop-append-le, length-take-le}
 use Rattle.octets.specs.Parts.{part, fixed}
 use Rattle.octets.specs.Numbers.{fromBe}
-use Rattle.packets.specs.Frame.{octet, lengthOf, badFrame, dataOf}
+use Rattle.packets.specs.Frame.{octet, numberAt, lengthOf, badFrame, dataOf}
 use Rattle.packets.specs.Response.{readResponse, readName, badResponseSize, badResponseFlag, responseRefusal}
 use Rattle.packets.specs.Change.{readChange, badChangeSize, badChangeFlags, changeRefusal}
+use Rattle.packets.specs.ChangeOne.{readChangeOne, badChangeOneSize, badChangeOneFlags, changeOneRefusal}
 use Rattle.packets.specs.Reply.{refusedChallenge, badChallenge, readChallenge, readReply}
 use Rattle.packets.specs.Name.{isSplit, beforeSplit, afterSplit, isBadResponse, domainOf, accountOf, noPart, domainPart, accountPart}
 use Rattle.packets.specs.declared.ChallengeFields.{ChallengeFields}
 use Rattle.packets.specs.declared.Part.{Part}
 use Rattle.packets.specs.declared.Change.{Change}
+use Rattle.packets.specs.declared.ChangeOne.{ChangeOne}
 use Rattle.packets.proofs.Framing.{frame-bounds}
-use Rattle.packets.proofs.Fields.{response-same, asked-same, change-same}
+use Rattle.packets.proofs.Fields.{response-same, asked-same, change-same, change-one-same}
 
 -- ---- two packets that agree up to the Length of one
 
@@ -81,8 +83,11 @@ or-false-both false u e = (refl, e)
 -- ---- every reader
 
 module _ (p q : List ℕ) (s : SamePacket p q) where
+  same-number : (a : ℕ) → a + 2 ≤ lengthOf p → numberAt a q ≡ numberAt a p
+  same-number a h = ap₂ (λ (i j : ℕ). fromBe (i ∷ j ∷ [])) (s .octets a (omega arith)) (s .octets (a + 1) (omega arith))
+
   pub same-length : lengthOf q ≡ lengthOf p
-  same-length = ap₂ (λ (i j : ℕ). fromBe (i ∷ j ∷ [])) (s .octets 2 (omega (arith, s .least))) (s .octets 3 (omega (arith, s .least)))
+  same-length = same-number 2 (s .least)
 
   pub same-code : octet 0 q ≡ octet 0 p
   same-code = s .octets 0 (omega (arith, s .least))
@@ -197,10 +202,30 @@ module _ (p q : List ℕ) (s : SamePacket p q) where
       let field : (a n : ℕ) → a + n ≤ 1118 → fixed n (part a n q) ≡ fixed n (part a n p) = λ a n k. ap (fixed n) (s .parts a n (omega (arith, long))) in
       change-same (field 4 516 (omega arith)) (field 520 16 (omega arith)) (field 536 516 (omega arith)) (field 1052 16 (omega arith))
       (field 1068 24 (omega arith)) (field 1092 24 (omega arith))
-      (ap₂ (λ (i j : ℕ). fromBe (i ∷ j ∷ [])) (s .octets 1116 (omega (arith, long))) (s .octets 1117 (omega (arith, long))))
+      (same-number 1116 (omega (arith, long)))
 
   pub same-change-refusal : changeRefusal q ≡ changeRefusal p
   unfolding changeRefusal
   same-change-refusal =
       ap (λ (t : Bool). cond {A = ℕ} t 6 (cond (badChangeFlags q) 7 0)) same-change-size
       ∙ chosen {A = ℕ} (badChangeSize p) 6 _ _ (λ h. ap (λ (f : Change). cond {A = ℕ} (ltb 3 (f .flags)) 7 0) (same-change h))
+
+  -- a version 1 change
+  pub same-change-one-size : badChangeOneSize q ≡ badChangeOneSize p
+  same-change-one-size = ap (λ (n : ℕ). not (eqb n 72)) same-length
+
+  change-one-long : badChangeOneSize p ≡ false → lengthOf p ≡ 72
+  change-one-long h = eqb-true (lengthOf p) 72 (not-false (eqb (lengthOf p) 72) h)
+
+  pub same-change-one : badChangeOneSize p ≡ false → readChangeOne q ≡ readChangeOne p
+  same-change-one h =
+      let long = change-one-long h in
+      let field : (a : ℕ) → a + 16 ≤ 72 → fixed 16 (part a 16 q) ≡ fixed 16 (part a 16 p) = λ a k. ap (fixed 16) (s .parts a 16 (omega (arith, long))) in
+      change-one-same (field 4 (omega arith)) (field 20 (omega arith)) (field 36 (omega arith)) (field 52 (omega arith))
+      (same-number 68 (omega (arith, long))) (same-number 70 (omega (arith, long)))
+
+  pub same-change-one-refusal : changeOneRefusal q ≡ changeOneRefusal p
+  unfolding changeOneRefusal
+  same-change-one-refusal =
+      ap (λ (t : Bool). cond {A = ℕ} t 6 (cond (badChangeOneFlags q) 7 0)) same-change-one-size
+      ∙ chosen {A = ℕ} (badChangeOneSize p) 6 _ _ (λ h. ap (λ (f : ChangeOne). cond {A = ℕ} (ltb 1 (f .flags)) 7 0) (same-change-one h))

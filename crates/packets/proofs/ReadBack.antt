@@ -15,15 +15,17 @@ use Rattle.octets.proofs.Parts.{fixed-same}
 use Rattle.octets.proofs.Numbers.{fromBe-toBe}
 use Rattle.message.specs.Message.{readMessage, failedWith, textOf, noChallenge, succeeded}
 use Rattle.message.proofs.Laws.{read-text, length-text}
-use Rattle.packets.specs.Frame.{octet, lengthOf, framed, badFrame}
+use Rattle.packets.specs.Frame.{octet, numberAt, lengthOf, framed, badFrame}
 use Rattle.packets.specs.Response.{responsePacket, readResponse, readName, badResponseSize, responseRefusal}
 use Rattle.packets.specs.Change.{changePacket, readChange, badChangeSize, changeRefusal}
+use Rattle.packets.specs.ChangeOne.{changeOnePacket, readChangeOne, badChangeOneSize, changeOneRefusal}
 use Rattle.packets.specs.Reply.{challengePacket, successPacket, failurePacket, readChallenge, readReply}
 use Rattle.packets.specs.declared.Response.{Response}
 use Rattle.packets.specs.declared.Change.{Change}
-use Rattle.packets.proofs.Fields.{response-same, asked-same, change-same}
+use Rattle.packets.specs.declared.ChangeOne.{ChangeOne}
+use Rattle.packets.proofs.Fields.{response-same, asked-same, change-same, change-one-same}
 use Rattle.packets.proofs.Framing.{frame-good, field}
-use Rattle.packets.proofs.Writing.{Sized, length-answers, length-fields}
+use Rattle.packets.proofs.Writing.{Sized, SizedOne, length-answers, length-fields, length-fields-one}
 
 -- a field of fixed length
 fixed-field : (k : ℕ) (l x : List ℕ) → l ≡ x → length x ≡ k → fixed k l ≡ x
@@ -32,6 +34,12 @@ fixed-field k l x e h = ap (fixed k) e ∙ fixed-same k x h
 -- the octet with which the rest begins
 octet-at : (a : ℕ) (p : List ℕ) (x : ℕ) (rest : List ℕ) → drop a p ≡ x ∷ rest → octet a p ≡ x
 octet-at a p x rest e = ap (λ (i : ℕ). getD p i 0) (omega arith) ∙ sym (getD-drop a p 0 0) ∙ ap (λ (l : List ℕ). getD l 0 0) e
+
+-- the number with whose two octets the rest begins
+number-at : (a : ℕ) (p : List ℕ) (x : ℕ) (rest : List ℕ) → drop a p ≡ toBe 2 x ++ rest → x < 65536 → numberAt a p ≡ x
+number-at a p x rest e small =
+    let second = field p a 1 (_ ∷ []) _ e refl in
+    ap₂ (λ (i j : ℕ). fromBe (i ∷ j ∷ [])) (octet-at a p _ _ e) (octet-at (a + 1) p _ _ (second .1)) ∙ fromBe-toBe 2 x ∙ mod-eq-of-lt small
 
 -- ---- Response
 
@@ -95,9 +103,7 @@ change-back id f t s small =
     let x₄ = field p 1052 16 (f .lmverifier) _ (x₃ .1) (s .lmverifier) in
     let x₅ = field p 1068 24 (f .lm) _ (x₄ .1) (s .lm) in
     let x₆ = field p 1092 24 (f .nt) _ (x₅ .1) (s .nt) in
-    let x₇ = field p 1116 1 (_ ∷ []) _ (x₆ .1) refl in
-    let flags : readChange p .flags ≡ f .flags =
-    ap₂ (λ (a b : ℕ). fromBe (a ∷ b ∷ [])) (octet-at 1116 p _ _ (x₆ .1)) (octet-at 1117 p _ _ (x₇ .1)) ∙ fromBe-toBe 2 (f .flags) ∙ mod-eq-of-lt small in
+    let flags : readChange p .flags ≡ f .flags = number-at 1116 p (f .flags) _ (x₆ .1) small in
     let size : badChangeSize p ≡ false = simp (eq-eqb (lengthOf p) 1118 all) in
     record {
       frame = g .good;
@@ -110,6 +116,44 @@ change-back id f t s small =
           (fixed-field 24 _ (f .lm) (x₅ .0) (s .lm)) (fixed-field 24 _ (f .nt) (x₆ .0) (s .nt)) flags;
       size = size;
       fit = λ h. simp (size, le-ltb 3 (readChange p .flags) (omega arith));
+    }
+
+-- and of a version 1 change
+pub record ChangeOneBack (i : ℕ) (f : ChangeOne) (p : List ℕ) : Type 0 where
+  pub frame : badFrame p ≡ false
+  pub code : octet 0 p ≡ 5
+  pub id : octet 1 p ≡ i
+  pub fields : readChangeOne p ≡ f
+  pub size : badChangeOneSize p ≡ false
+  pub fit : f .flags < 2 → changeOneRefusal p ≡ 0
+
+pub change-one-back : (id : ℕ) (f : ChangeOne) (t : List ℕ) → SizedOne f → f .length < 65536 → f .flags < 65536
+    → ChangeOneBack id f (changeOnePacket id f ++ t)
+unfolding changeOnePacket changeOneRefusal
+change-one-back id f t s short small =
+    let p = changeOnePacket id f ++ t in
+    let last = toBe 2 (f .length) ++ toBe 2 (f .flags) in
+    let g = frame-good 5 id (f .lmold ++ (f .lmnew ++ (f .ntold ++ (f .ntnew ++ last)))) t (omega (arith, length-fields-one f s)) in
+    let all : lengthOf p ≡ 72 = g .long ∙ omega (arith, length-fields-one f s) in
+    let start : drop 4 p ≡ f .lmold ++ (f .lmnew ++ (f .ntold ++ (f .ntnew ++ (toBe 2 (f .length) ++ (toBe 2 (f .flags) ++ t))))) = simp append-assoc in
+    let x₁ = field p 4 16 (f .lmold) _ start (s .lmold) in
+    let x₂ = field p 20 16 (f .lmnew) _ (x₁ .1) (s .lmnew) in
+    let x₃ = field p 36 16 (f .ntold) _ (x₂ .1) (s .ntold) in
+    let x₄ = field p 52 16 (f .ntnew) _ (x₃ .1) (s .ntnew) in
+    let x₅ = field p 68 2 (toBe 2 (f .length)) _ (x₄ .1) refl in
+    let flags : readChangeOne p .flags ≡ f .flags = number-at 70 p (f .flags) t (x₅ .1) small in
+    let size : badChangeOneSize p ≡ false = simp (eq-eqb (lengthOf p) 72 all) in
+    record {
+      frame = g .good;
+      code = refl;
+      id = refl;
+      fields =
+          change-one-same
+          (fixed-field 16 _ (f .lmold) (x₁ .0) (s .lmold)) (fixed-field 16 _ (f .lmnew) (x₂ .0) (s .lmnew))
+          (fixed-field 16 _ (f .ntold) (x₃ .0) (s .ntold)) (fixed-field 16 _ (f .ntnew) (x₄ .0) (s .ntnew))
+          (number-at 68 p (f .length) _ (x₄ .1) short) flags;
+      size = size;
+      fit = λ h. simp (size, le-ltb 1 (readChangeOne p .flags) (omega arith));
     }
 
 -- ---- what the peer reads

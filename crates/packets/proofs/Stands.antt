@@ -9,13 +9,21 @@ use borrow.Author.Tests.{ltb-false, eqb-true}
 use lib.Dec.{eqb, ltb}
 use lib.ListN.{length, take}
 use Rattle.octets.specs.Parts.{part}
+use Rattle.octets.specs.Numbers.{toBe}
 use Rattle.octets.proofs.Parts.{fixed-part, part-join}
 use Rattle.octets.proofs.Numbers.{toBe-fromBe, Octets}
 use Rattle.octets.proofs.Listed.{part-written}
-use Rattle.packets.specs.Frame.{octet, lengthOf, framed, badFrame}
+use Rattle.packets.specs.Frame.{octet, numberAt, lengthOf, framed, badFrame}
 use Rattle.packets.specs.Response.{responsePacket, readResponse, readName, responseRefusal}
 use Rattle.packets.specs.Change.{changePacket, readChange, changeRefusal}
+use Rattle.packets.specs.ChangeOne.{changeOnePacket, readChangeOne, changeOneRefusal}
 use Rattle.packets.proofs.Framing.{frame-bounds, frame-back, octet-join, two}
+
+-- a number's two octets
+number-stands : (p : List ℕ) → Octets p → (a : ℕ) → a + 2 ≤ length p → toBe 2 (numberAt a p) ≡ part a 2 p
+number-stands p o a h =
+    let next : a + 1 ≡ suc a = omega arith in
+    toBe-fromBe (octet a p ∷ octet (a + 1) p ∷ []) (two p o a (a + 1)) ∙ ap (λ (i : ℕ). octet a p ∷ octet i p ∷ []) next ∙ sym (part-written 2 a p h)
 
 -- ---- Response
 
@@ -100,7 +108,7 @@ module _ (p : List ℕ) (good : badFrame p ≡ false) (fit : changeRefusal p ≡
   change-again code o =
       let h = long in
       let s = change-stands in
-      let x₇ = toBe-fromBe (octet 1116 p ∷ octet 1117 p ∷ []) (two p o 1116 1117) ∙ sym (part-written 2 1116 p (omega arith)) in
+      let x₇ = number-stands p o 1116 h in
       let x₆ = ap₂ (λ (x y : List ℕ). x ++ y) (s .nt) x₇ ∙ part-join 1092 24 2 p in
       let x₅ = ap₂ (λ (x y : List ℕ). x ++ y) (s .lm) x₆ ∙ part-join 1068 24 26 p in
       let x₄ = ap₂ (λ (x y : List ℕ). x ++ y) (s .lmverifier) x₅ ∙ part-join 1052 16 50 p in
@@ -108,4 +116,49 @@ module _ (p : List ℕ) (good : badFrame p ≡ false) (fit : changeRefusal p ≡
       let x₂ = ap₂ (λ (x y : List ℕ). x ++ y) (s .verifier) x₃ ∙ part-join 520 16 582 p in
       let x₁ = ap₂ (λ (x y : List ℕ). x ++ y) (s .block) x₂ ∙ part-join 4 516 598 p in
       let count : 1114 ≡ lengthOf p - 4 = omega (arith, change-fit p fit .0) in
+      ap₂ (λ (n : ℕ) (x : List ℕ). framed n (octet 1 p) x) (sym code) (x₁ ∙ ap (λ (n : ℕ). part 4 n p) count) ∙ frame-back p good o
+
+-- ---- Change Password, version 1
+
+pub change-one-fit : (p : List ℕ) → changeOneRefusal p ≡ 0 → (lengthOf p ≡ 72) × (readChangeOne p .flags ≤ 1)
+unfolding changeOneRefusal
+change-one-fit p e = by (eqb (lengthOf p) 72) (ltb 1 (readChangeOne p .flags)) refl refl e
+  where
+    by : (a b : Bool) → eqb (lengthOf p) 72 ≡ a → ltb 1 (readChangeOne p .flags) ≡ b → _≡_ {A = ℕ} (cond (not a) 6 (cond b 7 0)) 0
+        → (lengthOf p ≡ 72) × (readChangeOne p .flags ≤ 1)
+    by false b e f g = absurd (omega (arith, g))
+    by true true e f g = absurd (omega (arith, g))
+    by true false e f g = (eqb-true (lengthOf p) 72 e, ltb-false 1 (readChangeOne p .flags) f)
+
+pub record ChangeOneStands (p : List ℕ) : Type 0 where
+  pub lmold : readChangeOne p .lmold ≡ part 4 16 p
+  pub lmnew : readChangeOne p .lmnew ≡ part 20 16 p
+  pub ntold : readChangeOne p .ntold ≡ part 36 16 p
+  pub ntnew : readChangeOne p .ntnew ≡ part 52 16 p
+
+module _ (p : List ℕ) (good : badFrame p ≡ false) (fit : changeOneRefusal p ≡ 0) where
+  one-long : 72 ≤ length p
+  one-long = let b = frame-bounds p good in let f = change-one-fit p fit in omega arith
+
+  pub change-one-stands : ChangeOneStands p
+  change-one-stands =
+      let h = one-long in
+      record {
+        lmold = fixed-part 4 16 p (omega arith);
+        lmnew = fixed-part 20 16 p (omega arith);
+        ntold = fixed-part 36 16 p (omega arith);
+        ntnew = fixed-part 52 16 p (omega arith);
+      }
+
+  pub change-one-again : octet 0 p ≡ 5 → Octets p → changeOnePacket (octet 1 p) (readChangeOne p) ≡ take (lengthOf p) p
+  unfolding changeOnePacket
+  change-one-again code o =
+      let h = one-long in
+      let s = change-one-stands in
+      let x₅ = ap₂ (λ (x y : List ℕ). x ++ y) (number-stands p o 68 (omega arith)) (number-stands p o 70 h) ∙ part-join 68 2 2 p in
+      let x₄ = ap₂ (λ (x y : List ℕ). x ++ y) (s .ntnew) x₅ ∙ part-join 52 16 4 p in
+      let x₃ = ap₂ (λ (x y : List ℕ). x ++ y) (s .ntold) x₄ ∙ part-join 36 16 20 p in
+      let x₂ = ap₂ (λ (x y : List ℕ). x ++ y) (s .lmnew) x₃ ∙ part-join 20 16 36 p in
+      let x₁ = ap₂ (λ (x y : List ℕ). x ++ y) (s .lmold) x₂ ∙ part-join 4 16 52 p in
+      let count : 68 ≡ lengthOf p - 4 = omega (arith, change-one-fit p fit .0) in
       ap₂ (λ (n : ℕ) (x : List ℕ). framed n (octet 1 p) x) (sym code) (x₁ ∙ ap (λ (n : ℕ). part 4 n p) count) ∙ frame-back p good o

@@ -16,13 +16,15 @@ use Rattle.octets.specs.Numbers.{toBe}
 use Rattle.octets.specs.Parts.{over}
 use Rattle.octets.proofs.Parts.{over-fits}
 use Rattle.octets.proofs.Laid.{Laid}
-use Rattle.packets.specs.Sizes.{nameOffset, longestName, changeSize}
-use Rattle.packets.specs.Frame.{framed, writtenOver, writtenLength, answerBy, outBy}
+use Rattle.packets.specs.Sizes.{nameOffset, longestName, changeSize, changeOneSize}
+use Rattle.packets.specs.Frame.{framed, writtenOver, writtenLength, shortFor, answerBy, outBy}
 use Rattle.packets.specs.Response.{responsePacket, badName, shortForResponse, responseWriteRefusal}
-use Rattle.packets.specs.Change.{changePacket, shortForChange, changeWriteRefusal}
+use Rattle.packets.specs.Change.{changePacket, changeWriteRefusal}
+use Rattle.packets.specs.ChangeOne.{changeOnePacket, changeOneWriteRefusal}
 use Rattle.packets.specs.Reply.{challengePacket, successPacket, failurePacket}
 use Rattle.packets.specs.declared.Response.{Response}
 use Rattle.packets.specs.declared.Change.{Change}
+use Rattle.packets.specs.declared.ChangeOne.{ChangeOne}
 
 -- ---- lengths
 
@@ -64,6 +66,21 @@ length-fields f s = simp (length-append, s .block, s .verifier, s .lmblock, s .l
 pub length-change : (id : ℕ) (f : Change) → Sized f → length (changePacket id f) ≡ changeSize
 unfolding changePacket
 length-change id f s = omega (arith, length-fields f s)
+
+-- the same for a version 1 change
+pub record SizedOne (f : ChangeOne) : Type 0 where
+  pub lmold : length (f .lmold) ≡ 16
+  pub lmnew : length (f .lmnew) ≡ 16
+  pub ntold : length (f .ntold) ≡ 16
+  pub ntnew : length (f .ntnew) ≡ 16
+
+pub length-fields-one : (f : ChangeOne) → SizedOne f
+    → length (f .lmold ++ (f .lmnew ++ (f .ntold ++ (f .ntnew ++ (toBe 2 (f .length) ++ toBe 2 (f .flags)))))) ≡ 68
+length-fields-one f s = simp (length-append, s .lmold, s .lmnew, s .ntold, s .ntnew)
+
+pub length-change-one : (id : ℕ) (f : ChangeOne) → SizedOne f → length (changeOnePacket id f) ≡ changeOneSize
+unfolding changeOnePacket
+length-change-one id f s = omega (arith, length-fields-one f s)
 
 -- ---- a packet at the front of a buffer
 
@@ -130,10 +147,17 @@ response-fits name out z =
     (good-name name (passed .0) .1, ltb-false (length out) (nameOffset + length name) (passed .1))
 
 -- and of a change
+room-fits : (n : ℕ) (out : List ℕ) → _≡_ {A = ℕ} (cond (shortFor n out) 9 0) 0 → n ≤ length out
+room-fits n out = by (shortFor n out) refl
+  where
+    by : (a : Bool) → shortFor n out ≡ a → _≡_ {A = ℕ} (cond a 9 0) 0 → n ≤ length out
+    by true p z = absurd (omega (arith, z))
+    by false p z = ltb-false (length out) n p
+
 pub change-fits : (out : List ℕ) → changeWriteRefusal out ≡ 0 → changeSize ≤ length out
 unfolding changeWriteRefusal
-change-fits out = by (shortForChange out) refl
-  where
-    by : (a : Bool) → shortForChange out ≡ a → _≡_ {A = ℕ} (cond a 9 0) 0 → changeSize ≤ length out
-    by true p z = absurd (omega (arith, z))
-    by false p z = ltb-false (length out) changeSize p
+change-fits out z = room-fits changeSize out z
+
+pub change-one-fits : (out : List ℕ) → changeOneWriteRefusal out ≡ 0 → changeOneSize ≤ length out
+unfolding changeOneWriteRefusal
+change-one-fits out z = room-fits changeOneSize out z

@@ -1,14 +1,13 @@
 -- The Change Password packet, version 2 (RFC 2433, section 10).
 -- Assumes nothing: these are definitions.
 use mathlib.Core.Bool.{Bool, cond, not}
-use mathlib.Core.List.{List, [], _∷_, _++_}
-use Prim.Native.Nat.{ℕ, _+_}
+use mathlib.Core.List.{List, _++_}
+use Prim.Native.Nat.{ℕ}
 use lib.Dec.{eqb, ltb}
-use lib.ListN.{length}
 use Rattle.octets.specs.Parts.{part, fixed}
-use Rattle.octets.specs.Numbers.{fromBe, toBe}
+use Rattle.octets.specs.Numbers.{toBe}
 use Rattle.packets.specs.Codes.{changeCode}
-use Rattle.packets.specs.Frame.{octet, lengthOf, framed, answerBy, outBy}
+use Rattle.packets.specs.Frame.{numberAt, lengthOf, framed, shortFor, answerBy, outBy}
 use Rattle.packets.specs.Sizes.{headSize, answerSize, hashSize, blockSize, verifierOffset, lmBlockOffset, lmVerifierOffset, lmAnswerOffset, ntAnswerOffset, flagsOffset, changeSize}
 use Rattle.packets.specs.declared.Change.{Change}
 use Rattle.packets.specs.declared.Written.{Written}
@@ -29,7 +28,7 @@ readChange p =
       lmverifier = fixed hashSize (part lmVerifierOffset hashSize p);
       lm = fixed answerSize (part lmAnswerOffset answerSize p);
       nt = fixed answerSize (part ntAnswerOffset answerSize p);
-      flags = fromBe (octet flagsOffset p ∷ octet (flagsOffset + 1) p ∷ []);
+      flags = numberAt flagsOffset p;
     }
 
 -- refusal 6
@@ -47,7 +46,7 @@ changeRefusal p = cond (badChangeSize p) 6 (cond (badChangeFlags p) 7 0)
 -- ---- writing one: refusal 9 for too little room
 
 abbrev pub shortForChange : List ℕ → Bool
-shortForChange out = ltb (length out) changeSize
+shortForChange out = shortFor changeSize out
 
 unfoldable pub changeWriteRefusal : List ℕ → ℕ
 changeWriteRefusal out = cond (shortForChange out) 9 0

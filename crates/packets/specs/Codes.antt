@@ -1,4 +1,4 @@
--- The codes of the packets (RFC 1994, section 4; RFC 2433, section 10).
+-- The codes of the packets (RFC 1994, section 4; RFC 2433, sections 9 and 10).
 -- Assumes nothing: these are definitions.
 use Prim.Native.Nat.{ℕ}
 
@@ -13,6 +13,10 @@ successCode = 3
 
 abbrev pub failureCode : ℕ
 failureCode = 4
+
+-- Change Password, version 1
+abbrev pub changeOneCode : ℕ
+changeOneCode = 5
 
 -- Change Password, version 2
 abbrev pub changeCode : ℕ

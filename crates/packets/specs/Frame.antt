@@ -15,8 +15,12 @@ use Rattle.packets.specs.declared.Written.{Written}
 abbrev pub octet : ℕ → List ℕ → ℕ
 octet i p = getD p i 0
 
+-- the number of two octets from the place i on, the most significant first
+abbrev pub numberAt : ℕ → List ℕ → ℕ
+numberAt i p = fromBe (octet i p ∷ octet (i + 1) p ∷ [])
+
 abbrev pub lengthOf : List ℕ → ℕ
-lengthOf p = fromBe (octet 2 p ∷ octet 3 p ∷ [])
+lengthOf p = numberAt 2 p
 
 -- a packet with the data d
 abbrev pub framed : ℕ → ℕ → List ℕ → List ℕ
@@ -35,6 +39,10 @@ abbrev pub dataOf : List ℕ → List ℕ
 dataOf p = part headSize (lengthOf p - headSize) p
 
 -- ---- a packet at the front of a caller's buffer
+
+-- too little room for n octets
+abbrev pub shortFor : ℕ → List ℕ → Bool
+shortFor n out = ltb (length out) n
 
 -- the buffer afterwards: the packet and then the octets that lay there before or, with too little
 -- room, all as it was

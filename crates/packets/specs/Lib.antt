@@ -3,5 +3,6 @@ pub mod Sizes
 pub mod Frame
 pub mod Response
 pub mod Change
+pub mod ChangeOne
 pub mod Reply
 pub mod Name

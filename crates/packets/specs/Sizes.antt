@@ -6,7 +6,7 @@ use Prim.Native.Nat.{ℕ, _+_}
 abbrev pub headSize : ℕ
 headSize = 1 + 1 + 2
 
--- a challenge, an LM or NT response, and a hash under another one
+-- a challenge, an LM or NT response, and a hash under another one or under a challenge
 abbrev pub challengeSize : ℕ
 challengeSize = 8
 
@@ -56,7 +56,7 @@ longestResponse = nameOffset + longestName
 abbrev pub messageSize : ℕ
 messageSize = 13
 
--- ---- a change: for NT and for LM the sealed block and the old hash under the new one, the LM and
+-- ---- a version 2 change: for NT and for LM the sealed block and the old hash under the new one, the LM and
 -- the NT response, and the flags
 
 -- 512 octets, and the length of the password
@@ -83,3 +83,27 @@ flagsOffset = ntAnswerOffset + answerSize
 
 abbrev pub changeSize : ℕ
 changeSize = flagsOffset + 2
+
+-- ---- a version 1 change: the old and the new LM hash and the old and the new NT hash, each under
+-- the challenge, the length of the new password, and the flags
+
+abbrev pub lmOldOffset : ℕ
+lmOldOffset = headSize
+
+abbrev pub lmNewOffset : ℕ
+lmNewOffset = lmOldOffset + hashSize
+
+abbrev pub ntOldOffset : ℕ
+ntOldOffset = lmNewOffset + hashSize
+
+abbrev pub ntNewOffset : ℕ
+ntNewOffset = ntOldOffset + hashSize
+
+abbrev pub lengthOffset : ℕ
+lengthOffset = ntNewOffset + hashSize
+
+abbrev pub oneFlagsOffset : ℕ
+oneFlagsOffset = lengthOffset + 2
+
+abbrev pub changeOneSize : ℕ
+changeOneSize = oneFlagsOffset + 2

@@ -3,8 +3,9 @@ use crate::Change;
 use crate::Written;
 use crate::codes::CHANGE_CODE;
 use crate::frames::head;
+use crate::frames::is_short;
 use crate::frames::length;
-use crate::frames::octet;
+use crate::frames::number_at;
 use crate::responses::response_at;
 use crate::sizes::ANSWER_SIZE;
 use crate::sizes::BLOCK_SIZE;
@@ -19,22 +20,14 @@ use crate::sizes::NT_ANSWER_OFFSET;
 use crate::sizes::VERIFIER_OFFSET;
 use refusals::refuse_if;
 ghost use mathlib.Core.Path.{_≡_};
-ghost use mathlib.Core.List.{[], _∷_, _++_};
+ghost use mathlib.Core.List.{_++_};
 ghost use Prim.Native.Nat.{_+_, _≤_, _<_};
 ghost use lib.ListN.{length};
 ghost use Rattle.octets.specs.Parts.{part, fixed, overAt};
-ghost use Rattle.octets.specs.Numbers.{fromBe, toBe};
-ghost use Rattle.packets.specs.Frame.{octet, writtenOver};
-ghost use Rattle.packets.specs.Sizes.{hashSize, blockSize, lmAnswerOffset, flagsOffset, changeSize};
-ghost use Rattle.packets.specs.Change.{changePacket, badChangeSize, badChangeFlags, shortForChange, changeRefusal, readChange, changeWritten, changeOut};
-
-// The flags, the most significant octet first.
-fn flags(packet: &[u8]) -> u16
-    ensures { λ r. ⌜ r ≡ fromBe (octet flagsOffset (now (packet .entry)) ∷ octet (flagsOffset + 1)
-        (now (packet .entry)) ∷ []) ⌝ }
-{
-    octets::u16_from_be(octet(packet, FLAGS_OFFSET), octet(packet, FLAGS_OFFSET + 1))
-}
+ghost use Rattle.octets.specs.Numbers.{toBe};
+ghost use Rattle.packets.specs.Frame.{writtenOver};
+ghost use Rattle.packets.specs.Sizes.{hashSize, blockSize, lmAnswerOffset, changeSize};
+ghost use Rattle.packets.specs.Change.{changePacket, badChangeSize, badChangeFlags, changeRefusal, readChange, changeWritten, changeOut};
 
 fn is_bad_size(packet: &[u8]) -> bool
     ensures { λ r. ⌜ r ≡ badChangeSize (now (packet .entry)) ⌝ }
@@ -46,7 +39,7 @@ fn is_bad_size(packet: &[u8]) -> bool
 fn is_bad_flags(packet: &[u8]) -> bool
     ensures { λ r. ⌜ r ≡ badChangeFlags (now (packet .entry)) ⌝ }
 {
-    3 < flags(packet)
+    3 < number_at(packet, FLAGS_OFFSET)
 }
 
 // Refusal 6 or 7, or 0, of a packet whose frame is good and whose code is 6.
@@ -78,7 +71,7 @@ pub fn read_change(packet: &[u8]) -> Change
     let lmverifier = octets::sixteen_at(packet, LM_VERIFIER_OFFSET);
     let lm = response_at(packet, LM_ANSWER_OFFSET);
     let nt = response_at(packet, NT_ANSWER_OFFSET);
-    let flags = flags(packet);
+    let flags = number_at(packet, FLAGS_OFFSET);
     Change {
         block,
         verifier,
@@ -112,13 +105,6 @@ fn put_rest(out: &mut [u8], lm: [u8; ANSWER_SIZE], nt: [u8; ANSWER_SIZE], flags:
     octets::copy_at(out, FLAGS_OFFSET, &last);
 }
 
-// There is too little room for a change.
-fn is_short(out: &[u8]) -> bool
-    ensures { λ r. ⌜ r ≡ shortForChange (now (out .entry)) ⌝ }
-{
-    out.len() < CHANGE_SIZE
-}
-
 // Puts a change that is not refused at the front of out: how many octets it has.
 fn put_change(id: u8, fields: Change, out: &mut [u8]) -> usize
     requires { ⌜ changeSize ≤ length (now out) ⌝ }
@@ -144,7 +130,7 @@ pub fn write_change(id: u8, fields: Change, out: &mut [u8]) -> Written
     ensures { λ r. ⌜ (r ≡ changeWritten id fields (now (out .entry)))
         × (now (out .exit) ≡ changeOut id fields (now (out .entry))) ⌝ }
 {
-    let refusal = refuse_if(is_short(out), 9, 0);
+    let refusal = refuse_if(is_short(out, CHANGE_SIZE), 9, 0);
     if refusal != 0 {
         return Written { refusal, length: 0 };
     }

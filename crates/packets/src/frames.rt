@@ -2,9 +2,10 @@
 use crate::sizes::HEAD_SIZE;
 ghost use mathlib.Core.Path.{_≡_};
 ghost use mathlib.Core.List.{_∷_};
-ghost use Prim.Native.Nat.{_-_};
+ghost use Prim.Native.Nat.{_-_, _<_};
 ghost use Rattle.octets.specs.Numbers.{toBe};
-ghost use Rattle.packets.specs.Frame.{octet, lengthOf, badFrame, badId};
+ghost use Rattle.packets.specs.Frame.{octet, numberAt, lengthOf, badFrame, badId, shortFor};
+ghost use Rattle.packets.specs.Sizes.{changeSize};
 
 // The octet at the place i, 0 where the packet does not reach it.
 pub fn octet(packet: &[u8], i: usize) -> u8
@@ -13,11 +14,19 @@ pub fn octet(packet: &[u8], i: usize) -> u8
     if i < packet.len() { packet[i] } else { 0 }
 }
 
+// The number of two octets from the place i on, the most significant first.
+pub fn number_at(packet: &[u8], i: usize) -> u16
+    requires { ⌜ i < changeSize ⌝ }
+    ensures { λ r. ⌜ r ≡ numberAt i (now (packet .entry)) ⌝ }
+{
+    octets::u16_from_be(octet(packet, i), octet(packet, i + 1))
+}
+
 // The Length field.
 pub fn length(packet: &[u8]) -> usize
     ensures { λ r. ⌜ r ≡ lengthOf (now (packet .entry)) ⌝ }
 {
-    octets::u16_from_be(octet(packet, 2), octet(packet, 3)) as usize
+    number_at(packet, 2) as usize
 }
 
 // The packet is under 4 octets, or its Length is under 4 or over what was passed.
@@ -41,6 +50,13 @@ pub fn behind(packet: &[u8], front: usize) -> usize
 {
     let n = length(packet);
     if n < front { 0 } else { n - front }
+}
+
+// There is too little room for n octets.
+pub fn is_short(out: &[u8], n: usize) -> bool
+    ensures { λ r. ⌜ r ≡ shortFor n (now (out .entry)) ⌝ }
+{
+    out.len() < n
 }
 
 // The four octets before the data, for a packet of the given Length.

@@ -1,5 +1,6 @@
 // The packets of MS-CHAP as records of their fields, read and written. Every function is total.
 mod changes;
+mod changes_one;
 mod codes;
 mod frames;
 mod names;
@@ -10,7 +11,11 @@ mod sizes;
 pub use changes::change_refusal;
 pub use changes::read_change;
 pub use changes::write_change;
+pub use changes_one::change_one_refusal;
+pub use changes_one::read_change_one;
+pub use changes_one::write_change_one;
 pub use codes::CHANGE_CODE;
+pub use codes::CHANGE_ONE_CODE;
 pub use codes::RESPONSE_CODE;
 pub use frames::is_bad_frame;
 pub use frames::is_bad_id;
@@ -33,6 +38,7 @@ pub use responses::write_response;
 pub use sizes::ANSWER_SIZE;
 pub use sizes::BLOCK_SIZE;
 pub use sizes::CHALLENGE_SIZE;
+pub use sizes::CHANGE_ONE_SIZE;
 pub use sizes::CHANGE_SIZE;
 pub use sizes::FLAG_OFFSET;
 pub use sizes::HASH_SIZE;
@@ -55,6 +61,17 @@ pub struct Change {
     pub lmverifier: [u8; HASH_SIZE],
     pub lm: [u8; ANSWER_SIZE],
     pub nt: [u8; ANSWER_SIZE],
+    pub flags: u16,
+}
+
+// The fields of a version 1 Change Password packet: the old and the new LM hash and the old and the
+// new NT hash, each under the challenge, the length of the new password, and the flags.
+pub struct ChangeOne {
+    pub lmold: [u8; HASH_SIZE],
+    pub lmnew: [u8; HASH_SIZE],
+    pub ntold: [u8; HASH_SIZE],
+    pub ntnew: [u8; HASH_SIZE],
+    pub length: u16,
     pub flags: u16,
 }
 

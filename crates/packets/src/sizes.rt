@@ -4,7 +4,7 @@
 // Code, identifier and Length.
 pub const HEAD_SIZE: usize = 1 + 1 + 2;
 
-// A challenge, an LM or NT response, and a hash under another one.
+// A challenge, an LM or NT response, and a hash under another one or under a challenge.
 pub const CHALLENGE_SIZE: usize = 8;
 
 pub const ANSWER_SIZE: usize = 24;
@@ -41,7 +41,7 @@ pub const MESSAGE_SIZE: usize = 13;
 
 pub const LONGEST_REPLY: usize = HEAD_SIZE + MESSAGE_SIZE;
 
-// ---- a change: for NT and for LM the sealed block and the old hash under the new one, the LM and
+// ---- a version 2 change: for NT and for LM the sealed block and the old hash under the new one, the LM and
 // the NT response, and the flags
 
 // 512 octets, and the length of the password.
@@ -60,3 +60,20 @@ pub const NT_ANSWER_OFFSET: usize = LM_ANSWER_OFFSET + ANSWER_SIZE;
 pub const FLAGS_OFFSET: usize = NT_ANSWER_OFFSET + ANSWER_SIZE;
 
 pub const CHANGE_SIZE: usize = FLAGS_OFFSET + 2;
+
+// ---- a version 1 change: the old and the new LM hash and the old and the new NT hash, each under
+// the challenge, the length of the new password, and the flags
+
+pub const LM_OLD_OFFSET: usize = HEAD_SIZE;
+
+pub const LM_NEW_OFFSET: usize = LM_OLD_OFFSET + HASH_SIZE;
+
+pub const NT_OLD_OFFSET: usize = LM_NEW_OFFSET + HASH_SIZE;
+
+pub const NT_NEW_OFFSET: usize = NT_OLD_OFFSET + HASH_SIZE;
+
+pub const LENGTH_OFFSET: usize = NT_NEW_OFFSET + HASH_SIZE;
+
+pub const ONE_FLAGS_OFFSET: usize = LENGTH_OFFSET + 2;
+
+pub const CHANGE_ONE_SIZE: usize = ONE_FLAGS_OFFSET + 2;

@@ -10,7 +10,7 @@ returns c =
     change-same
     (c .before .before .before .before .before .before .block-at .ensures) (c .before .before .before .before .before .sixteen-at .ensures)
     (c .before .before .before .before .block-at2 .ensures) (c .before .before .before .sixteen-at2 .ensures)
-    (c .before .before .response-at .ensures) (c .before .response-at2 .ensures) (c .flags .ensures)
+    (c .before .before .response-at .ensures) (c .before .response-at2 .ensures) (c .number-at .ensures)
 
 pub read-change-spec : {M : Type 1} → statement M
 read-change-spec =
