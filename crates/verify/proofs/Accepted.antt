@@ -15,6 +15,7 @@ use Rattle.octets.proofs.Parts.{agrees-refl, agrees-equal}
 use Rattle.credentials.specs.Credentials.{ntHashOf, sealedBlock, lengthUnder, unsealedAs}
 use Rattle.credentials.specs.Credentials.{passwordIn}
 use Rattle.credentials.proofs.Laws.{length-under, password-sealed}
+use Rattle.accounts.specs.Account.{noHash, hashOf}
 use Rattle.accounts.specs.declared.Entry.{Entry}
 use Rattle.packets.specs.declared.Change.{Change}
 use Rattle.verify.specs.Accepted.{lengthFor, hashFor, Accepted, SameButIgnored}
@@ -64,7 +65,7 @@ pub denied : (t : Bool) → not t ≡ false → t ≡ true
 denied true e = refl
 denied false e = absurd (true≢false e)
 
-agreed : (x y : List ℕ) → x ≡ y → not (agrees x y) ≡ false
+pub agreed : (x y : List ℕ) → x ≡ y → not (agrees x y) ≡ false
 agreed x y e = ap (λ (z : List ℕ). not (agrees x z)) (sym e) ∙ ap not (agrees-refl x)
 
 module _ (kept : Entry) (challenge : List ℕ) (f : Change) where
@@ -111,11 +112,12 @@ module _ (kept : Entry) (challenge : List ℕ) (f : Change) where
 
   -- and what is checked is that hash, with no fault
   pub checked-accepted : (h : List ℕ) → newHash kept challenge f ≡ some h
-      → checkedChange kept challenge f ≡ checkedWith NoFault h
+      → checkedChange kept challenge f ≡ checkedWith NoFault (hashOf h) noHash
   unfolding checkedChange
   checked-accepted h e =
       let a = accepted-only h e in
-      ap₂ checkedWith (accepted-fault (a .0)) (sym (a .1))
+      ap₂ (λ (x : ChangeFault) (y : List ℕ). checkedWith x (hashOf y) noHash) (accepted-fault (a .0))
+      (sym (a .1))
 
 -- ---- what is ignored
 

@@ -8,6 +8,7 @@ use Prim.Native.Nat.{ℕ}
 use Rattle.credentials.specs.declared.Unsealed.{Unsealed}
 use Rattle.credentials.specs.declared.Content.the-variants.{Over, Odd, Password}
 use Rattle.credentials.specs.Credentials.{ntHashOf, passwordIn}
+use Rattle.accounts.specs.Account.{noHash, hashOf}
 use Rattle.verify.specs.Faults.{firstFault, isFaultless}
 use Rattle.verify.specs.Change.{checkedWith}
 use Rattle.verify.specs.Inner.{checkedContent}
@@ -26,9 +27,9 @@ composed absent clear found old response =
 pub by-tests : (absent clear over odd : Bool) (n : ℕ) (o : Unsealed) (old response : List ℕ → Bool)
     → (let found = checkedContent (cond over Over (cond odd Odd (Password n))) o in
     checkedWith (composed absent clear (found .fault) (old (found .hash)) (response (found .hash)))
-    (found .hash))
+    (hashOf (found .hash)) noHash)
     ≡ (let h = ntHashOf (passwordIn o n) in
-    checkedWith (firstFault absent clear over odd (old h) (response h)) h)
+    checkedWith (firstFault absent clear over odd (old h) (response h)) (hashOf h) noHash)
 unfolding firstFault
 by-tests true clear over odd n o old response = refl
 by-tests false true over odd n o old response = refl

@@ -25,6 +25,10 @@ use Rattle.verify.specs.declared.ChangeFault.the-variants.{
   LengthOdd,
   OldHashWrong,
   ResponseWrong,
+  LmNotAllowed,
+  LengthOverLm,
+  HashAbsent,
+  HashWrong,
 }
 use Rattle.verify.proofs.Accepted.{accepted-fault, no-fault-accepted, denied}
 
@@ -38,8 +42,12 @@ fault-back LengthOver = refl
 fault-back LengthOdd = refl
 fault-back OldHashWrong = refl
 fault-back ResponseWrong = refl
+fault-back LmNotAllowed = refl
+fault-back LengthOverLm = refl
+fault-back HashAbsent = refl
+fault-back HashWrong = refl
 
-pub fault-small : (fault : ChangeFault) → faultNumber fault < 7
+pub fault-small : (fault : ChangeFault) → faultNumber fault < 11
 fault-small NoFault = omega arith
 fault-small NoNtHash = omega arith
 fault-small NoNtResponse = omega arith
@@ -47,60 +55,88 @@ fault-small LengthOver = omega arith
 fault-small LengthOdd = omega arith
 fault-small OldHashWrong = omega arith
 fault-small ResponseWrong = omega arith
+fault-small LmNotAllowed = omega arith
+fault-small LengthOverLm = omega arith
+fault-small HashAbsent = omega arith
+fault-small HashWrong = omega arith
 
-same-number : (x y : ChangeFault) → faultNumber x ≡ faultNumber y → x ≡ y
+pub same-number : (x y : ChangeFault) → faultNumber x ≡ faultNumber y → x ≡ y
 same-number x y e = sym (fault-back x) ∙ ap faultWith e ∙ fault-back y
 
 -- ---- tests
 
-affirmed : (t : Bool) → not t ≡ true → t ≡ false
+pub affirmed : (t : Bool) → not t ≡ true → t ≡ false
 affirmed true e = absurd (false≢true e)
 affirmed false e = refl
 
-differ : (x y : List ℕ) → not (agrees x y) ≡ true → x ≡ y → ⊥
+pub differ : (x y : List ℕ) → not (agrees x y) ≡ true → x ≡ y → ⊥
 differ x y n e =
     true≢false (sym (ap (agrees x) (sym e) ∙ agrees-refl x) ∙ affirmed (agrees x y) n)
 
-module _ (kept : Entry) (challenge : List ℕ) (f : Change) where
+-- ---- the first of them, whatever each says
+
+module _ (Holds : ChangeFault → Type 0) where
   -- none with a number under this one holds
-  abbrev Below : ℕ → Type 0
-  Below n = (other : ChangeFault) → faultNumber other < n → Holds kept challenge f other → ⊥
+  abbrev pub Below : ℕ → Type 0
+  Below n = (other : ChangeFault) → faultNumber other < n → Holds other → ⊥
 
-  -- where a fault is told, the change is not accepted
-  below-first : {x : ChangeFault} → changeFault kept challenge f ≡ x → 0 < faultNumber x → Below 1
-  below-first e pos y lt h =
-      let z : y ≡ NoFault = same-number y NoFault (omega (arith, lt)) in
-      let n = accepted-fault kept challenge f (subst (Holds kept challenge f) z h) in
-      omega (arith, pos, ap faultNumber (sym e ∙ n))
-
-  below-next : (x : ChangeFault) → Below (faultNumber x) → (Holds kept challenge f x → ⊥)
+  -- one more that does not hold
+  pub below-next : (x : ChangeFault) → Below (faultNumber x) → (Holds x → ⊥)
       → Below (suc (faultNumber x))
   below-next x below fails y lt h = which (eqb (faultNumber y) (faultNumber x)) refl
     where
       which : (t : Bool) → eqb (faultNumber y) (faultNumber x) ≡ t → ⊥
       which true e =
-          fails (subst (Holds kept challenge f)
-          (same-number y x (eqb-true (faultNumber y) (faultNumber x) e)) h)
+          fails (subst Holds (same-number y x (eqb-true (faultNumber y) (faultNumber x) e)) h)
       which false e = below y (omega (arith, lt, eqb-false (faultNumber y) (faultNumber x) e)) h
 
+  pub below-none : Below 0
+  below-none y lt h = omega (arith, lt)
+
+  -- there is one alone, so that the sentence decides which is told
+  pub one-first : (x y : ChangeFault) → IsFirst Holds x → IsFirst Holds y → x ≡ y
+  one-first x y p q =
+      which (ltb (faultNumber x) (faultNumber y)) (ltb (faultNumber y) (faultNumber x)) refl refl
+    where
+      which : (s t : Bool) → ltb (faultNumber x) (faultNumber y) ≡ s
+          → ltb (faultNumber y) (faultNumber x) ≡ t → x ≡ y
+      which true t e g = absurd (q .noneBefore x (ltb-true _ _ e) (p .holds))
+      which false true e g = absurd (p .noneBefore y (ltb-true _ _ g) (q .holds))
+      which false false e g =
+          let least = ltb-false (faultNumber x) (faultNumber y) e in
+          let most = ltb-false (faultNumber y) (faultNumber x) g in
+          same-number x y (omega (arith, least, most))
+
+-- ---- a version 2 change
+
+module _ (kept : Entry) (challenge : List ℕ) (f : Change) where
+  abbrev under : ℕ → Type 0
+  under n = Below (Holds kept challenge f) n
+
+  -- where a fault is told, the change is not accepted
+  below-first : {x : ChangeFault} → changeFault kept challenge f ≡ x → 0 < faultNumber x → under 1
+  below-first e pos = below-next (Holds kept challenge f) NoFault
+      (below-none (Holds kept challenge f))
+      (λ h. omega (arith, pos, ap faultNumber (sym e ∙ accepted-fault kept challenge f h)))
+
   -- a test that fails
-  absent : not (kept .nt .present) ≡ false → Below 1 → Below 2
-  absent e b = below-next NoNtHash b (λ h. false≢true (sym h ∙ denied (kept .nt .present) e))
+  absent : not (kept .nt .present) ≡ false → under 1 → under 2
+  absent e b = below-next (Holds kept challenge f) NoNtHash b (λ h. false≢true (sym h ∙ denied (kept .nt .present) e))
 
-  clear : not (eqb (f .flags % 2) 1) ≡ false → Below 2 → Below 3
+  clear : not (eqb (f .flags % 2) 1) ≡ false → under 2 → under 3
   clear e b =
-      below-next NoNtResponse b (λ h. omega (arith, h, eqb-true (f .flags % 2) 1 (denied _ e)))
+      below-next (Holds kept challenge f) NoNtResponse b (λ h. omega (arith, h, eqb-true (f .flags % 2) 1 (denied _ e)))
 
-  over : ltb 512 (lengthFor kept f) ≡ false → Below 3 → Below 4
-  over e b = below-next LengthOver b (λ h. omega (arith, h, ltb-false 512 (lengthFor kept f) e))
+  over : ltb 512 (lengthFor kept f) ≡ false → under 3 → under 4
+  over e b = below-next (Holds kept challenge f) LengthOver b (λ h. omega (arith, h, ltb-false 512 (lengthFor kept f) e))
 
-  odd : eqb (lengthFor kept f % 2) 1 ≡ false → Below 4 → Below 5
-  odd e b = below-next LengthOdd b (eqb-false (lengthFor kept f % 2) 1 e)
+  odd : eqb (lengthFor kept f % 2) 1 ≡ false → under 4 → under 5
+  odd e b = below-next (Holds kept challenge f) LengthOdd b (eqb-false (lengthFor kept f % 2) 1 e)
 
-  old : badVerifier kept f (hashFor kept f) ≡ false → Below 5 → Below 6
-  old e b = below-next OldHashWrong b (λ h. h (agrees-equal (f .verifier) _ (denied _ e)))
+  old : badVerifier kept f (hashFor kept f) ≡ false → under 5 → under 6
+  old e b = below-next (Holds kept challenge f) OldHashWrong b (λ h. h (agrees-equal (f .verifier) _ (denied _ e)))
 
-  pub first-fault : IsFirst kept challenge f (changeFault kept challenge f)
+  pub first-fault : IsFirst (Holds kept challenge f) (changeFault kept challenge f)
   unfolding changeFault firstFault
   first-fault =
       which (not (kept .nt .present)) (not (eqb (f .flags % 2) 1)) (ltb 512 (lengthFor kept f))
@@ -111,7 +147,7 @@ module _ (kept : Entry) (challenge : List ℕ) (f : Change) where
           → ltb 512 (lengthFor kept f) ≡ c → eqb (lengthFor kept f % 2) 1 ≡ d
           → badVerifier kept f (hashFor kept f) ≡ e → badResponse challenge f (hashFor kept f) ≡ g
           → changeFault kept challenge f ≡ firstFault a b c d e g
-          → IsFirst kept challenge f (firstFault a b c d e g)
+          → IsFirst (Holds kept challenge f) (firstFault a b c d e g)
       which true b c d e g p q r s t u z =
           record { holds = affirmed _ p; noneBefore = below-first z (omega arith) }
       which false true c d e g p q r s t u z =
@@ -145,18 +181,3 @@ module _ (kept : Entry) (challenge : List ℕ) (f : Change) where
             holds = no-fault-accepted kept challenge f (ap isFaultless z);
             noneBefore = λ y lt h. omega (arith, lt);
           }
-
-  -- there is one alone, so that the sentence decides which is told
-  pub one-first : (x y : ChangeFault) → IsFirst kept challenge f x → IsFirst kept challenge f y
-      → x ≡ y
-  one-first x y p q =
-      which (ltb (faultNumber x) (faultNumber y)) (ltb (faultNumber y) (faultNumber x)) refl refl
-    where
-      which : (s t : Bool) → ltb (faultNumber x) (faultNumber y) ≡ s
-          → ltb (faultNumber y) (faultNumber x) ≡ t → x ≡ y
-      which true t e g = absurd (q .noneBefore x (ltb-true _ _ e) (p .holds))
-      which false true e g = absurd (p .noneBefore y (ltb-true _ _ g) (q .holds))
-      which false false e g =
-          let least = ltb-false (faultNumber x) (faultNumber y) e in
-          let most = ltb-false (faultNumber y) (faultNumber x) g in
-          same-number x y (omega (arith, least, most))

@@ -8,20 +8,25 @@ use mathlib.Core.List.{List}
 use mathlib.Core.Option.{Option, none, some}
 use Prim.Native.Nat.{ℕ, _%_}
 use lib.Dec.{eqb, ltb}
-use lib.ListN.{replicate}
 use Rattle.octets.specs.Parts.{agrees}
-use Rattle.credentials.specs.Credentials.{hashSize, longestNt, responseOf, oldUnderNew}
+use Rattle.credentials.specs.Credentials.{longestNt, responseOf, oldUnderNew}
+use Rattle.accounts.specs.Account.{noHash, hashOf}
 use Rattle.accounts.specs.declared.Entry.{Entry}
+use Rattle.accounts.specs.declared.Hash.{Hash}
 use Rattle.packets.specs.declared.Change.{Change}
 use Rattle.verify.specs.Accepted.{lengthFor, hashFor}
 use Rattle.verify.specs.Faults.{firstFault, isFaultless}
 use Rattle.verify.specs.declared.ChangeFault.{ChangeFault}
 use Rattle.verify.specs.declared.CheckedChange.{CheckedChange}
 
--- the new hash, or sixteen octets 0 beside a fault
-abbrev pub checkedWith : ChangeFault → List ℕ → CheckedChange
-checkedWith fault h =
-    record { fault = fault; hash = cond (isFaultless fault) h (replicate hashSize 0) }
+-- the new hashes, or none beside a fault
+abbrev pub checkedWith : ChangeFault → Hash → Hash → CheckedChange
+checkedWith fault nt lm =
+    record {
+      fault = fault;
+      nt = cond (isFaultless fault) nt noHash;
+      lm = cond (isFaultless fault) lm noHash;
+    }
 
 -- ---- the proofs of a new hash
 
@@ -47,9 +52,10 @@ changeFault kept challenge f =
     (badVerifier kept f (hashFor kept f))
     (badResponse challenge f (hashFor kept f))
 
--- what is told of it
+-- what is told of it: a new NT hash and no LM hash
 unfoldable pub checkedChange : Entry → List ℕ → Change → CheckedChange
-checkedChange kept challenge f = checkedWith (changeFault kept challenge f) (hashFor kept f)
+checkedChange kept challenge f =
+    checkedWith (changeFault kept challenge f) (hashOf (hashFor kept f)) noHash
 
 -- the new hash of an accepted change
 abbrev pub newHash : Entry → List ℕ → Change → Option (List ℕ)

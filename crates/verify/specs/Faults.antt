@@ -1,5 +1,5 @@
--- What may be wrong with a change of the password, and which of it is told (document 02, request
--- 2026-04).
+-- What may be wrong with a change of the password, and which of it is told (document 02, requests
+-- 2026-04 and, for version 1's change, 2026-07).
 -- Assumes nothing: these are definitions.
 use mathlib.Core.Bool.{Bool, cond}
 use Prim.Native.Nat.{ℕ}
@@ -13,6 +13,10 @@ use Rattle.verify.specs.declared.ChangeFault.the-variants.{
   LengthOdd,
   OldHashWrong,
   ResponseWrong,
+  LmNotAllowed,
+  LengthOverLm,
+  HashAbsent,
+  HashWrong,
 }
 
 -- "the first that holds of: no NT hash, bit 0 clear, over 512, odd, old hash wrong, response
@@ -26,7 +30,15 @@ firstFault absent clear over odd old response =
     (cond old OldHashWrong
     (cond response ResponseWrong NoFault)))))
 
--- each one's place in that order; 0 is none
+-- of a version 1 change "the first of LM not allowed and over 14 .., hash absent, old hash wrong"
+unfoldable pub firstFaultOne : Bool → Bool → Bool → Bool → ChangeFault
+firstFaultOne lm over absent wrong =
+    cond lm LmNotAllowed
+    (cond over LengthOverLm
+    (cond absent HashAbsent
+    (cond wrong HashWrong NoFault)))
+
+-- each one's place in its version's order; 0 is none
 abbrev pub faultNumber : ChangeFault → ℕ
 faultNumber NoFault = 0
 faultNumber NoNtHash = 1
@@ -35,8 +47,19 @@ faultNumber LengthOver = 3
 faultNumber LengthOdd = 4
 faultNumber OldHashWrong = 5
 faultNumber ResponseWrong = 6
+faultNumber LmNotAllowed = 7
+faultNumber LengthOverLm = 8
+faultNumber HashAbsent = 9
+faultNumber HashWrong = 10
 
 -- the fault of a number; none of any other
+abbrev pub faultOneWith : ℕ → ChangeFault
+faultOneWith n =
+    cond (eqb n 7) LmNotAllowed
+    (cond (eqb n 8) LengthOverLm
+    (cond (eqb n 9) HashAbsent
+    (cond (eqb n 10) HashWrong NoFault)))
+
 abbrev pub faultWith : ℕ → ChangeFault
 faultWith n =
     cond (eqb n 1) NoNtHash
@@ -44,7 +67,7 @@ faultWith n =
     (cond (eqb n 3) LengthOver
     (cond (eqb n 4) LengthOdd
     (cond (eqb n 5) OldHashWrong
-    (cond (eqb n 6) ResponseWrong NoFault)))))
+    (cond (eqb n 6) ResponseWrong (faultOneWith n))))))
 
 -- nothing is wrong
 abbrev pub isFaultless : ChangeFault → Bool

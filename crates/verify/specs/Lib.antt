@@ -3,5 +3,7 @@ pub mod Response
 pub mod Accepted
 pub mod Faults
 pub mod Change
+pub mod AcceptedOne
+pub mod ChangeOne
 pub mod Inner
 pub mod FirstFault

@@ -1,5 +1,5 @@
-// Whether a change of the password is accepted, and what is wrong with one that is not. The kept
-// record decides.
+// Whether a version 2 change of the password is accepted, and what is wrong with one that is not.
+// The kept record decides.
 //
 // Every condition is a total test and all of them are made, one hash, one proof of the old hash and
 // one response in every case, so that a change which is not accepted takes about the same work
@@ -11,28 +11,47 @@ ghost use lib.ListN.{length};
 ghost use Rattle.octets.specs.Parts.{part, agrees};
 ghost use Rattle.credentials.specs.Credentials.{longestNt, ntHashOf, ValidLength};
 ghost use Rattle.verify.specs.Change.{checkedWith, badVerifier, badResponse, checkedChange};
-ghost use Rattle.verify.specs.Inner.{contentFault, contentLength, checkedBlock};
+ghost use Rattle.verify.specs.Inner.{contentFault, contentLength, blockWith, checkedBlock};
 ghost use Rattle.verify.specs.declared.ChangeFault.the-variants.{NoFault};
 ghost use Rattle.verify.specs.declared.ChangeFault.the-variants.{OldHashWrong, ResponseWrong};
 use crate::ChangeFault;
+use crate::CheckedBlock;
 use crate::CheckedChange;
 use crate::faults::fault_before;
 use crate::faults::fault_if;
 use crate::faults::is_faultless;
 use accounts::Entry;
+use accounts::Hash;
+use accounts::hash_of;
+use accounts::no_hash;
 use credentials::Content;
 use credentials::HASH_SIZE;
 use credentials::LONGEST_NT;
 use credentials::Unsealed;
 
-// What was found: the hash, unless something is wrong.
-fn checked_with(fault: ChangeFault, hash: [u8; HASH_SIZE]) -> CheckedChange
-    ensures { λ r. ⌜ r ≡ checkedWith fault hash ⌝ }
+// What was found: the new hashes, unless something is wrong.
+pub(crate) fn checked_with(fault: ChangeFault, nt: Hash, lm: Hash) -> CheckedChange
+    ensures { λ r. ⌜ r ≡ checkedWith fault nt lm ⌝ }
 {
     if is_faultless(fault) {
-        return CheckedChange { fault, hash };
+        return CheckedChange { fault, nt, lm };
     }
+    let none = no_hash();
     CheckedChange {
+        fault,
+        nt: none,
+        lm: none,
+    }
+}
+
+// What was found in a block: the hash, unless something is wrong.
+fn block_with(fault: ChangeFault, hash: [u8; HASH_SIZE]) -> CheckedBlock
+    ensures { λ r. ⌜ r ≡ blockWith fault hash ⌝ }
+{
+    if is_faultless(fault) {
+        return CheckedBlock { fault, hash };
+    }
+    CheckedBlock {
         fault,
         hash: [0; HASH_SIZE],
     }
@@ -70,17 +89,17 @@ fn content_length(content: Content) -> usize
 
 // The hash of the password in an unsealed block, or the fault of its length. One is made in every
 // case.
-fn checked_block(unsealed: Unsealed) -> CheckedChange
+fn checked_block(unsealed: Unsealed) -> CheckedBlock
     requires { ⌜ ValidLength (unsealed .content) ⌝ }
     ensures { λ r. ⌜ r ≡ checkedBlock unsealed ⌝ }
 {
     let content = unsealed.content;
     let octets = unsealed.octets;
     let hash = hash_of_last(&octets, content_length(content));
-    checked_with(content_fault(content), hash)
+    block_with(content_fault(content), hash)
 }
 
-fn is_same_hash(a: [u8; HASH_SIZE], b: [u8; HASH_SIZE]) -> bool
+pub(crate) fn is_same_hash(a: [u8; HASH_SIZE], b: [u8; HASH_SIZE]) -> bool
     ensures { λ r. ⌜ r ≡ agrees a b ⌝ }
 {
     octets::agree(&a, &b)
@@ -120,7 +139,7 @@ fn proof_fault(
     fault_if(!same_hash, ChangeFault::OldHashWrong, rest)
 }
 
-// The new hash of an accepted change, or the first thing that is wrong with it.
+// The new hash of an accepted version 2 change, or the first thing that is wrong with it.
 pub fn check_change(kept: Entry, challenge: [u8; 8], fields: packets::Change) -> CheckedChange
     ensures { λ r. ⌜ r ≡ checkedChange kept challenge fields ⌝ }
 {
@@ -136,5 +155,5 @@ pub fn check_change(kept: Entry, challenge: [u8; 8], fields: packets::Change) ->
     let inside = fault_before(length, proof);
     let sent = fault_if(clear, ChangeFault::NoNtResponse, inside);
     let fault = fault_if(absent, ChangeFault::NoNtHash, sent);
-    checked_with(fault, hash)
+    checked_with(fault, hash_of(hash), no_hash())
 }

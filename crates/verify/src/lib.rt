@@ -3,11 +3,20 @@
 // is wrong with it. No conversation and no packets: the terms, the challenge in force, the record
 // and the fields decide.
 mod changes;
+mod changes_one;
 mod faults;
 mod lockout;
 mod responses;
 
 use accounts::EntryLookup;
+use accounts::Hash;
+
+// Which Change Password packet is awaited after an expired password: version 1's or version 2's.
+// V of every Failure is its number.
+pub enum ChangeVersion {
+    One,
+    Two,
+}
 
 // What the opening fixes for the whole conversation.
 pub struct Terms {
@@ -15,6 +24,8 @@ pub struct Terms {
     pub lm: bool,
     // with how many invalid Responses in a row an account is locked
     pub limit: u8,
+    // which change is awaited
+    pub change: ChangeVersion,
 }
 
 // A Response that was checked: the reason that it draws (0 is Success), and what was looked up,
@@ -27,7 +38,7 @@ pub struct CheckedResponse {
 // What is wrong with a change that is not accepted: the first that holds, in this order.
 pub enum ChangeFault {
     NoFault,
-    // the kept record has no NT hash
+    // version 2: the kept record has no NT hash
     NoNtHash,
     // flag bit 0 is clear: the peer does not ask for its NT response (RFC 2433, section 10)
     NoNtResponse,
@@ -38,16 +49,32 @@ pub enum ChangeFault {
     OldHashWrong,
     // the NT response is not that of the new hash to the challenge in force
     ResponseWrong,
+    // version 1: bit 0 is clear, and LM is not allowed or the password's length is over 14
+    LmNotAllowed,
+    LengthOverLm,
+    // the kept record has not the hash that bit 0 asks for, or its field is not the one under the
+    // challenge in force
+    HashAbsent,
+    HashWrong,
 }
 
-// A change that was checked: what is wrong with it, or none and its new hash (sixteen octets 0
-// beside a fault).
+// A change that was checked: what is wrong with it, or none and its new hashes, NT, LM or both
+// (none beside a fault).
 pub struct CheckedChange {
     pub fault: ChangeFault,
-    pub hash: [u8; 16],
+    pub nt: Hash,
+    pub lm: Hash,
+}
+
+// The opened block of a version 2 change: the fault of its length, or none and the hash of the
+// password in it (sixteen octets 0 beside a fault).
+pub(crate) struct CheckedBlock {
+    fault: ChangeFault,
+    hash: [u8; 16],
 }
 
 pub use changes::check_change;
+pub use changes_one::check_change_one;
 pub use faults::fault_number;
 pub use faults::fault_with;
 pub use faults::is_faultless;

@@ -3,12 +3,13 @@
 -- Assumes nothing.
 use borrow.Author.Needs.{needs}
 use mathlib.Core.Bool.{cond, not}
-use mathlib.Core.Path.{sym, ap, _∙_, subst}
+use mathlib.Core.Path.{sym, ap, ap₂, _∙_, subst}
 use Prim.Native.Nat.{_%_}
 use lib.Dec.{eqb, ltb}
 use Rattle.credentials.specs.Credentials.{ValidLength, contentFor, unsealedAs}
 use Rattle.credentials.specs.declared.Unsealed.{Unsealed}
 use Rattle.credentials.proofs.Laws.{sound-unsealed}
+use Rattle.accounts.specs.Account.{noHash, hashOf}
 use Rattle.verify.specs.Accepted.{lengthFor}
 use Rattle.verify.specs.Faults.{isFaultless}
 use Rattle.verify.specs.Change.{checkedWith, badVerifier, badResponse, changeFault}
@@ -16,6 +17,7 @@ use Rattle.verify.specs.Change.{checkedChange}
 use Rattle.verify.specs.Inner.{checkedBlock}
 use Rattle.verify.specs.declared.ChangeFault.{ChangeFault}
 use Rattle.verify.specs.declared.ChangeFault.the-variants.{NoNtHash, NoNtResponse}
+use Rattle.verify.specs.declared.CheckedBlock.{CheckedBlock}
 use Rattle.verify.specs.declared.CheckedChange.{CheckedChange}
 use Rattle.verify.proofs.Checked.{composed, by-tests}
 use Rattle.verify.proofs.changes.check_change.Statement.{statement}
@@ -29,7 +31,9 @@ checked-block-requires c κs =
 returns : tie.Need-returns
 unfolding checkedChange changeFault contentFor unsealedAs
 returns c =
-    let present = c .before in
+    let none = c .before in
+    let made = none .before in
+    let present = made .before in
     let bit = present .before in
     let length = bit .before in
     let proof = length .before in
@@ -41,11 +45,13 @@ returns c =
     let absent = not (a .kept .nt .present) in
     let clear = not (eqb (f .flags % 2) 1) in
     let found = inside .checked-block .result in
-    let whole : CheckedChange → CheckedChange =
+    let whole : CheckedBlock → CheckedChange =
     λ v. checkedWith (composed absent clear (v .fault) (badVerifier (a .kept) f (v .hash))
-    (badResponse (a .challenge) f (v .hash))) (v .hash) in
+    (badResponse (a .challenge) f (v .hash))) (hashOf (v .hash)) noHash in
     c .checked-with .ensures
-    ∙ ap (λ (x : ChangeFault). checkedWith x (found .hash))
+    ∙ ap₂ (checkedWith (present .fault-if2 .result)) (made .hash-of .ensures)
+    (none .no-hash .ensures)
+    ∙ ap (λ (x : ChangeFault). checkedWith x (hashOf (found .hash)) noHash)
     (present .fault-if2 .ensures
     ∙ ap (cond absent NoNtHash)
     (bit .fault-if .ensures
@@ -63,4 +69,5 @@ check-change-spec =
     tie.close
     (tie.spec
     (λ c κs. search needs) checked-block-requires (λ c κs. search needs) (λ c κs. search needs)
-    (λ c κs. search needs) (λ c κs. search needs) (λ c κs. search needs) returns)
+    (λ c κs. search needs) (λ c κs. search needs) (λ c κs. search needs) (λ c κs. search needs)
+    (λ c κs. search needs) returns)

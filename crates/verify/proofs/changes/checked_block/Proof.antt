@@ -8,8 +8,7 @@ use lib.ListN.{length}
 use Rattle.credentials.specs.Credentials.{ValidLength, ntHashOf, passwordIn}
 use Rattle.credentials.specs.declared.Content.{Content}
 use Rattle.credentials.specs.declared.Content.the-variants.{Over, Odd, Password}
-use Rattle.verify.specs.Change.{checkedWith}
-use Rattle.verify.specs.Inner.{contentLength}
+use Rattle.verify.specs.Inner.{contentLength, blockWith}
 use Rattle.verify.proofs.changes.checked_block.Statement.{statement}
 use Rattle.verify.proofs.changes.checked_block.Tie as tie
 
@@ -39,8 +38,8 @@ returns c =
     let hash = fault .before in
     let size = hash .before in
     let o = size .before .before .before .args .unsealed in
-    c .checked-with .ensures
-    ∙ ap₂ checkedWith (fault .content-fault .ensures)
+    c .block-with .ensures
+    ∙ ap₂ blockWith (fault .content-fault .ensures)
     (hash .hash-of-last .ensures
     ∙ ap (λ (n : ℕ). ntHashOf (passwordIn o n)) (size .content-length .ensures))
 
