@@ -19,7 +19,7 @@ pub enum Call {
     Retry,
     // a version 2 change of the password (648, V at least 2)
     ChangeTwo,
-    // a version 1 change (648, V below 2): nothing is sent
+    // a version 1 change (648, V below 2)
     ChangeOne,
     // nothing more
     End,

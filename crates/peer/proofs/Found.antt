@@ -8,9 +8,9 @@ use native.Mathlib.Omega.{arith}
 use lib.ListN.{length}
 use Rattle.credentials.specs.Credentials.{ntHashOf}
 use Rattle.credentials.proofs.Laws as laws
-use Rattle.packets.proofs.Writing.{Sized, length-response, length-change}
-use Rattle.packets.proofs.ReadBack.{ResponseBack, ChangeBack, response-back, change-back}
-use Rattle.peer.specs.Write.{responseFields, changeFields, responseFor, changeFor}
+use Rattle.packets.proofs.Writing.{Sized, SizedOne, length-response, length-change, length-change-one}
+use Rattle.packets.proofs.ReadBack.{ResponseBack, ChangeBack, ChangeOneBack, response-back, change-back, change-one-back}
+use Rattle.peer.specs.Write.{responseFields, changeFields, changeOneFields, responseFor, changeFor, changeOneFor}
 use Rattle.peer.specs.declared.Turn.{Turn}
 
 -- the flags that have the authenticator take the NT fields
@@ -19,6 +19,9 @@ response-flag challenge password = refl
 
 pub change-flags : (challenge old new filler : List ℕ) → changeFields challenge old new filler .flags ≡ 1
 change-flags challenge old new filler = refl
+
+pub change-one-flags : (challenge old new : List ℕ) → changeOneFields challenge old new .flags ≡ 1
+change-one-flags challenge old new = refl
 
 module _ (t : Turn) (password name : List ℕ) where
   nt-length : length (responseFields (t .challenge) password .nt) ≡ 24
@@ -53,3 +56,22 @@ module _ (t : Turn) (old new filler : List ℕ) (full : length filler ≡ 512) (
   pub change-found : (after : List ℕ) → ChangeBack (t .id) (changeFields (t .challenge) old new filler) (changeFor t old new filler ++ after)
   unfolding changeFor
   change-found after = change-back (t .id) (changeFields (t .challenge) old new filler) after sized (omega arith)
+
+module _ (t : Turn) (old new : List ℕ) where
+  sized-one : SizedOne (changeOneFields (t .challenge) old new)
+  sized-one =
+      record {
+        lmold = refl;
+        lmnew = refl;
+        ntold = laws.length-under-challenge (ntHashOf old) (t .challenge);
+        ntnew = laws.length-under-challenge (ntHashOf new) (t .challenge);
+      }
+
+  pub change-one-length : length (changeOneFor t old new) ≡ 72
+  unfolding changeOneFor
+  change-one-length = length-change-one (t .id) (changeOneFields (t .challenge) old new) sized-one
+
+  pub change-one-found : (after : List ℕ) → ChangeOneBack (t .id) (changeOneFields (t .challenge) old new) (changeOneFor t old new ++ after)
+  unfolding changeOneFor
+  change-one-found after =
+      change-one-back (t .id) (changeOneFields (t .challenge) old new) after sized-one (omega arith) (omega arith)

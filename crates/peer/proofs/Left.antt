@@ -10,15 +10,17 @@ use native.Mathlib.Omega.{arith}
 use borrow.Author.Tests.{le-ltb, ltb-false, eqb-true, not-false}
 use lib.Dec.{eqb, ltb}
 use lib.ListN.{length, take}
+use Rattle.refusals.proofs.Answers.{both-passed}
 use Rattle.credentials.specs.Credentials.{badNtPassword, badFiller}
 use Rattle.credentials.proofs.Laws.{good-password}
 use Rattle.packets.specs.Response.{badName, responseWriteRefusal}
 use Rattle.packets.specs.Change.{changeWriteRefusal}
+use Rattle.packets.specs.ChangeOne.{changeOneWriteRefusal}
 use Rattle.packets.proofs.Padding.{or-false-both}
 use Rattle.packets.proofs.Writing.{taken, good-name}
-use Rattle.peer.specs.Write.{responseFor, changeFor, writeResponseRefusal, writeChangeRefusal, Wrote, wroteBy, writeResponse, writeChange}
+use Rattle.peer.specs.Write.{responseFor, changeFor, changeOneFor, writeResponseRefusal, writeChangeRefusal, writeChangeOneRefusal, Wrote, wroteBy, writeResponse, writeChange, writeChangeOne}
 use Rattle.peer.specs.declared.Turn.{Turn}
-use Rattle.peer.proofs.Found.{response-length, change-length}
+use Rattle.peer.proofs.Found.{response-length, change-length, change-one-length}
 
 -- what was written, as a reader of the buffer takes it
 abbrev pub left : Wrote → List ℕ
@@ -115,3 +117,30 @@ module _ (t : Turn) (old new filler out : List ℕ) where
     change-left =
         left-good (writeChangeRefusal old new filler out) (changeFor t old new filler) out (sym change-number ∙ ok)
         (omega (arith, change-length t old new filler filler-full (new-fits .0), ltb-false (length out) 1118 (checks .2)))
+
+-- ---- a version 1 change
+
+module _ (t : Turn) (old new out : List ℕ) where
+  abbrev changeOneWrote : Wrote
+  changeOneWrote = writeChangeOne t old new out
+
+  change-one-number : changeOneWrote .answer .refusal ≡ writeChangeOneRefusal old new out
+  unfolding writeChangeOne
+  change-one-number = refl
+
+  -- within the limits of 8 and 9 its writer refuses nothing
+  pub change-one-written : badNtPassword old ≡ false → badNtPassword new ≡ false → 72 ≤ length out → changeOneWrote .answer .refusal ≡ 0
+  unfolding writeChangeOneRefusal changeOneWriteRefusal
+  change-one-written x y room = change-one-number ∙ rw (x, y, le-ltb (length out) 72 room)
+
+  module _ (ok : changeOneWrote .answer .refusal ≡ 0) where
+    checks-one : ((badNtPassword old || badNtPassword new) ≡ false) × (ltb (length out) 72 ≡ false)
+    unfolding writeChangeOneRefusal changeOneWriteRefusal
+    checks-one =
+        both-passed (badNtPassword old || badNtPassword new) 8 (ltb (length out) 72) 9 (omega arith) (omega arith) (sym change-one-number ∙ ok)
+
+    pub change-one-left : left changeOneWrote ≡ changeOneFor t old new
+    unfolding writeChangeOne
+    change-one-left =
+        left-good (writeChangeOneRefusal old new out) (changeOneFor t old new) out (sym change-one-number ∙ ok)
+        (omega (arith, change-one-length t old new, ltb-false (length out) 72 (checks-one .1)))

@@ -15,12 +15,14 @@ use Rattle.credentials.proofs.Laws.{sealed-good}
 use Rattle.packets.specs.Frame.{answerBy, outBy}
 use Rattle.packets.specs.Response.{responseWritten, responseOut, responseWriteRefusal}
 use Rattle.packets.specs.Change.{changeWriteRefusal, changeWritten, changeOut}
+use Rattle.packets.specs.ChangeOne.{changeOneWriteRefusal, changeOneWritten, changeOneOut}
 use Rattle.packets.specs.declared.Response.{Response}
 use Rattle.packets.specs.declared.Change.{Change}
+use Rattle.packets.specs.declared.ChangeOne.{ChangeOne}
 use Rattle.packets.specs.declared.Written.{Written}
 use Rattle.packets.proofs.Writing.{nothing-written}
 use Rattle.peer.specs.declared.Turn.{Turn}
-use Rattle.peer.specs.Write.{responseFields, changeFields, responseFor, changeFor, badPasswords, writeResponseRefusal, writeChangeRefusal, refusedBy, Wrote, writeResponse, writeChange}
+use Rattle.peer.specs.Write.{responseFields, changeFields, changeOneFields, responseFor, changeFor, changeOneFor, badPasswords, writeResponseRefusal, writeChangeRefusal, writeChangeOneRefusal, refusedBy, Wrote, writeResponse, writeChange, writeChangeOne}
 
 -- ---- what a hash and a seal give where they are not refused
 
@@ -81,4 +83,22 @@ module _ (t : Turn) (old new filler out : List ℕ) {k : ℕ} (e : k ≡ cond (b
       let p = changeFor t old new filler in (
         w .0 ∙ ap (λ (x : Change). changeWritten (t .id) x out) s ∙ same-answer p n,
         w .1 ∙ ap (λ (x : Change). changeOut (t .id) x out) s ∙ same-out p out n,
+      )
+
+-- ---- the version 1 change
+
+module _ (t : Turn) (old new out : List ℕ) where
+  pub change-one-refused : badPasswords old new ≡ true → LeavesBuffer (writeChangeOne t old new out) (refusedBy 8) out
+  unfolding writeChangeOne writeChangeOneRefusal
+  change-one-refused e =
+      nothing-written (changeOneFor t old new) out (cond (badPasswords old new) 8 (changeOneWriteRefusal out)) (ap (λ (b : Bool). cond b 8 (changeOneWriteRefusal out)) (sym e)) (λ z. omega (arith, z))
+
+  pub change-one-written : badPasswords old new ≡ false → {f : ChangeOne} {answer : Written} {after : List ℕ} → f ≡ changeOneFields (t .challenge) old new
+      → (answer ≡ changeOneWritten (t .id) f out) × (after ≡ changeOneOut (t .id) f out) → LeavesBuffer (writeChangeOne t old new out) answer after
+  unfolding writeChangeOne writeChangeOneRefusal changeOneFor changeOneWritten changeOneOut
+  change-one-written e s w =
+      let n = ap (λ (b : Bool). cond b 8 (changeOneWriteRefusal out)) (sym e) in
+      let p = changeOneFor t old new in (
+        w .0 ∙ ap (λ (x : ChangeOne). changeOneWritten (t .id) x out) s ∙ same-answer p n,
+        w .1 ∙ ap (λ (x : ChangeOne). changeOneOut (t .id) x out) s ∙ same-out p out n,
       )

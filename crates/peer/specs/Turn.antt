@@ -1,5 +1,5 @@
--- The peer's turns (document 01, "What the peer reads"). A Challenge and a reply are read by
--- `packets`.
+-- The peer's turns (document 01, "What the peer reads", and document 02, request 2026-07: a version
+-- 1 change is sent too). A Challenge and a reply are read by `packets`.
 -- Assumes nothing: these are definitions.
 use mathlib.Core.Bool.{true, cond}
 use Rattle.message.specs.declared.Reading.{Reading}
@@ -34,14 +34,14 @@ retryTurn s c =
       challenge = cond (c .given) (c .octets) (incremented (s .challenge));
     }
 
--- a change uses the last Response's challenge, whatever C says
+-- a change of either version uses the last Response's challenge, whatever C says
 abbrev pub changeTurn : Sent → Turn
 changeTurn s = record { id = nextId (s .id); challenge = s .challenge }
 
 abbrev pub turnFor : Call → Sent → NewChallenge → Turn
 turnFor Retry s c = retryTurn s c
 turnFor ChangeTwo s c = changeTurn s
-turnFor ChangeOne s c = sameTurn s
+turnFor ChangeOne s c = changeTurn s
 turnFor End s c = sameTurn s
 
 -- by what was sent; a packet that is refused leaves the turn as it was

@@ -8,6 +8,7 @@ use crate::turns::first_turn;
 use crate::turns::next_turn;
 use crate::turns::sent_for;
 use crate::writes::write_change;
+use crate::writes::write_change_one;
 use crate::writes::write_response;
 use message::Reading;
 use packets::CHALLENGE_SIZE;
@@ -20,7 +21,7 @@ ghost use mathlib.Core.Path.{_≡_};
 ghost use Rattle.message.specs.Message.{verdictRefusal, verdictValues, refusedWith};
 ghost use Rattle.packets.specs.Frame.{badFrame};
 ghost use Rattle.packets.specs.Reply.{readChallenge, readReply, replyRefusal, replyValues};
-ghost use Rattle.peer.specs.Write.{writeResponse, writeChange};
+ghost use Rattle.peer.specs.Write.{writeResponse, writeChange, writeChangeOne};
 ghost use Rattle.peer.specs.Peer.{afterChallenge, afterWriting, Writes, Reads};
 
 fn after_challenge(read: ChallengeFields) -> Peer
@@ -123,9 +124,22 @@ impl Peer {
         PacketWritten { written, peer }
     }
 
+    // Writes the version 1 change of the turn from the old and the new password at the front of
+    // out. Refusal 8: either password; 9: too little room. What was written counts as sent.
+    pub fn write_change_one(self, old: &[u8], new: &[u8], out: &mut [u8]) -> PacketWritten
+        ensures { λ r. ⌜ Writes self
+            (writeChangeOne (self .turn) (now (old .entry)) (now (new .entry)) (now (out .entry)))
+            r (now (out .exit)) ⌝ }
+    {
+        let turn = self.turn;
+        let written = write_change_one(turn, old, new, out);
+        let peer = self.after_writing(written);
+        PacketWritten { written, peer }
+    }
+
     // Reads the reply to the last packet, and makes the next turn from it. A packet is to be sent
-    // where the verdict calls for a retry or a version 2 change. Refusal 3: the frame; 5: another
-    // identifier; 11: another kind, or by the message.
+    // where the verdict calls for a retry or a change. Refusal 3: the frame; 5: another identifier;
+    // 11: another kind, or by the message.
     pub fn read_reply(self, packet: &[u8]) -> ReplyRead
         ensures { λ r. ⌜ Reads self (now (packet .entry)) r ⌝ }
     {

@@ -67,7 +67,7 @@ fn retry_turn(sent: Sent, c: NewChallenge) -> Turn
     Turn { id, challenge }
 }
 
-// A change uses the last Response's challenge, whatever C says.
+// A change of either version uses the last Response's challenge, whatever C says.
 fn change_turn(sent: Sent) -> Turn
     ensures { λ r. ⌜ r ≡ changeTurn sent ⌝ }
 {
@@ -85,7 +85,7 @@ fn turn_for(call: Call, sent: Sent, c: NewChallenge) -> Turn
     match call {
         Call::Retry => retry_turn(sent, c),
         Call::ChangeTwo => change_turn(sent),
-        Call::ChangeOne => same_turn(sent),
+        Call::ChangeOne => change_turn(sent),
         Call::End => same_turn(sent),
     }
 }

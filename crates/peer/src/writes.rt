@@ -1,9 +1,10 @@
-// The peer's two packets. Refusals go 8, 10, 12, 9; a refusal writes nothing.
+// The peer's packets. Refusals go 8, 10, 12, 9; a refusal writes nothing.
 use crate::Turn;
 use packets::ANSWER_SIZE;
 use packets::BLOCK_SIZE;
 use packets::CHALLENGE_SIZE;
 use packets::Change;
+use packets::ChangeOne;
 use packets::HASH_SIZE;
 use packets::Response;
 use packets::Written;
@@ -11,7 +12,7 @@ use refusals::refuse_if;
 ghost use mathlib.Core.Bool.{false};
 ghost use mathlib.Core.Path.{_≡_};
 ghost use Rattle.credentials.specs.Credentials.{badNtPassword, badFiller};
-ghost use Rattle.peer.specs.Write.{refusedBy, responseFieldsOf, changeFieldsOf, responseFields, changeFields, badPasswords, writeResponse, writeChange};
+ghost use Rattle.peer.specs.Write.{refusedBy, responseFieldsOf, changeFieldsOf, changeOneFieldsOf, responseFields, changeFields, changeOneFields, badPasswords, writeResponse, writeChange, writeChangeOne};
 
 fn refused(number: u8) -> Written
     ensures { λ r. ⌜ r ≡ refusedBy number ⌝ }
@@ -59,7 +60,7 @@ pub(crate) fn write_response(turn: Turn, password: &[u8], name: &[u8], out: &mut
     packets::write_response(turn.id, fields, name, out)
 }
 
-// The change from both NT hashes and the sealed new password. The response is that of the new hash.
+// The version 2 change from both NT hashes and the sealed new password. The response is that of the new hash.
 // The LM fields are zero-filled.
 fn change_fields(
     old: [u8; HASH_SIZE],
@@ -82,7 +83,7 @@ fn change_fields(
     }
 }
 
-// The change from passwords and a filler that are not refused.
+// The version 2 change from passwords and a filler that are not refused.
 fn change_from(challenge: [u8; CHALLENGE_SIZE], old: &[u8], new: &[u8], filler: &[u8]) -> Change
     requires { ⌜ (badPasswords (now old) (now new) ≡ false) × (badFiller (now filler) ≡ false) ⌝ }
     ensures { λ r. ⌜ r ≡ changeFields challenge (now (old .entry)) (now (new .entry))
@@ -123,4 +124,51 @@ pub(crate) fn write_change(
     let challenge = turn.challenge;
     let fields = change_from(challenge, old, new, filler);
     packets::write_change(turn.id, fields, out)
+}
+
+// The version 1 change from both NT hashes, each under the challenge. The LM fields are zero-filled,
+// and the length is one with which no LM hash is taken.
+fn change_one_fields(
+    old: [u8; HASH_SIZE],
+    new: [u8; HASH_SIZE],
+    challenge: [u8; CHALLENGE_SIZE],
+) -> ChangeOne
+    ensures { λ r. ⌜ r ≡ changeOneFieldsOf challenge old new ⌝ }
+{
+    let ntold = credentials::hash_under_challenge(old, challenge);
+    let ntnew = credentials::hash_under_challenge(new, challenge);
+    ChangeOne {
+        lmold: [0; HASH_SIZE],
+        lmnew: [0; HASH_SIZE],
+        ntold,
+        ntnew,
+        length: 65535,
+        flags: 1,
+    }
+}
+
+// The version 1 change from passwords that are not refused.
+fn change_one_from(challenge: [u8; CHALLENGE_SIZE], old: &[u8], new: &[u8]) -> ChangeOne
+    requires { ⌜ badPasswords (now old) (now new) ≡ false ⌝ }
+    ensures { λ r. ⌜ r ≡ changeOneFields challenge (now (old .entry)) (now (new .entry)) ⌝ }
+{
+    let before = credentials::nt_hash(old).hash;
+    let after = credentials::nt_hash(new).hash;
+    change_one_fields(before, after, challenge)
+}
+
+// Writes a version 1 change from the old and the new password at the front of out. Refusal 8:
+// either password; 9: too little room.
+pub(crate) fn write_change_one(turn: Turn, old: &[u8], new: &[u8], out: &mut [u8]) -> Written
+    ensures { λ r. ⌜ (r ≡ writeChangeOne turn (now (old .entry)) (now (new .entry))
+        (now (out .entry)) .answer)
+        × (now (out .exit) ≡ writeChangeOne turn (now (old .entry)) (now (new .entry))
+        (now (out .entry)) .out) ⌝ }
+{
+    if are_bad_passwords(old, new) {
+        return refused(8);
+    }
+    let challenge = turn.challenge;
+    let fields = change_one_from(challenge, old, new);
+    packets::write_change_one(turn.id, fields, out)
 }

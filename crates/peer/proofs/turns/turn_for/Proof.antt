@@ -20,12 +20,12 @@ returns-2 c =
 returns-3 : tie.Need-returns-3
 returns-3 c =
     let a = c .before .before .before .args in
-    c .same-turn .ensures ∙ sym (ap (λ (k : Call). turnFor k (a .sent) (a .c)) (c .before .enum-told3 .given .1))
+    c .change-turn2 .ensures ∙ sym (ap (λ (k : Call). turnFor k (a .sent) (a .c)) (c .before .enum-told3 .given .1))
 
 returns-4 : tie.Need-returns-4
 returns-4 c =
     let a = c .before .before .before .args in
-    c .same-turn2 .ensures ∙ sym (ap (λ (k : Call). turnFor k (a .sent) (a .c)) (c .before .enum-told4 .given .1))
+    c .same-turn .ensures ∙ sym (ap (λ (k : Call). turnFor k (a .sent) (a .c)) (c .before .enum-told4 .given .1))
 
 pub turn-for-spec : {M : Type 1} → statement M
 turn-for-spec =
