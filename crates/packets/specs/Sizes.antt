@@ -56,8 +56,8 @@ longestResponse = nameOffset + longestName
 abbrev pub messageSize : ℕ
 messageSize = 13
 
--- ---- a version 2 change: for NT and for LM the sealed block and the old hash under the new one, the LM and
--- the NT response, and the flags
+-- ---- a version 2 change: for NT and for LM the sealed block and the old hash under the new one,
+-- the LM and the NT response, and the flags
 
 -- 512 octets, and the length of the password
 abbrev pub blockSize : ℕ

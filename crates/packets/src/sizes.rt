@@ -41,8 +41,8 @@ pub const MESSAGE_SIZE: usize = 13;
 
 pub const LONGEST_REPLY: usize = HEAD_SIZE + MESSAGE_SIZE;
 
-// ---- a version 2 change: for NT and for LM the sealed block and the old hash under the new one, the LM and
-// the NT response, and the flags
+// ---- a version 2 change: for NT and for LM the sealed block and the old hash under the new one,
+// the LM and the NT response, and the flags
 
 // 512 octets, and the length of the password.
 pub const BLOCK_SIZE: usize = 512 + 4;

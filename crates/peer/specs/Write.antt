@@ -1,5 +1,5 @@
--- The peer's packets, each from a turn and passwords, and when they are refused (document 01: 8, 10,
--- 12, 9 in that order). The version 1 change is document 02's, request 2026-07.
+-- The peer's packets, each from a turn and passwords, and when they are refused (document 01: 8,
+-- 10, 12, 9 in that order). The version 1 change is document 02's, request 2026-07.
 -- Assumes nothing: these are definitions.
 use mathlib.Core.Bool.{Bool, cond, _||_}
 use mathlib.Core.List.{List}
@@ -22,8 +22,8 @@ abbrev pub responseFieldsOf : List ℕ → List ℕ → Response
 responseFieldsOf challenge hash =
     record { lm = replicate answerSize 0; nt = responseOf hash challenge; flag = 1 }
 
--- a version 2 change from the old and the new NT hash and the sealed new password: both LM fields and the LM
--- response are zero-filled, the flags are 1; the response is that of the new hash
+-- a version 2 change from the old and the new NT hash and the sealed new password: both LM fields
+-- and the LM response are zero-filled, the flags are 1; the response is that of the new hash
 abbrev pub changeFieldsOf : List ℕ → List ℕ → List ℕ → List ℕ → Change
 changeFieldsOf challenge old new block =
     record {

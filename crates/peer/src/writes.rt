@@ -60,8 +60,8 @@ pub(crate) fn write_response(turn: Turn, password: &[u8], name: &[u8], out: &mut
     packets::write_response(turn.id, fields, name, out)
 }
 
-// The version 2 change from both NT hashes and the sealed new password. The response is that of the new hash.
-// The LM fields are zero-filled.
+// The version 2 change from both NT hashes and the sealed new password. The response is that of the
+// new hash. The LM fields are zero-filled.
 fn change_fields(
     old: [u8; HASH_SIZE],
     new: [u8; HASH_SIZE],
@@ -126,8 +126,8 @@ pub(crate) fn write_change(
     packets::write_change(turn.id, fields, out)
 }
 
-// The version 1 change from both NT hashes, each under the challenge. The LM fields are zero-filled,
-// and the length is one with which no LM hash is taken.
+// The version 1 change from both NT hashes, each under the challenge. The LM fields are
+// zero-filled, and the length is one with which no LM hash is taken.
 fn change_one_fields(
     old: [u8; HASH_SIZE],
     new: [u8; HASH_SIZE],
