@@ -1,14 +1,16 @@
--- The conversation and its successors (document 01, "How the box judges"), and what it keeps of its
--- last answer (document 02, request 2026-01).
+-- The conversation and its successors (document 01, "How the box judges"), what it keeps of its
+-- last answer (document 02, request 2026-01), and which change it awaits (request 2026-07).
 -- Assumes nothing: these are definitions.
 use mathlib.Core.Bool.{Bool, true, false}
 use mathlib.Core.List.{List}
 use Prim.Native.Nat.{ℕ, _-_}
 use lib.ListN.{replicate}
 use Rattle.challenges.specs.Challenges.{nextId, incremented}
-use Rattle.packets.specs.Codes.{responseCode, changeCode}
+use Rattle.packets.specs.Codes.{responseCode, changeCode, changeOneCode}
 use Rattle.accounts.specs.Account.{blankEntry}
 use Rattle.accounts.specs.declared.Entry.{Entry}
+use Rattle.verify.specs.declared.ChangeVersion.{ChangeVersion}
+use Rattle.verify.specs.declared.ChangeVersion.the-variants.{One, Two}
 use Rattle.authenticator.specs.declared.Conversation.{Conversation}
 use Rattle.authenticator.specs.declared.LastAnswer.{LastAnswer}
 use Rattle.authenticator.specs.declared.Phase.{Phase}
@@ -16,11 +18,16 @@ use Rattle.authenticator.specs.declared.Phase.the-variants.{Response, Ch
 use Rattle.authenticator.specs.declared.Reply.{Reply}
 use Rattle.authenticator.specs.declared.Reply.the-variants.{Success}
 
--- the code of the packet that each phase awaits; 0 is none
-abbrev pub awaitedCode : Phase → ℕ
-awaitedCode Response = responseCode
-awaitedCode Change = changeCode
-awaitedCode Ended = 0
+-- the code of each version's change
+abbrev pub changeCodeOf : ChangeVersion → ℕ
+changeCodeOf One = changeOneCode
+changeCodeOf Two = changeCode
+
+-- the code of the packet that each phase awaits, by the change that the terms name; 0 is none
+abbrev pub awaitedCode : ChangeVersion → Phase → ℕ
+awaitedCode v Response = responseCode
+awaitedCode v Change = changeCodeOf v
+awaitedCode v Ended = 0
 
 abbrev pub awaitsResponse : Phase → Bool
 awaitsResponse Response = true
@@ -68,7 +75,12 @@ noAnswer = record { present = false; code = 0; id = 0; reply = Success }
 -- awaited identifier
 abbrev pub answerWith : Conversation → Reply → LastAnswer
 answerWith c reply =
-    record { present = true; code = awaitedCode (c .phase); id = c .id; reply = reply }
+    record {
+      present = true;
+      code = awaitedCode (c .terms .change) (c .phase);
+      id = c .id;
+      reply = reply;
+    }
 
 abbrev pub withLast : LastAnswer → Conversation → Conversation
 withLast last c =
@@ -88,7 +100,7 @@ withLast last c =
 abbrev pub closed : Conversation
 closed =
     record {
-      terms = record { lm = false; limit = 0 };
+      terms = record { lm = false; limit = 0; change = Two };
       id = 0;
       challenge = replicate 8 0;
       retries = 0;

@@ -20,11 +20,15 @@ use Rattle.message.specs.Reasons.{
 }
 use Rattle.packets.specs.Response.{readResponse}
 use Rattle.packets.specs.Change.{readChange}
+use Rattle.packets.specs.ChangeOne.{readChangeOne}
 use Rattle.packets.specs.declared.Response as responses
 use Rattle.packets.specs.declared.Change as changes
 use Rattle.verify.specs.Response.{valid, responseReason, countedLookup}
 use Rattle.verify.specs.Faults.{isFaultless}
 use Rattle.verify.specs.Change.{checkedChange, newHash}
+use Rattle.verify.specs.ChangeOne.{checkedChangeOne}
+use Rattle.verify.specs.declared.ChangeVersion.{ChangeVersion}
+use Rattle.verify.specs.declared.ChangeVersion.the-variants.{One, Two}
 use Rattle.verify.specs.declared.ChangeFault.{ChangeFault}
 use Rattle.verify.specs.declared.ChangeFault.the-variants.{NoFault}
 use Rattle.verify.specs.declared.CheckedChange.{CheckedChange}
@@ -102,23 +106,30 @@ changeJudgement c v =
       reply = cond (isFaultless (v .fault)) Success (Failure changingPassword false);
       fault = v .fault;
       next = ended c;
-      updated = cond (isFaultless (v .fault)) (found (changed (c .kept) (v .hash))) notFound;
+      updated = cond (isFaultless (v .fault)) (found (changed (c .kept) (v .nt) (v .lm)))
+          notFound;
     }
 
--- the new hash of a change that is accepted by the record that was kept and the challenge in force
+-- the new hash of a version 2 change that is accepted by the record that was kept and the challenge
+-- in force
 abbrev pub newHashIn : Conversation → changes.Change → Option (List ℕ)
 newHashIn c f = newHash (c .kept) (c .challenge) f
 
+-- what is found of the change that the terms name
+abbrev pub checkedFor : ChangeVersion → Conversation → List ℕ → CheckedChange
+checkedFor One c p = checkedChangeOne (c .terms) (c .kept) (c .challenge) (readChangeOne p)
+checkedFor Two c p = checkedChange (c .kept) (c .challenge) (readChange p)
+
 -- the record that was kept decides, whatever record is passed with the change
-unfoldable pub judgeChange : Conversation → changes.Change → Judgement
-judgeChange c f = changeJudgement c (checkedChange (c .kept) (c .challenge) f)
+unfoldable pub judgeChange : Conversation → List ℕ → Judgement
+judgeChange c p = changeJudgement c (checkedFor (c .terms .change) c p)
 
 -- ---- by the phase
 
 -- an ended conversation has no packet to judge: what stands there has no effect
 abbrev pub judgeIn : Phase → Conversation → List ℕ → Lookup → Judgement
 judgeIn Response c p l = judgeResponse c l (readResponse p)
-judgeIn Change c p l = judgeChange c (readChange p)
+judgeIn Change c p l = judgeChange c p
 judgeIn Ended c p l = record { reply = Success; fault = NoFault; next = c; updated = notFound }
 
 unfoldable pub judge : Conversation → List ℕ → Lookup → Judgement

@@ -13,11 +13,19 @@ use Rattle.packets.specs.Frame.{writtenOver}
 use Rattle.challenges.specs.Challenges.{challengesFrom}
 use Rattle.packets.specs.Reply.{challengePacket, badReplyBuffer}
 use Rattle.accounts.specs.Account.{blankEntry}
+use Rattle.verify.specs.declared.ChangeVersion.{ChangeVersion}
+use Rattle.verify.specs.declared.ChangeVersion.the-variants.{One, Two}
 use Rattle.authenticator.specs.Conversation.{noAnswer, closed}
 use Rattle.authenticator.specs.declared.Retries.{Retries}
 use Rattle.authenticator.specs.declared.Retries.the-variants.{Default, Count}
 use Rattle.authenticator.specs.declared.LmChoice.{LmChoice}
 use Rattle.authenticator.specs.declared.LmChoice.the-variants.{Silent, Allowed, Disallowed}
+use Rattle.authenticator.specs.declared.ChangeChoice.{ChangeChoice}
+use Rattle.authenticator.specs.declared.ChangeChoice.the-variants.{
+  Unspecified,
+  VersionOne,
+  VersionTwo,
+}
 use Rattle.authenticator.specs.declared.Conversation.{Conversation}
 use Rattle.authenticator.specs.declared.Phase.the-variants.{Response}
 use Rattle.authenticator.specs.declared.Opened.{Opened}
@@ -28,6 +36,7 @@ pub record Opening : Type 0 where
   pub challenge : List ℕ
   pub retries : Retries
   pub lm : LmChoice
+  pub change : ChangeChoice
   pub limit : ℕ
   pub issued : Issued
   pub buffer : List ℕ
@@ -48,6 +57,13 @@ abbrev pub lmAllowed : LmChoice → Bool
 lmAllowed Silent = false
 lmAllowed Allowed = true
 lmAllowed Disallowed = false
+
+-- "A box opened for it .. awaits code 5 after 648" (document 02, request 2026-07); silence means
+-- version 2, document 01's change
+abbrev pub changeOf : ChangeChoice → ChangeVersion
+changeOf Unspecified = Two
+changeOf VersionOne = One
+changeOf VersionTwo = Two
 
 -- "the challenge and its r successors by the 23 rule"
 abbrev pub spends : Opening → List (List ℕ)
@@ -75,7 +91,11 @@ openedIssued o = cond (eqb (openRefusal o) 0) (added 8 (spends o) (o .issued)) (
 abbrev pub firstConversation : Opening → Conversation
 firstConversation o =
     record {
-      terms = record { lm = lmAllowed (o .lm); limit = o .limit };
+      terms = record {
+        lm = lmAllowed (o .lm);
+        limit = o .limit;
+        change = changeOf (o .change);
+      };
       id = o .id;
       challenge = o .challenge;
       retries = retriesOf (o .retries);

@@ -13,8 +13,13 @@ use Rattle.accounts.specs.declared.EntryLookup.{EntryLookup}
 use Rattle.accounts.specs.declared.Lookup.{Lookup}
 use Rattle.packets.specs.Frame.{writtenOver}
 use Rattle.packets.specs.Change.{readChange}
+use Rattle.packets.specs.ChangeOne.{readChangeOne}
 use Rattle.verify.specs.Faults.{faultNumber}
 use Rattle.verify.specs.Change.{changeFault}
+use Rattle.verify.specs.ChangeOne.{changeOneFault}
+use Rattle.verify.specs.declared.ChangeFault.{ChangeFault}
+use Rattle.verify.specs.declared.ChangeVersion.{ChangeVersion}
+use Rattle.verify.specs.declared.ChangeVersion.the-variants.{One, Two}
 use Rattle.verify.specs.declared.ChangeFault.the-variants.{NoFault}
 use Rattle.authenticator.specs.Conversation.{awaitsResponse, answerWith, withLast}
 use Rattle.authenticator.specs.Admit.{isRepeat, stepRefusal}
@@ -69,7 +74,7 @@ withoutRecord o =
 -- conversation keeps the answer.
 abbrev pub judgedAs : Conversation → Judgement → List ℕ → Outcome
 judgedAs c j b =
-    let reply = replyPacket (c .id) (j .reply) in
+    let reply = replyPacket (c .terms) (c .id) (j .reply) in
     record {
       answer = record {
         kind = Judged (reasonOf (j .reply));
@@ -91,7 +96,7 @@ unjudged kind c written =
 -- is handed out", and "a repeat carries no reason" for a 709 (document 02, request 2026-04)
 abbrev pub repeatedAs : Conversation → List ℕ → Outcome
 repeatedAs c b =
-    let reply = replyPacket (c .last .id) (c .last .reply) in
+    let reply = replyPacket (c .terms) (c .last .id) (c .last .reply) in
     record {
       answer = unjudged (Repeated (reasonOf (c .last .reply))) c (length reply);
       buffer = writtenOver reply b;
@@ -118,9 +123,13 @@ stepRepeats c p b = eqb (stepRefusal c p b) 0 && isRepeat (c .last) p
 
 -- what is wrong with a change that is judged, by its number; 0 is none, and beside every other
 -- answer
+abbrev pub faultFor : ChangeVersion → Conversation → List ℕ → ChangeFault
+faultFor One c p = changeOneFault (c .terms) (c .kept) (c .challenge) (readChangeOne p)
+faultFor Two c p = changeFault (c .kept) (c .challenge) (readChange p)
+
 abbrev pub faultIn : Phase → Conversation → List ℕ → ℕ
 faultIn Response c p = 0
-faultIn Change c p = faultNumber (changeFault (c .kept) (c .challenge) (readChange p))
+faultIn Change c p = faultNumber (faultFor (c .terms .change) c p)
 faultIn Ended c p = 0
 
 unfoldable pub stepFault : Conversation → List ℕ → List ℕ → ℕ

@@ -2,20 +2,33 @@
 // conversation takes it or with which number it refuses it.
 ghost use mathlib.Core.Path.{_≡_};
 ghost use Rattle.packets.specs.Frame.{badId};
-ghost use Rattle.authenticator.specs.Conversation.{awaitedCode, awaitsResponse, isEnded};
-ghost use Rattle.authenticator.specs.Admit.{isRepeat, badCode, bodyRefusal, refusalFor};
+ghost use Rattle.authenticator.specs.Conversation.{changeCodeOf, awaitedCode};
+ghost use Rattle.authenticator.specs.Conversation.{awaitsResponse, isEnded};
+ghost use Rattle.authenticator.specs.Admit.{isRepeat, badCode, changeRefusalOf};
+ghost use Rattle.authenticator.specs.Admit.{bodyRefusal, refusalFor};
 use crate::Conversation;
 use crate::LastAnswer;
 use crate::Phase;
 use refusals::refuse_if;
+use verify::ChangeVersion;
+
+// The code of a version's change.
+fn change_code(change: ChangeVersion) -> u8
+    ensures { λ r. ⌜ r ≡ changeCodeOf change ⌝ }
+{
+    match change {
+        ChangeVersion::One => packets::CHANGE_ONE_CODE,
+        ChangeVersion::Two => packets::CHANGE_CODE,
+    }
+}
 
 // The code of the packet that a phase awaits; 0 is none.
-pub fn awaited_code(phase: Phase) -> u8
-    ensures { λ r. ⌜ r ≡ awaitedCode phase ⌝ }
+pub fn awaited_code(change: ChangeVersion, phase: Phase) -> u8
+    ensures { λ r. ⌜ r ≡ awaitedCode change phase ⌝ }
 {
     match phase {
         Phase::Response => packets::RESPONSE_CODE,
-        Phase::Change => packets::CHANGE_CODE,
+        Phase::Change => change_code(change),
         Phase::Ended => 0,
     }
 }
@@ -49,18 +62,27 @@ fn is_ended(phase: Phase) -> bool
     }
 }
 
-fn is_bad_code(phase: Phase, packet: &[u8]) -> bool
-    ensures { λ r. ⌜ r ≡ badCode phase (now (packet .entry)) ⌝ }
+fn is_bad_code(change: ChangeVersion, phase: Phase, packet: &[u8]) -> bool
+    ensures { λ r. ⌜ r ≡ badCode change phase (now (packet .entry)) ⌝ }
 {
-    packets::octet(packet, 0) != awaited_code(phase)
+    packets::octet(packet, 0) != awaited_code(change, phase)
 }
 
-fn body_refusal(phase: Phase, packet: &[u8]) -> u8
-    ensures { λ r. ⌜ r ≡ bodyRefusal phase (now (packet .entry)) ⌝ }
+fn change_refusal(change: ChangeVersion, packet: &[u8]) -> u8
+    ensures { λ r. ⌜ r ≡ changeRefusalOf change (now (packet .entry)) ⌝ }
+{
+    match change {
+        ChangeVersion::One => packets::change_one_refusal(packet),
+        ChangeVersion::Two => packets::change_refusal(packet),
+    }
+}
+
+fn body_refusal(change: ChangeVersion, phase: Phase, packet: &[u8]) -> u8
+    ensures { λ r. ⌜ r ≡ bodyRefusal change phase (now (packet .entry)) ⌝ }
 {
     match phase {
         Phase::Response => packets::response_refusal(packet),
-        Phase::Change => packets::change_refusal(packet),
+        Phase::Change => change_refusal(change, packet),
         Phase::Ended => 0,
     }
 }
@@ -71,10 +93,12 @@ impl Conversation {
         ensures { λ r. ⌜ r
             ≡ refusalFor repeated self (now (packet .entry)) (now (reply .entry)) ⌝ }
     {
+        let terms = self.terms;
+        let change = terms.change;
         let phase = self.phase;
-        let body = body_refusal(phase, packet);
+        let body = body_refusal(change, phase, packet);
         let id = refuse_if(packets::is_bad_id(self.id, packet), 5, body);
-        let code = refuse_if(is_bad_code(phase, packet), 4, id);
+        let code = refuse_if(is_bad_code(change, phase, packet), 4, id);
         let ended = refuse_if(is_ended(phase), 1, code);
         let again = refuse_if(repeated, 0, ended);
         let frame = refuse_if(packets::is_bad_frame(packet), 3, again);

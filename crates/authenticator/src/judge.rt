@@ -3,12 +3,12 @@
 // found out by `verify`.
 ghost use mathlib.Core.Path.{_≡_};
 ghost use Rattle.packets.specs.Response.{readResponse};
-ghost use Rattle.packets.specs.Change.{readChange};
 ghost use Rattle.authenticator.specs.Judge.{
   mayRetry,
   replyFor,
   afterReason,
   judgeResponse,
+  checkedFor,
   judgeChange,
   judge,
   verdictOf,
@@ -25,6 +25,8 @@ use accounts::changed_entry;
 use accounts::no_entry;
 use message::reasons;
 use verify::ChangeFault;
+use verify::ChangeVersion;
+use verify::CheckedChange;
 use verify::is_faultless;
 
 impl Conversation {
@@ -80,18 +82,37 @@ impl Conversation {
         }
     }
 
-    // A change that is not refused.
-    fn change(self, packet: &[u8]) -> Verdict
-        ensures { λ r. ⌜ r ≡ verdictOf (judgeChange self (readChange (now (packet .entry)))) ⌝ }
+    // What is found of the change that the terms name.
+    fn checked(self, packet: &[u8]) -> CheckedChange
+        ensures { λ r. ⌜ r ≡ checkedFor (self .terms .change) self (now (packet .entry)) ⌝ }
     {
+        let terms = self.terms;
         let challenge = self.challenge;
         let kept = self.kept;
-        let checked = verify::check_change(kept, challenge, packets::read_change(packet));
+        match terms.change {
+            ChangeVersion::One => {
+                let fields = packets::read_change_one(packet);
+                verify::check_change_one(terms, kept, challenge, fields)
+            }
+            ChangeVersion::Two => {
+                let fields = packets::read_change(packet);
+                verify::check_change(kept, challenge, fields)
+            }
+        }
+    }
+
+    // A change that is not refused.
+    fn change(self, packet: &[u8]) -> Verdict
+        ensures { λ r. ⌜ r ≡ verdictOf (judgeChange self (now (packet .entry))) ⌝ }
+    {
+        let kept = self.kept;
+        let checked = self.checked(packet);
         let fault = checked.fault;
-        let hash = checked.hash;
+        let nt = checked.nt;
+        let lm = checked.lm;
         let next = self.to_end();
         if is_faultless(fault) {
-            let entry = changed_entry(kept, hash);
+            let entry = changed_entry(kept, nt, lm);
             return Verdict {
                 reply: Reply::Success,
                 fault,

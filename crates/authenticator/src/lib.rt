@@ -82,6 +82,14 @@ pub enum LmChoice {
     Disallowed,
 }
 
+// What an opening says of the change that is awaited after an expired password; one that says
+// nothing awaits version 2's.
+pub enum ChangeChoice {
+    Unspecified,
+    VersionOne,
+    VersionTwo,
+}
+
 // What an opening answers: the refusal (0 is none), the conversation (an ended one of fixed values
 // beside a refusal), how many octets of the reply buffer the Challenge takes, and how many places
 // of the list of issued challenges are used then.
@@ -184,9 +192,10 @@ impl Conversation {
         ensures { λ r. ⌜ (r ≡ steppedOf (repeatedAs self (now (reply .entry)) .answer))
             × (now (reply .exit) ≡ repeatedAs self (now (reply .entry)) .buffer) ⌝ }
     {
+        let terms = self.terms;
         let last = self.last;
         let value = last.reply;
-        let written = write_reply(last.id, value, reply);
+        let written = write_reply(terms, last.id, value, reply);
         let reason = reason_of(value);
         let updated = no_entry();
         Stepped {
@@ -242,7 +251,8 @@ impl Conversation {
         }
         let judged = self.judge(packet, lookup, keys);
         let value = judged.reply;
-        let written = write_reply(self.id, value, reply);
+        let terms = self.terms;
+        let written = write_reply(terms, self.id, value, reply);
         let reason = reason_of(value);
         let answer = self.answer_with(value);
         let next = judged.next.with_last(answer);

@@ -7,7 +7,9 @@ ghost use Prim.Native.Nat.{suc, _≤_};
 ghost use Rattle.issued.specs.Issued.{spendRefusal, spent};
 ghost use Rattle.challenges.specs.Challenges.{challengesFrom};
 ghost use Rattle.authenticator.specs.Conversation.{closed};
-ghost use Rattle.authenticator.specs.Opening.{mostRetries, retriesOf, lmAllowed, OpenedAs};
+ghost use Rattle.authenticator.specs.Opening.{mostRetries, retriesOf, lmAllowed};
+ghost use Rattle.authenticator.specs.Opening.{changeOf, OpenedAs};
+use crate::ChangeChoice;
 use crate::Conversation;
 use crate::LmChoice;
 use crate::Opened;
@@ -18,6 +20,7 @@ use crate::successors::no_answer;
 use accounts::blank_entry;
 use issued::Spent;
 use refusals::refuse_if;
+use verify::ChangeVersion;
 use verify::Terms;
 
 const DEFAULT_RETRIES: u8 = 2;
@@ -40,6 +43,16 @@ fn is_lm_allowed(lm: LmChoice) -> bool
         LmChoice::Silent => false,
         LmChoice::Allowed => true,
         LmChoice::Disallowed => false,
+    }
+}
+
+fn change_of(change: ChangeChoice) -> ChangeVersion
+    ensures { λ r. ⌜ r ≡ changeOf change ⌝ }
+{
+    match change {
+        ChangeChoice::Unspecified => ChangeVersion::Two,
+        ChangeChoice::VersionOne => ChangeVersion::One,
+        ChangeChoice::VersionTwo => ChangeVersion::Two,
     }
 }
 
@@ -88,7 +101,8 @@ impl Conversation {
     // Opens a conversation: spends its challenge and r successors, which adds them to the list of
     // issued challenges, and writes its Challenge. The list is what stands in the first used places
     // of the buffer list, 8 octets each, and counts are how many of them end in each octet. An
-    // account with limit failures or more is locked. Refusals, which leave all as it was, in this
+    // account with limit failures or more is locked; change says which change is awaited after an
+    // expired password. Refusals, which leave all as it was, in this
     // order: 18 (limit 0), 13 (r over 7), 2 (reply under 17 octets), 24 (a bad list), 16 (one of
     // them was issued before), 17 (too few places are left).
     pub fn open(
@@ -96,6 +110,7 @@ impl Conversation {
         challenge: [u8; 8],
         retries: Retries,
         lm: LmChoice,
+        change: ChangeChoice,
         limit: u8,
         list: &mut [u8],
         used: usize,
@@ -107,6 +122,7 @@ impl Conversation {
           challenge = challenge;
           retries = retries;
           lm = lm;
+          change = change;
           limit = limit;
           issued = record {
             buffer = now (list .entry);
@@ -131,10 +147,11 @@ impl Conversation {
         let kept = blank_entry();
         let last = no_answer();
         let lm = is_lm_allowed(lm);
+        let change = change_of(change);
         Opened {
             refusal: 0,
             conversation: Conversation {
-                terms: Terms { lm, limit },
+                terms: Terms { lm, limit, change },
                 id,
                 challenge,
                 retries: r,

@@ -11,6 +11,7 @@ use crate::Reply;
 use crate::admit::awaited_code;
 use accounts::Entry;
 use accounts::blank_entry;
+use verify::ChangeVersion;
 use verify::Terms;
 
 // 0 stays 0.
@@ -92,8 +93,10 @@ impl Conversation {
     pub(crate) fn answer_with(self, reply: Reply) -> LastAnswer
         ensures { λ r. ⌜ r ≡ answerWith self reply ⌝ }
     {
+        let terms = self.terms;
+        let change = terms.change;
         let phase = self.phase;
-        let code = awaited_code(phase);
+        let code = awaited_code(change, phase);
         let id = self.id;
         LastAnswer {
             present: true,
@@ -144,6 +147,7 @@ pub fn closed_conversation() -> Conversation
         terms: Terms {
             lm: false,
             limit: 0,
+            change: ChangeVersion::Two,
         },
         id: 0,
         challenge: [0; 8],
