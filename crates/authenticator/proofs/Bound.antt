@@ -66,9 +66,9 @@ response-less c l f ph = after-less c
     (entryOf (counted (c .terms) (c .challenge) (l .account) f))
     (responseReason (c .terms) (c .challenge) l f) ph
 
-change-less : (c : Conversation) (f : changes.Change) → leftIn (judgeChange c f .next) < 1
+change-less : (c : Conversation) (p : List ℕ) → leftIn (judgeChange c p .next) < 1
 unfolding judgeChange
-change-less c f = omega arith
+change-less c p = omega arith
 
 phase-less : (ph : Phase) (c : Conversation) (p : List ℕ) (l : Lookup) → c .phase ≡ ph → isEnded ph
     ≡ false

@@ -13,9 +13,7 @@ use Rattle.accounts.specs.declared.Lookup.{Lookup}
 use Rattle.accounts.proofs.Agreeing.{changed-agrees, counted-agrees}
 use Rattle.packets.specs.Frame.{writtenOver}
 use Rattle.packets.specs.Response.{readResponse}
-use Rattle.packets.specs.Change.{readChange}
 use Rattle.verify.specs.Faults.{isFaultless}
-use Rattle.verify.specs.Change.{checkedChange}
 use Rattle.verify.specs.Response.{judgingKeys, carryingLookup, checkedResponse}
 use Rattle.verify.specs.declared.ChangeFault.the-variants.{NoFault}
 use Rattle.verify.specs.declared.CheckedResponse.{CheckedResponse}
@@ -23,7 +21,7 @@ use Rattle.verify.proofs.Carried.{checked-carried}
 use Rattle.authenticator.specs.Conversation.{answerWith, withLast}
 use Rattle.authenticator.specs.Encode.{replyPacket}
 use Rattle.authenticator.specs.Judge.{reasonOf, replyFor, afterReason}
-use Rattle.authenticator.specs.Judge.{judgeResponse, judgeChange, judgeIn, judge}
+use Rattle.authenticator.specs.Judge.{judgeResponse, checkedFor, judgeChange, judgeIn, judge}
 use Rattle.authenticator.specs.Step.{Outcome, judgedAs, step}
 use Rattle.authenticator.specs.Step.{steppedOf, handsBack, handedOut}
 use Rattle.authenticator.specs.declared.Conversation.{Conversation}
@@ -60,10 +58,10 @@ module _ (c : Conversation) (p b : List ℕ) where
           kind = Judged (reasonOf r);
           fault = NoFault;
           next = withLast (answerWith c r) (afterReason c (v .updated .entry) (v .reason));
-          written = length (replyPacket (c .id) r);
+          written = length (replyPacket (c .terms) (c .id) r);
           updated = v .updated;
         };
-        buffer = writtenOver (replyPacket (c .id) r) b;
+        buffer = writtenOver (replyPacket (c .terms) (c .id) r) b;
       }
 
   pub same-read : (l : Lookup) → seenOf (step c p l b) ≡ seenOf (step c p (readOnly l p) b)
@@ -97,12 +95,12 @@ module _ (c : Conversation) (p : List ℕ) (l : Lookup) (b : List ℕ) where
   unfolding judgeResponse judgeChange
   back-judged Response = refl
   back-judged Change =
-      which (isFaultless (checkedChange (c .kept) (c .challenge) (readChange p) .fault))
+      which (isFaultless (checkedFor (c .terms .change) c p .fault))
     where
       record-for : Bool → Lookup
       record-for t =
-          cond t (found (changed (c .kept) (checkedChange (c .kept) (c .challenge) (readChange p)
-          .hash))) notFound
+          cond t (found (changed (c .kept) (checkedFor (c .terms .change) c p .nt)
+          (checkedFor (c .terms .change) c p .lm))) notFound
 
       which : (t : Bool) → record-for t ≡ handedOut false (l .account) (entryLookupOf (record-for t))
       which true = refl
@@ -127,11 +125,12 @@ module _ (c : Conversation) (p : List ℕ) (l : Lookup) (b : List ℕ) where
       in-judged : (ph : Phase) → AgreeIn (judgeIn ph c p l .updated)
       in-judged Response = λ there. counted-agrees _ (l .account) (g there)
       in-judged Change =
-          by (isFaultless (checkedChange (c .kept) (c .challenge) (readChange p) .fault))
+          by (isFaultless (checkedFor (c .terms .change) c p .fault))
         where
           by : (t : Bool) → AgreeIn (cond t (found (changed (c .kept)
-              (checkedChange (c .kept) (c .challenge) (readChange p) .hash))) notFound)
-          by true = λ there. changed-agrees (c .kept) _
+              (checkedFor (c .terms .change) c p .nt) (checkedFor (c .terms .change) c p .lm)))
+              notFound)
+          by true = λ there. changed-agrees (c .kept) _ _
           by false = λ there. absurd (false≢true there)
       in-judged Ended = λ there. absurd (false≢true there)
 

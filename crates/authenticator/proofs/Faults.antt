@@ -16,16 +16,21 @@ use Rattle.message.specs.Reasons.{changingPassword}
 use Rattle.packets.specs.Frame.{writtenOver}
 use Rattle.packets.specs.Response.{readResponse}
 use Rattle.packets.specs.Change.{readChange}
+use Rattle.packets.specs.ChangeOne.{readChangeOne}
 use Rattle.packets.specs.Reply.{failurePacket}
 use Rattle.verify.specs.Faults.{faultNumber, isFaultless}
 use Rattle.verify.specs.Response.{responseReason}
 use Rattle.verify.specs.Change.{checkedChange}
-use Rattle.verify.specs.FirstFault.{IsFirst}
+use Rattle.verify.proofs.FirstFaultOne.{fault-one, first-fault-one}
+use Rattle.verify.specs.declared.ChangeVersion.{ChangeVersion}
+use Rattle.verify.specs.declared.ChangeVersion.the-variants.{One, Two}
+use Rattle.verify.specs.FirstFault.{Holds, HoldsOne, IsFirst}
 use Rattle.verify.specs.declared.ChangeFault.{ChangeFault}
 use Rattle.verify.specs.declared.CheckedChange.{CheckedChange}
 use Rattle.verify.proofs.FirstFault.{first-fault}
 use Rattle.verify.proofs.Reasons.{response-not-changing}
-use Rattle.authenticator.specs.Judge.{reasonOf, judgeResponse, judgeChange, judgeIn, judge}
+use Rattle.authenticator.specs.Judge.{reasonOf, judgeResponse, checkedFor, judgeChange}
+use Rattle.authenticator.specs.Judge.{judgeIn, judge}
 use Rattle.authenticator.specs.Conversation.{ended}
 use Rattle.authenticator.specs.Encode.{version}
 use Rattle.authenticator.specs.Step.{Outcome, judgedAs, stepFault, step}
@@ -60,7 +65,7 @@ module _ (c : Conversation) (p : List ℕ) (l : Lookup) where
         reply = cond t Success (Failure changingPassword false);
         fault = v .fault;
         next = ended c;
-        updated = cond t (found (changed (c .kept) (v .hash))) notFound;
+        updated = cond t (found (changed (c .kept) (v .nt) (v .lm))) notFound;
       }
 
   fault-judged : (ph : Phase) → faultNumber (judgeIn ph c p l .fault) ≢ 0
@@ -70,7 +75,7 @@ module _ (c : Conversation) (p : List ℕ) (l : Lookup) where
   fault-judged Change n = which (isFaultless (v .fault)) refl
     where
       v : CheckedChange
-      v = checkedChange (c .kept) (c .challenge) (readChange p)
+      v = checkedFor (c .terms .change) c p
 
       which : (t : Bool) → isFaultless (v .fault) ≡ t → chosen v t ≡ notAccepted c (v .fault)
       which true e = absurd (n (eqb-true (faultNumber (v .fault)) 0 e))
@@ -85,7 +90,7 @@ module _ (c : Conversation) (p : List ℕ) (l : Lookup) where
       response-not-changing (c .terms) (c .challenge) (readResponse p) l
       (sym (reason-of-reply c reason) ∙ e)
   reply-fault Change e z =
-      let v = checkedChange (c .kept) (c .challenge) (readChange p) in
+      let v = checkedFor (c .terms .change) c p in
       let success = ap (λ (t : Bool). reasonOf (chosen v t .reply))
       (eq-eqb (faultNumber (v .fault)) 0 z) in
       omega (arith, e, success)
@@ -118,7 +123,7 @@ module _ (c : Conversation) (p : List ℕ) (l : Lookup) (b : List ℕ) where
   pub told-beside-709 : stepFault c p b ≢ 0
       → (step c p l b .answer .kind ≡ Judged changingPassword)
       × (step c p l b .buffer
-      ≡ writtenOver (failurePacket (c .id) (textOf changingPassword 0 version)) b)
+      ≡ writtenOver (failurePacket (c .id) (textOf changingPassword 0 (version (c .terms .change)))) b)
   told-beside-709 n =
       let e = not-accepted n in
       (ap (λ (o : Outcome). o .answer .kind) e, ap (λ (o : Outcome). o .buffer) e)
@@ -142,14 +147,27 @@ module _ (c : Conversation) (p : List ℕ) (l : Lookup) (b : List ℕ) where
 
   -- ---- "the first that holds"
 
+  -- what each fault says of the change that the terms name
+  abbrev pub HoldsFor : ChangeVersion → ChangeFault → Type 0
+  HoldsFor One x = HoldsOne (c .terms) (c .kept) (c .challenge) (readChangeOne p) x
+  HoldsFor Two x = Holds (c .kept) (c .challenge) (readChange p) x
+
+  first-for : (v : ChangeVersion) → IsFirst (HoldsFor v) (checkedFor v c p .fault)
+  unfolding checkedChange
+  first-for One =
+      subst (IsFirst (HoldsFor One))
+      (sym (fault-one (c .terms) (c .kept) (c .challenge) (readChangeOne p)))
+      (first-fault-one (c .terms) (c .kept) (c .challenge) (readChangeOne p))
+  first-for Two = first-fault (c .kept) (c .challenge) (readChange p)
+
   pub told-first : Passes c p b → c .phase ≡ Change
-      → IsFirst (c .kept) (c .challenge) (readChange p) (step c p l b .answer .fault)
-  unfolding judge judgeChange checkedChange
+      → IsFirst (HoldsFor (c .terms .change)) (step c p l b .answer .fault)
+  unfolding judge judgeChange
   told-first ok ph =
-      subst (IsFirst (c .kept) (c .challenge) (readChange p))
+      subst (IsFirst (HoldsFor (c .terms .change)))
       (sym (ap (λ (o : Outcome). o .answer .fault) (judged-step c p l b ok)
       ∙ ap (λ (x : Phase). judgeIn x c p l .fault) ph))
-      (first-fault (c .kept) (c .challenge) (readChange p))
+      (first-for (c .terms .change))
 
 -- ---- "Replies on the wire do not change"
 

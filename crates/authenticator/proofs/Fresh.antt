@@ -86,16 +86,16 @@ module _ (c : Conversation) where
   response-next l f = after-next (entryOf (counted (c .terms) (c .challenge) (l .account) f))
       (responseReason (c .terms) (c .challenge) l f)
 
-  change-ends : (f : changes.Change) → isEnded (judgeChange c f .next .phase) ≡ true
+  change-ends : (p : List ℕ) → isEnded (judgeChange c p .next .phase) ≡ true
   unfolding judgeChange
-  change-ends f = refl
+  change-ends p = refl
 
   phase-next : (ph : Phase) (p : List ℕ) (l : Lookup) → isEnded ph ≡ false
       → isEnded (judgeIn ph c p l .next .phase) ≡ false
       → judgeIn ph c p l .next .id ≡ nextId (c .id)
   phase-next Response p l live next = response-next l (readResponse p) next
   phase-next Change p l live next =
-      absurd (true≢false (sym (change-ends (readChange p)) ∙ next))
+      absurd (true≢false (sym (change-ends p) ∙ next))
   phase-next Ended p l live next = absurd (true≢false live)
 
   judge-next : (p : List ℕ) (l : Lookup) → isEnded (c .phase) ≡ false

@@ -74,10 +74,10 @@ response-adds-none c l f x h = after-adds-none c
     (entryOf (counted (c .terms) (c .challenge) (l .account) f))
     (responseReason (c .terms) (c .challenge) l f) x h
 
-change-adds-none : (c : Conversation) (f : changes.Change) (x : List ℕ)
-    → CanBeInForce (judgeChange c f .next) x → CanBeInForce c x
+change-adds-none : (c : Conversation) (p x : List ℕ)
+    → CanBeInForce (judgeChange c p .next) x → CanBeInForce c x
 unfolding judgeChange
-change-adds-none c f x h = h
+change-adds-none c p x h = h
 
 phase-adds-none : (ph : Phase) (c : Conversation) (p : List ℕ) (l : Lookup) (x : List ℕ)
     → CanBeInForce (judgeIn ph c p l .next) x → CanBeInForce c x

@@ -5,12 +5,12 @@
 use mathlib.Core.Bool.{Bool, true, false, cond}
 use mathlib.Core.List.{List}
 use mathlib.Core.Logic.{_≢_}
-use mathlib.Core.Option.{some}
 use mathlib.Core.Path.{_≡_, refl, sym, ap, ap₂, _∙_}
 use Prim.Native.Nat.{ℕ, _≤_, _<_}
 use native.Mathlib.Omega.{arith}
 use borrow.Author.Tests.{lt-ltb}
 use Rattle.accounts.specs.Account.{
+  hashOf,
   notFound,
   found,
   entryOf,
@@ -20,16 +20,19 @@ use Rattle.accounts.specs.Account.{
   Rightful,
 }
 use Rattle.accounts.specs.declared.Account.{Account}
+use Rattle.accounts.specs.declared.Hash.{Hash}
 use Rattle.accounts.specs.declared.Lookup.{Lookup}
 use Rattle.message.specs.Reasons.{authenticationFailure, passwordExpired, noReason}
 use Rattle.packets.specs.Response.{readResponse}
 use Rattle.packets.specs.Change.{readChange}
 use Rattle.verify.specs.Response.{judgedValid, foundValid, responseReason, countedLookup}
-use Rattle.verify.specs.Change.{checkedChange, newHash}
+use Rattle.verify.specs.Change.{checkedWith}
 use Rattle.verify.specs.Accepted.{SameButIgnored}
 use Rattle.verify.specs.declared.ChangeFault.the-variants.{NoFault}
+use Rattle.verify.specs.declared.ChangeVersion.{ChangeVersion}
+use Rattle.verify.specs.declared.ChangeVersion.the-variants.{Two}
 use Rattle.verify.specs.declared.CheckedChange.{CheckedChange}
-use Rattle.verify.proofs.Accepted.{ignored-change, checked-accepted}
+use Rattle.verify.proofs.Accepted.{ignored-change}
 use Rattle.verify.proofs.Reasons.{reason-invalid, permitted-reason}
 use Rattle.verify.proofs.Counting.{judged-at-limit, counted-valid}
 use Rattle.authenticator.specs.Conversation.{ended, retried, awaitingChange}
@@ -37,6 +40,7 @@ use Rattle.authenticator.specs.Judge.{
   judgementFor,
   judgeResponse,
   changeJudgement,
+  checkedFor,
   judgeChange,
   judgeIn,
   judge,
@@ -76,13 +80,13 @@ expiredFor c a =
 abbrev pub accepted : Conversation → Account → Judgement
 accepted c a = record { reply = Success; fault = NoFault; next = ended c; updated = found a }
 
-abbrev pub changedTo : Conversation → List ℕ → Judgement
-changedTo c h =
+abbrev pub changedTo : Conversation → Hash → Hash → Judgement
+changedTo c nt lm =
     record {
       reply = Success;
       fault = NoFault;
       next = ended c;
-      updated = found (changed (c .kept) h);
+      updated = found (changed (c .kept) nt lm);
     }
 
 module _ (c : Conversation) (p b : List ℕ) (ok : Passes c p b) where
@@ -99,8 +103,7 @@ module _ (c : Conversation) (p b : List ℕ) (ok : Passes c p b) where
   response-step l e = step-in l e
 
   change-step : (l : Lookup) → c .phase ≡ Change
-      → step c p l b
-      ≡ judgedAs c (changeJudgement c (checkedChange (c .kept) (c .challenge) (readChange p))) b
+      → step c p l b ≡ judgedAs c (changeJudgement c (checkedFor (c .terms .change) c p)) b
   unfolding judgeChange
   change-step l e = step-in l e
 
@@ -139,30 +142,34 @@ module _ (c : Conversation) (p b : List ℕ) (ok : Passes c p b) where
       (permitted-reason (c .terms) (c .challenge) (readResponse p) a g v)
       ∙ ap (λ (j : Judgement). judgedAs c j b) (permitted-judged (a .expired) c (withFailures 0 a))
 
-  -- the record passed with it has no effect
-  pub change-law : (l : Lookup) (h : List ℕ) → c .phase ≡ Change
-      → newHash (c .kept) (c .challenge) (readChange p) ≡ some h
-      → step c p l b ≡ judgedAs c (changedTo c h) b
-  change-law l h ph e =
+  -- a change with no fault, of the version that the terms name; the record passed with it has no
+  -- effect
+  pub change-law : (l : Lookup) (nt lm : Hash) → c .phase ≡ Change
+      → checkedFor (c .terms .change) c p ≡ checkedWith NoFault nt lm
+      → step c p l b ≡ judgedAs c (changedTo c nt lm) b
+  change-law l nt lm ph e =
       change-step c p b ok l ph
-      ∙ ap (λ (v : CheckedChange). judgedAs c (changeJudgement c v) b)
-      (checked-accepted (c .kept) (c .challenge) (readChange p) h e)
+      ∙ ap (λ (v : CheckedChange). judgedAs c (changeJudgement c v) b) e
 
--- nor has what is to be ignored of the packet
+-- nor has what is to be ignored of a version 2 change
 pub ignored-step : (c : Conversation) (p q b : List ℕ) (l m : Lookup) → c .phase ≡ Change
-    → Passes c p b → Passes c q b → SameButIgnored (readChange p) (readChange q)
+    → c .terms .change ≡ Two → Passes c p b → Passes c q b
+    → SameButIgnored (readChange p) (readChange q)
     → step c p l b ≡ step c q m b
-ignored-step c p q b l m ph x y e =
+ignored-step c p q b l m ph two x y e =
     change-step c p b x l ph
     ∙ ap (λ (v : CheckedChange). judgedAs c (changeJudgement c v) b)
-    (ignored-change (c .kept) (c .challenge) (readChange p) (readChange q) e)
+    (ap (λ (v : ChangeVersion). checkedFor v c p) two
+    ∙ ignored-change (c .kept) (c .challenge) (readChange p) (readChange q) e
+    ∙ ap (λ (v : ChangeVersion). checkedFor v c q) (sym two))
     ∙ sym (change-step c q b y m ph)
 
 -- a changed record is rightful where the kept one is, is not expired, and has the new hash
-pub changed-rightful : (a : Account) (h : List ℕ) → Rightful a
-    → Rightful (changed (entryOf a) h) × (changed (entryOf a) h .expired ≡ false)
-    × (changed (entryOf a) h .nt .octets ≡ h)
-changed-rightful a h g =
+pub changed-rightful : (a : Account) (h : List ℕ) (lm : Hash) → Rightful a
+    → Rightful (changed (entryOf a) (hashOf h) lm)
+    × (changed (entryOf a) (hashOf h) lm .expired ≡ false)
+    × (changed (entryOf a) (hashOf h) lm .nt .octets ≡ h)
+changed-rightful a h lm g =
     (record { nt = refl; enabled = g .enabled; hours = g .hours; dialin = g .dialin }, refl, refl)
 
 -- ---- no record and an invalid Response

@@ -43,11 +43,11 @@ verdictFor c v =
 abbrev pub chosen : Conversation → CheckedChange → Bool → Verdict
 chosen c v t =
     verdict (cond t Success (Failure changingPassword false)) (v .fault) (ended c)
-    (entryLookupOf (cond t (found (changed (c .kept) (v .hash))) notFound))
+    (entryLookupOf (cond t (found (changed (c .kept) (v .nt) (v .lm))) notFound))
 
 module _ (c : Conversation) (v : CheckedChange) {next : Conversation} (n : next ≡ ended c) where
   pub changed-judged : {entry : Entry} → isFaultless (v .fault) ≡ true
-      → entry ≡ changedEntry (c .kept) (v .hash)
+      → entry ≡ changedEntry (c .kept) (v .nt) (v .lm)
       → verdict Success (v .fault) next (record { found = true; entry = entry })
       ≡ verdictOf (changeJudgement c v)
   changed-judged t u =

@@ -11,6 +11,7 @@ use lib.ListN.{take}
 use Rattle.packets.specs.Frame.{lengthOf, badFrame}
 use Rattle.packets.specs.Response.{badResponseSize, badResponseFlag, responseRefusal}
 use Rattle.packets.specs.Change.{badChangeSize, badChangeFlags, changeRefusal}
+use Rattle.packets.specs.ChangeOne.{badChangeOneSize, badChangeOneFlags, changeOneRefusal}
 use Rattle.packets.proofs.Padding.{
   SamePacket,
   cut-at-length,
@@ -20,9 +21,17 @@ use Rattle.packets.proofs.Padding.{
   same-response,
   same-change-refusal,
   same-change,
+  same-change-one-refusal,
+  same-change-one,
 }
+use Rattle.verify.specs.declared.ChangeVersion.{ChangeVersion}
+use Rattle.verify.specs.declared.ChangeVersion.the-variants.{One, Two}
+use Rattle.verify.specs.Change.{checkedChange}
+use Rattle.verify.specs.ChangeOne.{checkedChangeOne}
 use Rattle.authenticator.specs.Judge.{judgeChange, judgeResponse, judgeIn, judge}
-use Rattle.authenticator.specs.Admit.{isRepeat, bodyRefusal, refusalFor, stepRefusal}
+use Rattle.authenticator.specs.Judge.{changeJudgement, checkedFor}
+use Rattle.authenticator.specs.Admit.{isRepeat, changeRefusalOf, bodyRefusal}
+use Rattle.authenticator.specs.Admit.{refusalFor, stepRefusal}
 use Rattle.authenticator.specs.Judge.{Judgement}
 use Rattle.authenticator.specs.Step.{judgedAs, refusedAs, step}
 use Rattle.accounts.specs.declared.Lookup.{Lookup}
@@ -40,27 +49,39 @@ size-good true u e = absurd (omega arith)
 size-good false u e = refl
 
 module _ (p q : List ℕ) (s : SamePacket p q) where
-  same-body : (ph : Phase) → bodyRefusal ph q ≡ bodyRefusal ph p
-  same-body Response = same-response-refusal p q s
-  same-body Change = same-change-refusal p q s
-  same-body Ended = refl
+  same-body : (v : ChangeVersion) (ph : Phase) → bodyRefusal v ph q ≡ bodyRefusal v ph p
+  same-body v Response = same-response-refusal p q s
+  same-body One Change = same-change-one-refusal p q s
+  same-body Two Change = same-change-refusal p q s
+  same-body v Ended = refl
 
   same-repeat : (last : LastAnswer) → isRepeat last q ≡ isRepeat last p
   same-repeat last = simp (same-code p q s, same-id p q s)
 
   same-refusal : (c : Conversation) (b : List ℕ) → stepRefusal c q b ≡ stepRefusal c p b
   unfolding refusalFor
-  same-refusal c b = simp (s .frame, same-code p q s, same-id p q s, same-body (c .phase))
+  same-refusal c b = simp (s .frame, same-code p q s, same-id p q s, same-body (c .terms .change) (c .phase))
 
   -- where neither 6 nor 7 is due, the fields are the same
-  same-judged : (ph : Phase) (c : Conversation) (l : Lookup) → bodyRefusal ph p ≡ 0
+  same-checked : (v : ChangeVersion) (c : Conversation) → changeRefusalOf v p ≡ 0
+      → checkedFor v c q ≡ checkedFor v c p
+  unfolding changeRefusal changeOneRefusal
+  same-checked One c e =
+      ap (checkedChangeOne (c .terms) (c .kept) (c .challenge))
+      (same-change-one p q s (size-good (badChangeOneSize p) (badChangeOneFlags p) e))
+  same-checked Two c e =
+      ap (checkedChange (c .kept) (c .challenge))
+      (same-change p q s (size-good (badChangeSize p) (badChangeFlags p) e))
+
+  same-judged : (ph : Phase) (c : Conversation) (l : Lookup)
+      → bodyRefusal (c .terms .change) ph p ≡ 0
       → judgeIn ph c q l ≡ judgeIn ph c p l
-  unfolding responseRefusal changeRefusal
+  unfolding responseRefusal judgeChange
   same-judged Response c l e =
       ap (judgeResponse c l) (same-response p q s (size-good (badResponseSize p)
       (badResponseFlag p) e))
   same-judged Change c l e =
-      ap (judgeChange c) (same-change p q s (size-good (badChangeSize p) (badChangeFlags p) e))
+      ap (changeJudgement c) (same-checked (c .terms .change) c e)
   same-judged Ended c l e = refl
 
   same-step : (c : Conversation) (l : Lookup) (b : List ℕ) → step c q l b ≡ step c p l b

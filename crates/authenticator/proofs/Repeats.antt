@@ -18,21 +18,22 @@ use Rattle.authenticator.specs.Step.{Outcome, repeatedAs}
 use Rattle.authenticator.specs.Steps.{StepInput, stepOn, replyOf, BoxState, nextAfter}
 use Rattle.authenticator.specs.Steps.{refusalAt, isJudged, nextState}
 use Rattle.authenticator.specs.Repeats.{Again, Drawn}
+use Rattle.verify.specs.declared.Terms.{Terms}
 use Rattle.authenticator.specs.declared.Conversation.{Conversation}
-use Rattle.authenticator.specs.declared.LastAnswer.{LastAnswer}
 use Rattle.authenticator.proofs.Admitted.{passes, readable-by, repeat-passes}
 use Rattle.authenticator.proofs.Seen.{Tracks, judged-exactly, tracks-next}
 use Rattle.authenticator.proofs.Steps.{Case, refused, repeated, judged, case-of, number-step}
 use Rattle.authenticator.proofs.Steps.{repeated-step, reply-of, repeated-reply}
+use Rattle.authenticator.proofs.Terms.{judge-terms}
 
 -- ---- what was answered is what is kept
 
 -- the last answer is the reply to a packet
-pub record Keeps (last : LastAnswer) (p reply : List ℕ) : Type 0 where
-  pub present : last .present ≡ true
-  pub code : last .code ≡ octet 0 p
-  pub id : last .id ≡ octet 1 p
-  pub drawn : replyPacket (last .id) (last .reply) ≡ reply
+pub record Keeps (c : Conversation) (p reply : List ℕ) : Type 0 where
+  pub present : c .last .present ≡ true
+  pub code : c .last .code ≡ octet 0 p
+  pub id : c .last .id ≡ octet 1 p
+  pub drawn : replyPacket (c .terms) (c .last .id) (c .last .reply) ≡ reply
 
 pub all-three : (s t u : Bool) → (s && (t && u)) ≡ true → (s ≡ true) × (t ≡ true) × (u ≡ true)
 all-three true true true e = (e, e, e)
@@ -41,19 +42,19 @@ all-three true false u e = absurd (false≢true e)
 all-three false t u e = absurd (false≢true e)
 
 module _ (c : Conversation) (s : StepInput) (ok : refusalAt stepOn c s ≡ 0) where
-  pub answered : Keeps (nextAfter stepOn c s .last) (s .packet) (replyOf (stepOn c s))
+  pub answered : Keeps (nextAfter stepOn c s) (s .packet) (replyOf (stepOn c s))
   answered = which (case-of c (s .packet) (s .account) (s .buffer))
     where
       number : refusalAt stepOn c s ≡ stepRefusal c (s .packet) (s .buffer)
       number = number-step c (s .packet) (s .account) (s .buffer)
 
       which : Case c (s .packet) (s .account) (s .buffer)
-          → Keeps (nextAfter stepOn c s .last) (s .packet) (replyOf (stepOn c s))
+          → Keeps (nextAfter stepOn c s) (s .packet) (replyOf (stepOn c s))
       which (refused n e) = absurd (n (sym number ∙ ok))
       which (repeated z r e) =
           let a = all-three (c .last .present) _ _ r in
           let b = readable-by c (s .packet) (s .buffer) (isRepeat (c .last) (s .packet)) z in
-          subst (λ (o : Outcome). Keeps (o .answer .next .last) (s .packet) (replyOf o)) (sym e)
+          subst (λ (o : Outcome). Keeps (o .answer .next) (s .packet) (replyOf o)) (sym e)
           (record {
             present = a .0;
             code = sym (eqb-true (octet 0 (s .packet)) (c .last .code) (a .1));
@@ -62,25 +63,27 @@ module _ (c : Conversation) (s : StepInput) (ok : refusalAt stepOn c s ≡ 0) wh
           })
       which (judged h e) =
           let j = judge c (s .packet) (s .account) in
-          subst (λ (o : Outcome). Keeps (o .answer .next .last) (s .packet) (replyOf o)) (sym e)
+          subst (λ (o : Outcome). Keeps (o .answer .next) (s .packet) (replyOf o)) (sym e)
           (record {
             present = refl;
             code = sym (h .code);
             id = sym (h .id);
-            drawn = sym (reply-of c j (s .buffer) (h .readable .room));
+            drawn = ap (λ (t : Terms). replyPacket t (c .id) (j .reply))
+                (judge-terms c (s .packet) (s .account))
+                ∙ sym (reply-of c j (s .buffer) (h .readable .room));
           })
 
 -- ---- and is drawn again
 
-kept-repeat : {last : LastAnswer} {p reply : List ℕ} (q : List ℕ) → Keeps last p reply
-    → octet 0 q ≡ octet 0 p → octet 1 q ≡ octet 1 p → isRepeat last q ≡ true
-kept-repeat {last} q k code id =
+kept-repeat : {c : Conversation} {p reply : List ℕ} (q : List ℕ) → Keeps c p reply
+    → octet 0 q ≡ octet 0 p → octet 1 q ≡ octet 1 p → isRepeat (c .last) q ≡ true
+kept-repeat {c} q k code id =
     ap₂ (λ (x y : Bool). x && y) (k .present)
-    (ap₂ (λ (x y : Bool). x && y) (eq-eqb (octet 0 q) (last .code) (code ∙ sym (k .code)))
-    (eq-eqb (octet 1 q) (last .id) (id ∙ sym (k .id))))
+    (ap₂ (λ (x y : Bool). x && y) (eq-eqb (octet 0 q) (c .last .code) (code ∙ sym (k .code)))
+    (eq-eqb (octet 1 q) (c .last .id) (id ∙ sym (k .id))))
 
 pub repeats-again : (c : Conversation) {reply : List ℕ} (s t : StepInput)
-    → Keeps (c .last) (s .packet) reply → Again s t
+    → Keeps c (s .packet) reply → Again s t
     → stepOn c t ≡ repeatedAs c (t .buffer)
 repeats-again c s t k a =
     let r = kept-repeat (t .packet) k (a .code) (a .id) in
@@ -88,7 +91,7 @@ repeats-again c s t k a =
     (repeat-passes c (t .packet) (t .buffer) (record { room = a .room; frame = a .frame }) r) r
 
 pub drawn-again : (c : Conversation) (reply : List ℕ) (s t : StepInput)
-    → Keeps (c .last) (s .packet) reply → Again s t → Drawn reply c t
+    → Keeps c (s .packet) reply → Again s t → Drawn reply c t
 drawn-again c reply s t k a =
     let e = repeats-again c s t k a in (
       ap replyOf e ∙ repeated-reply c (t .buffer) (a .room) ∙ k .drawn,

@@ -15,20 +15,21 @@ use Rattle.message.specs.declared.Reading.{Reading}
 use Rattle.message.specs.declared.Verdict.{Verdict}
 use Rattle.message.specs.declared.Verdict.the-variants as verdicts
 use Rattle.packets.specs.Response.{readResponse}
-use Rattle.packets.specs.Change.{readChange}
 use Rattle.packets.specs.Reply.{readReply}
 use Rattle.packets.specs.declared.Response as responses
-use Rattle.packets.specs.declared.Change as changes
 use Rattle.packets.proofs.ReadBack.{success-back, failure-read}
 use Rattle.verify.specs.Response.{responseReason}
 use Rattle.verify.specs.Faults.{isFaultless}
-use Rattle.verify.specs.Change.{checkedChange}
+use Rattle.verify.specs.declared.ChangeVersion.{ChangeVersion}
+use Rattle.verify.specs.declared.ChangeVersion.the-variants.{One, Two}
+use Rattle.verify.specs.declared.Terms.{Terms}
 use Rattle.verify.proofs.Reasons.{Reason, success, change, three-digits, response-reason}
 use Rattle.authenticator.specs.Judge.{
   reasonOf,
   mayRetry,
   replyFor,
   judgeResponse,
+  checkedFor,
   judgeChange,
   judgeIn,
   judge,
@@ -68,9 +69,9 @@ response-fitting c l f =
     let same = sym (reason-of-reply c e) in
     (subst Reason same (response-reason (c .terms) (c .challenge) f l), ap (replyFor c) same)
 
-change-fitting : (c : Conversation) (f : changes.Change) → Fitting c (judgeChange c f)
+change-fitting : (c : Conversation) (p : List ℕ) → Fitting c (judgeChange c p)
 unfolding judgeChange
-change-fitting c f = which (isFaultless (checkedChange (c .kept) (c .challenge) f .fault))
+change-fitting c p = which (isFaultless (checkedFor (c .terms .change) c p .fault))
   where
     reply : Bool → Reply
     reply t = cond t Success (Failure changingPassword false)
@@ -82,7 +83,7 @@ change-fitting c f = which (isFaultless (checkedChange (c .kept) (c .challenge) 
 judge-in-fitting : (ph : Phase) (c : Conversation) (p : List ℕ) (l : Lookup)
     → Fitting c (judgeIn ph c p l)
 judge-in-fitting Response c p l = response-fitting c l (readResponse p)
-judge-in-fitting Change c p l = change-fitting c (readChange p)
+judge-in-fitting Change c p l = change-fitting c p
 judge-in-fitting Ended c p l = (success, refl)
 
 pub judge-fitting : (c : Conversation) (p : List ℕ) (l : Lookup) → Fitting c (judge c p l)
@@ -91,17 +92,22 @@ judge-fitting c p l = judge-in-fitting (c .phase) c p l
 
 -- ---- what our peer reads of it
 
-abbrev pub readingFor : Reply → Reading
-readingFor Success = succeeded
-readingFor (Failure e retry) = failedWith e (retryDigit retry) version noChallenge
+abbrev pub readingFor : Terms → Reply → Reading
+readingFor t Success = succeeded
+readingFor t (Failure e retry) = failedWith e (retryDigit retry) (version (t .change)) noChallenge
 
-pub read-reply : (id : ℕ) (reply : Reply) (behind : List ℕ) → reasonOf reply < 1000
-    → readReply id (replyPacket id reply ++ behind) ≡ readingFor reply
-read-reply id Success behind small = success-back id behind
-read-reply id (Failure e true) behind small =
-    failure-read id e 1 version behind small (omega arith) (omega arith)
-read-reply id (Failure e false) behind small =
-    failure-read id e 0 version behind small (omega arith) (omega arith)
+-- V is one digit
+digit : (v : ChangeVersion) → version v < 10
+digit One = omega arith
+digit Two = omega arith
+
+pub read-reply : (t : Terms) (id : ℕ) (reply : Reply) (behind : List ℕ) → reasonOf reply < 1000
+    → readReply id (replyPacket t id reply ++ behind) ≡ readingFor t reply
+read-reply t id Success behind small = success-back id behind
+read-reply t id (Failure e true) behind small =
+    failure-read id e 1 (version (t .change)) behind small (omega arith) (digit (t .change))
+read-reply t id (Failure e false) behind small =
+    failure-read id e 0 (version (t .change)) behind small (omega arith) (digit (t .change))
 
 -- so the octets of a reply tell its reason
 abbrev reasonRead : Verdict → ℕ
@@ -109,18 +115,19 @@ reasonRead verdicts.Success = noReason
 reasonRead (verdicts.Failure f) = f .e
 reasonRead (verdicts.Refused n) = noReason
 
-reason-read : (reply : Reply) → reasonRead (readingFor reply .verdict) ≡ reasonOf reply
-reason-read Success = refl
-reason-read (Failure e retry) = refl
+reason-read : (t : Terms) (reply : Reply)
+    → reasonRead (readingFor t reply .verdict) ≡ reasonOf reply
+reason-read t Success = refl
+reason-read t (Failure e retry) = refl
 
-pub reply-tells : (id : ℕ) (r s : Reply) → reasonOf r < 1000 → reasonOf s < 1000
-    → replyPacket id r ≡ replyPacket id s → reasonOf r ≡ reasonOf s
-reply-tells id r s few less e =
-    sym (reason-read r)
+pub reply-tells : (t : Terms) (id : ℕ) (r s : Reply) → reasonOf r < 1000 → reasonOf s < 1000
+    → replyPacket t id r ≡ replyPacket t id s → reasonOf r ≡ reasonOf s
+reply-tells t id r s few less e =
+    sym (reason-read t r)
     ∙ ap (λ (x : Reading). reasonRead (x .verdict))
-    (sym (read-reply id r [] few) ∙ ap (λ (x : List ℕ). readReply id (x ++ [])) e
-    ∙ read-reply id s [] less)
-    ∙ reason-read s
+    (sym (read-reply t id r [] few) ∙ ap (λ (x : List ℕ). readReply id (x ++ [])) e
+    ∙ read-reply t id s [] less)
+    ∙ reason-read t s
 
 module _ (c : Conversation) (s : StepInput) (ok : Passes c (s .packet) (s .buffer)) where
   abbrev reason : ℕ
@@ -143,29 +150,29 @@ module _ (c : Conversation) (s : StepInput) (ok : Passes c (s .packet) (s .buffe
   same-reply = judge-fitting c (s .packet) (s .account) .1 ∙ ap (replyFor c) (sym same-reason)
 
   -- its reply is the one for the reason
-  pub judged-reply : replyOf (stepOn c s) ≡ replyPacket (c .id) (replyFor c reason)
+  pub judged-reply : replyOf (stepOn c s) ≡ replyPacket (c .terms) (c .id) (replyFor c reason)
   judged-reply =
       ap replyOf took
       ∙ reply-of c judgement (s .buffer) (ok .readable .room)
-      ∙ ap (replyPacket (c .id)) same-reply
+      ∙ ap (replyPacket (c .terms) (c .id)) same-reply
 
-  -- and it reads as the reason, R and V=2
+  -- and it reads as the reason, R and the V of the change that is awaited
   pub judged-read : (behind : List ℕ)
-      → readReply (c .id) (replyOf (stepOn c s) ++ behind) ≡ readingFor (replyFor c reason)
+      → readReply (c .id) (replyOf (stepOn c s) ++ behind) ≡ readingFor (c .terms) (replyFor c reason)
   judged-read behind =
       ap (λ (x : List ℕ). readReply (c .id) (x ++ behind)) judged-reply
-      ∙ read-reply (c .id) (replyFor c reason) behind
+      ∙ read-reply (c .terms) (c .id) (replyFor c reason) behind
       (subst (λ (e : ℕ). e < 1000) (sym (reason-of-reply c reason)) (three-digits judged-reason))
 
 -- a repeat reads as the reply that was given
 pub repeat-read : (c : Conversation) (s : StepInput)
     → isRepeated (stepOn c s .answer .kind) ≡ true → reasonOf (c .last .reply) < 1000
     → (behind : List ℕ)
-    → readReply (c .last .id) (replyOf (stepOn c s) ++ behind) ≡ readingFor (c .last .reply)
+    → readReply (c .last .id) (replyOf (stepOn c s) ++ behind) ≡ readingFor (c .terms) (c .last .reply)
 repeat-read c s r small behind =
     let k = kind-repeated c (s .packet) (s .account) (s .buffer) r in
     let room = readable-by c (s .packet) (s .buffer) (isRepeat (c .last) (s .packet))
     (k .0) .room in
     ap (λ (x : List ℕ). readReply (c .last .id) (x ++ behind))
     (ap replyOf (k .1) ∙ repeated-reply c (s .buffer) room)
-    ∙ read-reply (c .last .id) (c .last .reply) behind small
+    ∙ read-reply (c .terms) (c .last .id) (c .last .reply) behind small

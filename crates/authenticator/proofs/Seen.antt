@@ -37,6 +37,9 @@ use Rattle.authenticator.specs.declared.LastAnswer.{LastAnswer}
 use Rattle.authenticator.specs.declared.Phase.{Phase}
 use Rattle.authenticator.specs.declared.Phase.the-variants.{Response, Change, Ended}
 use Rattle.authenticator.proofs.Admitted.{Passes, passes, repeat-seen}
+use Rattle.verify.specs.declared.ChangeVersion.{ChangeVersion}
+use Rattle.verify.specs.declared.ChangeVersion.the-variants.{One, Two}
+use Rattle.verify.specs.declared.Terms.{Terms}
 use Rattle.authenticator.proofs.Terms.{step-keeps-terms}
 use Rattle.authenticator.proofs.Steps as steps
 use Rattle.authenticator.proofs.Steps.{
@@ -51,32 +54,35 @@ use Rattle.authenticator.proofs.Steps.{
 -- ---- what is kept and what is seen
 
 -- what is seen of an answer that is kept
-abbrev pub seenOf : LastAnswer → Option AnsweredPacket
-seenOf last =
+abbrev pub seenOf : Terms → LastAnswer → Option AnsweredPacket
+seenOf t last =
     cond (last .present)
     (some (record {
       code = last .code;
       id = last .id;
-      reply = replyPacket (last .id) (last .reply);
+      reply = replyPacket t (last .id) (last .reply);
     }))
     none
 
 -- the box keeps what is seen
 abbrev pub Tracks : BoxState → Type 0
-Tracks p = p .answered ≡ seenOf (p .conversation .last)
+Tracks p = p .answered ≡ seenOf (p .conversation .terms) (p .conversation .last)
 
-same-repeat : (last : LastAnswer) (p : List ℕ) → repeatsAnswered (seenOf last) p ≡ isRepeat last p
-same-repeat last p = which (last .present) refl
+same-repeat : (u : Terms) (last : LastAnswer) (p : List ℕ)
+    → repeatsAnswered (seenOf u last) p ≡ isRepeat last p
+same-repeat u last p = which (last .present) refl
   where
-    which : (t : Bool) → last .present ≡ t → repeatsAnswered (seenOf last) p ≡ isRepeat last p
+    which : (t : Bool) → last .present ≡ t → repeatsAnswered (seenOf u last) p ≡ isRepeat last p
     which true e = rw e
     which false e = rw e
 
 -- a packet with a Response's code is awaited by that phase alone
-pub response-phase : (ph : Phase) → awaitedCode ph ≡ responseCode → ph ≡ Response
-response-phase Response e = refl
-response-phase Change e = absurd (omega (arith, e))
-response-phase Ended e = absurd (omega (arith, e))
+pub response-phase : (v : ChangeVersion) (ph : Phase) → awaitedCode v ph ≡ responseCode
+    → ph ≡ Response
+response-phase v Response e = refl
+response-phase One Change e = absurd (omega (arith, e))
+response-phase Two Change e = absurd (omega (arith, e))
+response-phase v Ended e = absurd (omega (arith, e))
 
 -- ---- a step of our box
 
@@ -95,7 +101,7 @@ module _ (p : BoxState) (s : StepInput) (kept : Tracks p) where
 
   repeats-kept : repeatsAnswered (p .answered) (s .packet) ≡ isRepeat (c .last) (s .packet)
   repeats-kept = ap (λ (a : Option AnsweredPacket). repeatsAnswered a (s .packet)) kept
-      ∙ same-repeat (c .last) (s .packet)
+      ∙ same-repeat (c .terms) (c .last) (s .packet)
 
   -- the rules refuse what our box refuses
   ruled-refusal : ruledRefusal p s ≡ stepRefusal c (s .packet) (s .buffer)
@@ -157,26 +163,26 @@ module _ (p : BoxState) (s : StepInput) (kept : Tracks p) where
       which : Seen p s → Tracks (nextState stepOn p s)
       which (unjudged z e u) =
           ap (λ (t : Bool). cond t (answered (replyOf (stepOn c s))) (p .answered)) z
-          ∙ kept ∙ ap (λ (x : Conversation). seenOf (x .last)) (sym e)
+          ∙ kept ∙ ap (λ (x : Conversation). seenOf (x .terms) (x .last)) (sym e)
       which (judgedNow y h e) =
-          let reply = replyPacket (c .id) (judge c (s .packet) (s .account) .reply) in
+          let reply = replyPacket (c .terms) (c .id) (judge c (s .packet) (s .account) .reply) in
           let taken = ap replyOf e ∙ reply-of c (judge c (s .packet) (s .account)) (s .buffer)
           (h .readable .room) in
           ap (λ (t : Bool). cond t (answered (replyOf (stepOn c s))) (p .answered)) y
           ∙ ap answered taken
           ∙ ap₂ (λ (code id : ℕ). some (record { code = code; id = id; reply = reply })) (h .code)
           (h .id)
-          ∙ sym (ap (λ (o : Outcome). seenOf (o .answer .next .last)) e)
+          ∙ sym (ap₂ seenOf (step-keeps-terms c s) (ap (λ (o : Outcome). o .answer .next .last) e))
 
   -- ---- what is claimed of any step
 
   -- the answer that is kept is the one that is seen
   kept-answer : (a : AnsweredPacket) → p .answered ≡ some a
-      → replyPacket (c .last .id) (c .last .reply) ≡ a .reply
+      → replyPacket (c .terms) (c .last .id) (c .last .reply) ≡ a .reply
   kept-answer a e = which (c .last .present) (sym kept ∙ e)
     where
       reply : Option AnsweredPacket → List ℕ
-      reply none = replyPacket (c .last .id) (c .last .reply)
+      reply none = replyPacket (c .terms) (c .last .id) (c .last .reply)
       reply (some x) = x .reply
 
       which : (t : Bool)
@@ -184,9 +190,9 @@ module _ (p : BoxState) (s : StepInput) (kept : Tracks p) where
             code = c .last .code;
             id = c .last .id;
             reply = replyPacket
-                (c .last .id) (c .last .reply);
+                (c .terms) (c .last .id) (c .last .reply);
           })) none ≡ some a
-          → replyPacket (c .last .id) (c .last .reply) ≡ a .reply
+          → replyPacket (c .terms) (c .last .id) (c .last .reply) ≡ a .reply
       which true h = ap reply h
       which false h = ap reply h
 
@@ -227,7 +233,7 @@ module _ (p : BoxState) (s : StepInput) (kept : Tracks p) where
       which (judgedNow _ h e) =
           ap (λ (o : Outcome). o .answer .updated) e
           ∙ ap (λ (ph : Phase). judgeIn ph c (s .packet) (s .account) .updated)
-          (response-phase (c .phase) (sym (h .code) ∙ code))
+          (response-phase (c .terms .change) (c .phase) (sym (h .code) ∙ code))
 
   -- of a record that was found, and of none
   hands-out-found : isJudged stepOn p s ≡ true → octet 0 (s .packet) ≡ responseCode
@@ -271,4 +277,4 @@ module _ (p : BoxState) (s : StepInput) (kept : Tracks p) where
 -- ---- after the opening
 
 pub unanswered-tracks : (c : Conversation) → c .last ≡ noAnswer → Tracks (unanswered c)
-unanswered-tracks c e = sym (ap seenOf e)
+unanswered-tracks c e = sym (ap (seenOf (c .terms)) e)

@@ -17,8 +17,12 @@ use Rattle.packets.specs.Frame.{octet}
 use Rattle.packets.specs.Reply.{longestReply}
 use Rattle.authenticator.specs.Admit.{isRepeat, stepRefusal}
 use Rattle.verify.specs.Faults.{faultNumber}
+use Rattle.packets.specs.ChangeOne.{readChangeOne}
 use Rattle.verify.specs.Change.{checkedChange}
-use Rattle.authenticator.specs.Judge.{judgeResponse, judgeChange, judgeIn, judge}
+use Rattle.verify.proofs.FirstFaultOne.{fault-one}
+use Rattle.verify.specs.declared.ChangeVersion.{ChangeVersion}
+use Rattle.verify.specs.declared.ChangeVersion.the-variants.{One, Two}
+use Rattle.authenticator.specs.Judge.{judgeResponse, checkedFor, judgeChange, judgeIn, judge}
 use Rattle.authenticator.specs.Encode.{replyPacket}
 use Rattle.authenticator.specs.Step.{
   refusalIn,
@@ -30,6 +34,7 @@ use Rattle.authenticator.specs.Step.{
   refusedAs,
   stepReason,
   stepRepeats,
+  faultFor,
   faultIn,
   stepFault,
   step,
@@ -118,10 +123,15 @@ module _ (c : Conversation) (p : List ℕ) (l : Lookup) (b : List ℕ) where
           ∙ and-false (eqb (stepRefusal c p b) 0))
 
   -- what is wrong with a change, where one is judged
+  fault-for : (v : ChangeVersion) → checkedFor v c p .fault ≡ faultFor v c p
+  unfolding checkedChange
+  fault-for One = fault-one (c .terms) (c .kept) (c .challenge) (readChangeOne p)
+  fault-for Two = refl
+
   fault-judged : (ph : Phase) → faultNumber (judgeIn ph c p l .fault) ≡ faultIn ph c p
-  unfolding judgeResponse judgeChange checkedChange
+  unfolding judgeResponse judgeChange
   fault-judged Response = refl
-  fault-judged Change = refl
+  fault-judged Change = ap faultNumber (fault-for (c .terms .change))
   fault-judged Ended = refl
 
   pub fault-step : faultNumber (step c p l b .answer .fault) ≡ stepFault c p b
@@ -201,23 +211,23 @@ drew-answered c s {n} e pos = which (eqb (refusalAt stepOn c s) 0) refl
 
 -- a reader of what was written takes the packet
 pub reply-of : (c : Conversation) (j : Judgement) (b : List ℕ) → longestReply ≤ length b
-    → replyOf (judgedAs c j b) ≡ replyPacket (c .id) (j .reply)
+    → replyOf (judgedAs c j b) ≡ replyPacket (c .terms) (c .id) (j .reply)
 reply-of c j b h =
-    let fits = reply-fits (c .id) (j .reply) .1 in
-    taken (replyPacket (c .id) (j .reply)) b (omega arith)
+    let fits = reply-fits (c .terms) (c .id) (j .reply) .1 in
+    taken (replyPacket (c .terms) (c .id) (j .reply)) b (omega arith)
 
 pub repeated-reply : (c : Conversation) (b : List ℕ) → longestReply ≤ length b
-    → replyOf (repeatedAs c b) ≡ replyPacket (c .last .id) (c .last .reply)
+    → replyOf (repeatedAs c b) ≡ replyPacket (c .terms) (c .last .id) (c .last .reply)
 repeated-reply c b h =
-    let fits = reply-fits (c .last .id) (c .last .reply) .1 in
-    taken (replyPacket (c .last .id) (c .last .reply)) b (omega arith)
+    let fits = reply-fits (c .terms) (c .last .id) (c .last .reply) .1 in
+    taken (replyPacket (c .terms) (c .last .id) (c .last .reply)) b (omega arith)
 
 -- a reply is drawn exactly where the step is not refused
 module _ (c : Conversation) (s : StepInput) where
   drawn-as : (o : Outcome) (id : ℕ) (reply : Reply)
-      → o .answer .written ≡ length (replyPacket id reply) → drewReply o (s .buffer) ≡ true
+      → o .answer .written ≡ length (replyPacket (c .terms) id reply) → drewReply o (s .buffer) ≡ true
   drawn-as o id reply e =
-      let fits = reply-fits id reply .0 in
+      let fits = reply-fits (c .terms) id reply .0 in
       rw (lt-ltb 0 (o .answer .written) (omega (arith, e)))
 
   pub drew-judged : (j : Judgement) → drewReply (judgedAs c j (s .buffer)) (s .buffer) ≡ true

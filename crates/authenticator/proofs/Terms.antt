@@ -65,6 +65,11 @@ judged-terms Response c p l =
 judged-terms Change c p l = refl
 judged-terms Ended c p l = refl
 
+-- of a judgement
+pub judge-terms : (c : Conversation) (p : List ℕ) (l : Lookup) → judge c p l .next .terms ≡ c .terms
+unfolding judge
+judge-terms c p l = judged-terms (c .phase) c p l
+
 -- for any packet, record and buffer
 pub step-keeps-terms : (c : Conversation) (s : StepInput) → nextAfter stepOn c s .terms ≡ c .terms
 unfolding judge

@@ -10,6 +10,7 @@ use Rattle.message.proofs.Laws.{length-text}
 use Rattle.packets.specs.Frame.{writtenLength}
 use Rattle.packets.specs.Reply.{challengePacket, longestReply}
 use Rattle.packets.proofs.Writing.{fits, length-challenge, length-success, length-failure}
+use Rattle.verify.specs.declared.Terms.{Terms}
 use Rattle.authenticator.specs.Encode.{version, retryDigit, replyPacket}
 use Rattle.authenticator.specs.declared.Reply.{Reply}
 use Rattle.authenticator.specs.declared.Reply.the-variants.{Success, Failure}
@@ -22,12 +23,13 @@ pub challenge-fits : (id : ℕ) (challenge : List ℕ) → length challenge ≡ 
     → Fits (challengePacket id challenge)
 challenge-fits id challenge e = let n = length-challenge id challenge in (omega arith, omega arith)
 
-pub reply-fits : (id : ℕ) (reply : Reply) → Fits (replyPacket id reply)
-reply-fits id Success = let n = length-success id in (omega arith, omega arith)
-reply-fits id (Failure e retry) =
+pub reply-fits : (t : Terms) (id : ℕ) (reply : Reply) → Fits (replyPacket t id reply)
+reply-fits t id Success = let n = length-success id in (omega arith, omega arith)
+reply-fits t id (Failure e retry) =
     let r = retryDigit retry in
-    let n = length-failure id (textOf e r version) in
-    let m = length-text e r version in
+    let v = version (t .change) in
+    let n = length-failure id (textOf e r v) in
+    let m = length-text e r v in
     (omega arith, omega arith)
 
 -- so it is written whole

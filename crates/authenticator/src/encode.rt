@@ -39,7 +39,8 @@ pub(crate) fn write_reply(terms: Terms, id: u8, reply: Reply, out: &mut [u8]) ->
     ensures { λ r. ⌜ (r ≡ writtenLength (replyPacket terms id reply) (now (out .entry)))
         × (now (out .exit) ≡ writtenOver (replyPacket terms id reply) (now (out .entry))) ⌝ }
 {
-    let v = version(terms.change);
+    let change = terms.change;
+    let v = version(change);
     match reply {
         Reply::Success => packets::write_success(id, out),
         Reply::Failure(reason, retry) => {

@@ -89,7 +89,8 @@ impl Conversation {
         let terms = self.terms;
         let challenge = self.challenge;
         let kept = self.kept;
-        match terms.change {
+        let change = terms.change;
+        match change {
             ChangeVersion::One => {
                 let fields = packets::read_change_one(packet);
                 verify::check_change_one(terms, kept, challenge, fields)

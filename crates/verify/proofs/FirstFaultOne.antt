@@ -65,8 +65,12 @@ module _ (t : Terms) (kept : Entry) (challenge : List ℕ) (f : ChangeOne) where
   lm-faultless : AcceptedLm t kept challenge f → lmFault t kept challenge f ≡ NoFault
   unfolding firstFaultOne
   lm-faultless a =
-      rw (ap not (a .allowed), le-ltb 14 (f .length) (a .atMost14), ap not (a .hasHash),
-      agreed (f .lmold) _ (a .oldHash))
+      rw (
+        ap not (a .allowed),
+        le-ltb 14 (f .length) (a .atMost14),
+        ap not (a .hasHash),
+        agreed (f .lmold) _ (a .oldHash),
+      )
 
   pub accepted-fault-one : AcceptedOne t kept challenge f
       → changeOneFault t kept challenge f ≡ NoFault

@@ -10,7 +10,7 @@ use Rattle.authenticator.proofs.Conversation.answer_with.Tie as tie
 
 returns : tie.Need-returns
 returns c =
-    let a = c .before .args in
+    let a = c .before .before .args in
     let answer : ℕ → LastAnswer =
     λ n. record { present = true; code = n; id = a .self .id; reply = a .reply } in
     ap answer (c .awaited-code .ensures)

@@ -48,6 +48,7 @@ opening c =
       challenge = a .challenge;
       retries = a .retries;
       lm = a .lm;
+      change = a .change;
       limit = a .limit;
       issued = record { buffer = a .list .now; used = a .used; counts = a .counts .now };
       buffer = a .reply .now;
@@ -133,7 +134,7 @@ returns-2 c =
 -- opened
 returns-3 : tie.Need-returns-3
 returns-3 c =
-    let w = c .before .before .before .before .before in
+    let w = c .before .before .before .before .before .before in
     let e = w .before .before in
     let k = e .before .before .before .before .before .before in
     let o = given k in
@@ -154,5 +155,5 @@ open-spec =
     (λ c κs. search needs) (λ c κs. search needs) (λ c κs. search needs) (λ c. search needs) returns
     spend-requires (λ c κs. search needs) (λ c. search needs) (λ c. search needs)
     (λ c. search needs) returns-2 (λ c κs. search needs) (λ c κs. search needs)
-    (λ c κs. search needs) (λ c κs. search needs) (λ c. search needs) (λ c. search needs)
-    (λ c. search needs) returns-3)
+    (λ c κs. search needs) (λ c κs. search needs) (λ c κs. search needs) (λ c. search needs)
+    (λ c. search needs) (λ c. search needs) returns-3)

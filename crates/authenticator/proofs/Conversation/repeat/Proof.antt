@@ -18,10 +18,10 @@ returns : tie.Need-returns
 returns c =
     let e = c .before in
     let w = e .before .before .before in
-    let s = w .before .before .before .before in
+    let s = w .before .before .before .before .before in
     let a = s .args in
     let last = a .self .last in
-    let reply = replyPacket (last .id) (last .reply) in
+    let reply = replyPacket (a .self .terms) (last .id) (last .reply) in
     let answer : ℕ → ℕ → EntryLookup → Stepped =
     λ reason n l. record {
       kind = Repeated reason;
@@ -32,7 +32,7 @@ returns c =
     } in
     let written : w .write-reply .result ≡ length reply =
     w .write-reply .ensures .0
-    ∙ written-whole reply (a .reply .now) (reply-fits (last .id) (last .reply)) (s .pre) in (
+    ∙ written-whole reply (a .reply .now) (reply-fits (a .self .terms) (last .id) (last .reply)) (s .pre) in (
       ap₂ (λ (reason n : ℕ). answer reason n (c .no-entry .result)) (e .reason-of .ensures) written
           ∙ ap (answer (reasonOf (last .reply)) (length reply)) (c .no-entry .ensures),
       w .write-reply .ensures .1,

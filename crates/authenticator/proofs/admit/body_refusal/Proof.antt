@@ -9,7 +9,7 @@ use Rattle.authenticator.proofs.admit.body_refusal.Statement.{statement
 use Rattle.authenticator.proofs.admit.body_refusal.Tie as tie
 
 abbrev refused : tie.Start → Phase → ℕ
-refused s ph = bodyRefusal ph (s .args .packet .now)
+refused s ph = bodyRefusal (s .args .change) ph (s .args .packet .now)
 
 returns : tie.Need-returns
 returns c =
