@@ -3,7 +3,7 @@
 use crate::hashes::{self, Opened as OpenedBlock};
 use crate::issued::{entries_of, Issued};
 use crate::message;
-use crate::packet::{self, ChangeFields, Frame, ResponseFields};
+use crate::packet::{self, Change1Fields, ChangeFields, Frame, ResponseFields};
 use crate::schedules::Schedules;
 use crate::{grown, next_identifier};
 
@@ -57,7 +57,7 @@ impl Account {
 }
 
 /// An account record without its schedules: what is kept for a change, which goes by the octets of
-/// the NT hash alone.
+/// the hashes alone.
 #[derive(Clone, Copy, Debug, Default, PartialEq, Eq)]
 pub struct Entry {
     /// The NT hash, or none.
@@ -98,6 +98,30 @@ impl Entry {
     }
 }
 
+/// The change that a box awaits after 648 (request 2026-07).
+#[derive(Clone, Copy, Debug, PartialEq, Eq)]
+pub enum Change {
+    /// Version 1: code 5, Length 72.
+    One = 1,
+    /// Version 2: code 6, Length 1118.
+    Two = 2,
+}
+
+impl Change {
+    /// The code that is awaited.
+    pub fn code(self) -> u8 {
+        match self {
+            Change::One => packet::CHANGE_1,
+            Change::Two => packet::CHANGE,
+        }
+    }
+
+    /// V in each Failure: "A box opened for it writes V=1 in its messages".
+    pub fn version(self) -> u8 {
+        self as u8
+    }
+}
+
 /// What a conversation awaits.
 #[derive(Clone, Copy, Debug, PartialEq, Eq)]
 pub enum Phase {
@@ -128,9 +152,11 @@ impl Reply {
         Reply::of(&packet::success(id))
     }
 
-    /// A Failure with a reason, of three digits as all are, and whether a retry is allowed.
-    pub fn failure(id: u8, reason: u16, retry: bool) -> Reply {
-        Reply::of(&packet::failure(id, reason, u8::from(retry), VERSION))
+    /// A Failure of a box that awaits one change or the other, with a reason, of three digits as
+    /// all are, and whether a retry is allowed.
+    pub fn failure(id: u8, reason: u16, retry: bool, change: Change) -> Reply {
+        let version = change.version();
+        Reply::of(&packet::failure(id, reason, u8::from(retry), version))
     }
 
     /// What is sent.
@@ -169,19 +195,22 @@ pub struct Conversation {
     pub lm: bool,
     /// How many invalid Responses in a row lock an account: from 1 to 255, but in [`REFUSED`] 0.
     pub limit: u8,
+    /// The change that it was opened for.
+    pub change: Change,
     /// What is awaited.
     pub phase: Phase,
     /// The last answer, or none before the first.
     pub last: Option<Last>,
 }
 
-/// The conversation that a refused opening gives.
+/// The conversation that a refused opening gives, whatever change it named.
 pub const REFUSED: Conversation = Conversation {
     id: 0,
     challenge: [0; 8],
     retries: 0,
     lm: false,
     limit: 0,
+    change: DEFAULT_CHANGE,
     phase: Phase::Ended,
     last: None,
 };
@@ -190,10 +219,21 @@ pub const REFUSED: Conversation = Conversation {
 pub const DEFAULT_RETRIES: u8 = 2;
 /// Whether LM is allowed by an opening that is silent about it (request 2026-06).
 pub const DEFAULT_LM: bool = false;
+/// The change of an opening that is silent about it: the one that there was before request 2026-07.
+pub const DEFAULT_CHANGE: Change = Change::Two;
 /// The most retries an opening may name.
 pub const MOST_RETRIES: u8 = 7;
-/// The change version told in each Failure.
-pub const VERSION: u8 = 2;
+
+/// What an opening may name; with `None` it is silent about it.
+#[derive(Clone, Copy, Debug, Default, PartialEq, Eq)]
+pub struct Terms {
+    /// Retries.
+    pub retries: Option<u8>,
+    /// Whether LM is allowed.
+    pub lm: Option<bool>,
+    /// The change that is awaited after 648.
+    pub change: Option<Change>,
+}
 
 /// What an opening gives.
 #[derive(Clone, Copy, Debug, PartialEq, Eq)]
@@ -206,9 +246,10 @@ pub struct Opening {
     pub conversation: Conversation,
 }
 
-/// What is wrong with a change that draws 709 (request 2026-04): "the first that holds of: no NT
-/// hash, bit 0 clear, over 512, odd, old hash wrong, response wrong". The numbers are the places in
-/// that sentence.
+/// What is wrong with a change that draws 709. Of version 2 (request 2026-04): "the first that holds
+/// of: no NT hash, bit 0 clear, over 512, odd, old hash wrong, response wrong"; of version 1 (request
+/// 2026-07): "the first of LM not allowed and over 14 (these for bit 0 clear only), hash absent, old
+/// hash wrong". The numbers are the places in these sentences, one behind the other.
 #[derive(Clone, Copy, Debug, PartialEq, Eq)]
 pub enum Fault {
     /// The kept record has no NT hash.
@@ -223,6 +264,15 @@ pub enum Fault {
     OldHash = 5,
     /// The new hash's response to the challenge in force is another than the one sent.
     Response = 6,
+    /// Version 1, bit 0 clear: LM is not allowed.
+    LmNotAllowed = 7,
+    /// Version 1, bit 0 clear: the password length is over 14.
+    OverFourteen = 8,
+    /// Version 1: the kept record has not the hash that counts: the NT hash with bit 0 set, the LM
+    /// hash with it clear.
+    HashAbsent = 9,
+    /// Version 1: that hash under the challenge in force is another than the one sent.
+    OldUnderChallenge = 10,
 }
 
 impl Fault {
@@ -254,19 +304,17 @@ pub struct Answer {
     pub record: Option<Account>,
 }
 
-/// Opens a conversation, spends its challenge and writes it. `None` for `retries` or `lm` is an
-/// opening silent about it; `limit` is always named. A refused opening leaves all that it was lent
-/// as it was.
+/// Opens a conversation, spends its challenge and writes it. The limit is always named. A refused
+/// opening leaves all that it was lent as it was.
 pub fn open(
     id: u8,
     challenge: &[u8; 8],
-    retries: Option<u8>,
-    lm: Option<bool>,
+    terms: &Terms,
     limit: u8,
     issued: &mut Issued<'_>,
     buffer: &mut [u8],
 ) -> Opening {
-    let retries = retries.unwrap_or(DEFAULT_RETRIES);
+    let retries = terms.retries.unwrap_or(DEFAULT_RETRIES);
     match refuse_or_spend(challenge, retries, limit, issued, buffer.len()) {
         Err(refusal) => Opening {
             refusal,
@@ -280,8 +328,9 @@ pub fn open(
                 id,
                 challenge: *challenge,
                 retries,
-                lm: lm.unwrap_or(DEFAULT_LM),
+                lm: terms.lm.unwrap_or(DEFAULT_LM),
                 limit,
+                change: terms.change.unwrap_or(DEFAULT_CHANGE),
                 phase: Phase::Response,
                 last: None,
             },
@@ -360,7 +409,7 @@ pub fn step(
             let id = conversation.id;
             let reply = match judgement.reason {
                 0 => Reply::success(id),
-                reason => Reply::failure(id, reason, judgement.retry),
+                reason => Reply::failure(id, reason, judgement.retry, conversation.change),
             };
             let last = Some(Last {
                 code: packet[0],
@@ -411,7 +460,7 @@ fn judge(
 ) -> Result<Judgement, u8> {
     let awaited = match conversation.phase {
         Phase::Response => packet::RESPONSE,
-        Phase::Change(_) => packet::CHANGE,
+        Phase::Change(_) => conversation.change.code(),
         Phase::Ended => return Err(1),
     };
     if frame.code != awaited {
@@ -426,11 +475,13 @@ fn judge(
             &packet::read_response(frame)?,
             record,
         )),
-        Phase::Change(kept) => Ok(judge_change(
-            conversation,
-            &packet::read_change(frame)?,
-            &kept,
-        )),
+        Phase::Change(kept) => {
+            let new = match conversation.change {
+                Change::One => checked_1(conversation, &packet::read_change_1(frame)?, &kept),
+                Change::Two => checked(conversation, &packet::read_change(frame)?, &kept),
+            };
+            Ok(judge_change(conversation, new, &kept))
+        }
         Phase::Ended => Err(1),
     }
 }
@@ -537,18 +588,28 @@ fn valid(conversation: &Conversation, fields: &ResponseFields<'_>, account: &Acc
     }
 }
 
-fn judge_change(conversation: &Conversation, fields: &ChangeFields, kept: &Entry) -> Judgement {
-    let (reason, fault, record) = match checked(conversation, fields, kept) {
+/// The hashes that an accepted change leaves in the record.
+struct NewHashes {
+    nt: Option<[u8; 16]>,
+    lm: Option<[u8; 16]>,
+}
+
+fn judge_change(
+    conversation: &Conversation,
+    new: Result<NewHashes, Fault>,
+    kept: &Entry,
+) -> Judgement {
+    let (reason, fault, record) = match new {
         Err(fault) => (709, Some(fault), None),
-        Ok(hash) => {
+        Ok(NewHashes { nt, lm }) => {
             let record = Entry {
-                nt: Some(hash),
-                lm: None,
+                nt,
+                lm,
                 expired: false,
                 failures: 0,
                 ..*kept
             };
-            // The hash is a new one, and so are the schedules: its own.
+            // The hashes are new ones, and so are the schedules: their own.
             (0, None, Some(record.keyed()))
         }
     };
@@ -561,14 +622,14 @@ fn judge_change(conversation: &Conversation, fields: &ChangeFields, kept: &Entry
     }
 }
 
-/// The new NT hash of a change that is accepted, or what is wrong with it: each is asked in the
+/// The hashes of a version 2 change that is accepted, or what is wrong with it: each is asked in the
 /// order of [`Fault`], so that the first is told. The old hash is that of the kept record, octet by
 /// octet, and the new response that of the new hash: no schedules that were lent have an effect.
 fn checked(
     conversation: &Conversation,
     fields: &ChangeFields,
     kept: &Entry,
-) -> Result<[u8; 16], Fault> {
+) -> Result<NewHashes, Fault> {
     let old_hash = kept.nt.ok_or(Fault::NoNtHash)?;
     if fields.flags & 1 == 0 {
         return Err(Fault::BitClear);
@@ -587,5 +648,38 @@ fn checked(
     if fields.nt_response != hashes::challenge_response(&new_hash, &conversation.challenge) {
         return Err(Fault::Response);
     }
-    Ok(new_hash)
+    Ok(NewHashes {
+        nt: Some(new_hash),
+        lm: None,
+    })
+}
+
+/// The same for version 1. "the new LM hash if the password length is at most 14": with bit 0 set
+/// whether LM is allowed or not, and whether the record had an LM hash or not.
+fn checked_1(
+    conversation: &Conversation,
+    fields: &Change1Fields,
+    kept: &Entry,
+) -> Result<NewHashes, Fault> {
+    let key = &conversation.challenge;
+    let bit_0 = fields.flags & 1 == 1;
+    let short = usize::from(fields.length) <= hashes::LM_LIMIT;
+    if !bit_0 && !conversation.lm {
+        return Err(Fault::LmNotAllowed);
+    }
+    if !bit_0 && !short {
+        return Err(Fault::OverFourteen);
+    }
+    let (old_hash, sent) = match bit_0 {
+        true => (kept.nt, fields.nt_old),
+        false => (kept.lm, fields.lm_old),
+    };
+    let old_hash = old_hash.ok_or(Fault::HashAbsent)?;
+    if sent != hashes::under_challenge(&old_hash, key) {
+        return Err(Fault::OldUnderChallenge);
+    }
+    Ok(NewHashes {
+        nt: bit_0.then(|| hashes::from_challenge(&fields.nt_new, key)),
+        lm: short.then(|| hashes::from_challenge(&fields.lm_new, key)),
+    })
 }

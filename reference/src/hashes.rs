@@ -1,5 +1,5 @@
-//! The password hashes, the challenge response and the two parts of a change (RFC 2433,
-//! appendix A).
+//! The password hashes, the challenge response, the two parts of a version 2 change and the fields
+//! of a version 1 change (RFC 2433, appendix A).
 
 use crate::des;
 use crate::md4;
@@ -104,6 +104,25 @@ pub fn old_under_new(old_hash: &[u8; 16], new_hash: &[u8; 16]) -> [u8; 16] {
     let mut out = [0u8; 16];
     out[..8].copy_from_slice(&des::encrypt(&part(new_hash, 0), &part(old_hash, 0)));
     out[8..].copy_from_slice(&des::encrypt(&part(new_hash, 7), &part(old_hash, 8)));
+    out
+}
+
+/// A.9, as A.8 and A.10 have it for the hashes of a version 1 change: both halves of the hash under
+/// the challenge's first seven octets.
+pub fn under_challenge(hash: &[u8; 16], challenge: &[u8; 8]) -> [u8; 16] {
+    halves(hash, |half| des::encrypt(&part(challenge, 0), half))
+}
+
+/// The hash that [`under_challenge`] made a field of.
+pub fn from_challenge(field: &[u8; 16], challenge: &[u8; 8]) -> [u8; 16] {
+    halves(field, |half| des::decrypt(&part(challenge, 0), half))
+}
+
+/// What comes of the first eight octets, then what comes of the second eight.
+fn halves(octets: &[u8; 16], each: impl Fn(&[u8; 8]) -> [u8; 8]) -> [u8; 16] {
+    let mut out = [0u8; 16];
+    out[..8].copy_from_slice(&each(&part(octets, 0)));
+    out[8..].copy_from_slice(&each(&part(octets, 8)));
     out
 }
 

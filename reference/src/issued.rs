@@ -97,7 +97,7 @@ pub fn entries_of(challenge: &Entry, retries: u8) -> Vec<Entry> {
 #[cfg(test)]
 mod tests {
     use super::*;
-    use crate::authenticator::{self, Phase, REFUSED};
+    use crate::authenticator::{self, Phase, Terms, REFUSED};
 
     const C: Entry = [1, 2, 3, 4, 5, 6, 7, 8];
     const OTHER: Entry = [0x11, 0x12, 0x13, 0x14, 0x15, 0x16, 0x17, 0x18];
@@ -139,8 +139,11 @@ mod tests {
                 used: self.used,
                 counts: &mut self.counts,
             };
-            let opening =
-                authenticator::open(9, challenge, retries, None, 255, &mut issued, &mut reply);
+            let terms = Terms {
+                retries,
+                ..Terms::default()
+            };
+            let opening = authenticator::open(9, challenge, &terms, 255, &mut issued, &mut reply);
             self.used = issued.used;
             if opening.refusal > 0 {
                 assert_eq!(*self, before);

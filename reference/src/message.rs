@@ -23,7 +23,7 @@ pub enum Call {
     Retry,
     /// A version 2 change: 648 and V of at least 2.
     Change2,
-    /// A version 1 change: 648 and V below 2; nothing is sent.
+    /// A version 1 change: 648 and V below 2.
     Change1,
     /// Nothing more.
     End,

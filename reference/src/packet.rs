@@ -1,4 +1,4 @@
-//! The packet frame (RFC 1994) and the five packets: readers and writers of their fields.
+//! The packet frame (RFC 1994) and the six packets: readers and writers of their fields.
 
 /// Code of a Challenge.
 pub const CHALLENGE: u8 = 1;
@@ -8,11 +8,15 @@ pub const RESPONSE: u8 = 2;
 pub const SUCCESS: u8 = 3;
 /// Code of a Failure.
 pub const FAILURE: u8 = 4;
+/// Code of a Change Password packet, version 1.
+pub const CHANGE_1: u8 = 5;
 /// Code of a Change Password packet, version 2.
 pub const CHANGE: u8 = 6;
 
 /// Length of a Failure that the box writes; the least reply buffer.
 pub const FAILURE_LENGTH: usize = 17;
+/// Length of a Change Password packet, version 1.
+pub const CHANGE_1_LENGTH: usize = 72;
 /// Length of a Change Password packet, version 2.
 pub const CHANGE_LENGTH: usize = 1118;
 
@@ -114,7 +118,7 @@ pub struct ChangeFields {
     pub flags: u16,
 }
 
-/// Reads the data of a change: refusal 6 for the Length, then 7 for flag bits 2 to 15.
+/// Reads the data of a version 2 change: refusal 6 for the Length, then 7 for flag bits 2 to 15.
 pub fn read_change(frame: &Frame<'_>) -> Result<ChangeFields, u8> {
     if frame.length() != CHANGE_LENGTH {
         return Err(6);
@@ -131,6 +135,43 @@ pub fn read_change(frame: &Frame<'_>) -> Result<ChangeFields, u8> {
         lm_old_under_new: field(data, 1048),
         lm_response: field(data, 1064),
         nt_response: field(data, 1088),
+        flags,
+    })
+}
+
+/// The fields of a version 1 change (RFC 2433, section 9), in the order of its list.
+#[derive(Clone, Copy, Debug, PartialEq, Eq)]
+pub struct Change1Fields {
+    /// The old LAN Manager hash under the challenge.
+    pub lm_old: [u8; 16],
+    /// The new LAN Manager hash under the challenge.
+    pub lm_new: [u8; 16],
+    /// The old NT hash under the challenge.
+    pub nt_old: [u8; 16],
+    /// The new NT hash under the challenge.
+    pub nt_new: [u8; 16],
+    /// The length of the new password in its LAN Manager form.
+    pub length: u16,
+    /// The flags, as a number.
+    pub flags: u16,
+}
+
+/// Reads the data of a version 1 change: refusal 6 for the Length, then 7 for flag bits 1 to 15.
+pub fn read_change_1(frame: &Frame<'_>) -> Result<Change1Fields, u8> {
+    if frame.length() != CHANGE_1_LENGTH {
+        return Err(6);
+    }
+    let data = frame.data;
+    let flags = u16::from_be_bytes(field(data, 66));
+    if flags / 2 != 0 {
+        return Err(7);
+    }
+    Ok(Change1Fields {
+        lm_old: field(data, 0),
+        lm_new: field(data, 16),
+        nt_old: field(data, 32),
+        nt_new: field(data, 48),
+        length: u16::from_be_bytes(field(data, 64)),
         flags,
     })
 }
@@ -182,6 +223,17 @@ pub fn change(id: u8, fields: &ChangeFields) -> Vec<u8> {
     data.extend_from_slice(&fields.nt_response);
     data.extend_from_slice(&fields.flags.to_be_bytes());
     framed(CHANGE, id, &data)
+}
+
+/// A version 1 change: "the length is written as the flags are", most significant octet first.
+pub fn change_1(id: u8, fields: &Change1Fields) -> Vec<u8> {
+    let mut data = Vec::new();
+    for hash in [fields.lm_old, fields.lm_new, fields.nt_old, fields.nt_new] {
+        data.extend_from_slice(&hash);
+    }
+    data.extend_from_slice(&fields.length.to_be_bytes());
+    data.extend_from_slice(&fields.flags.to_be_bytes());
+    framed(CHANGE_1, id, &data)
 }
 
 /// The name of a packet that by itself passes the checks of 3, 4 (code 2 awaited), 6 and 7.

@@ -2,7 +2,7 @@
 
 use crate::hashes;
 use crate::message::{self, Call, Fields};
-use crate::packet::{self, ChangeFields};
+use crate::packet::{self, Change1Fields, ChangeFields};
 use crate::{grown, next_identifier};
 
 /// An identifier and a challenge: those of the peer's last packet and last Response, or those
@@ -69,11 +69,11 @@ pub fn next_turn(last: &Turn, reading: &Result<Verdict, u8>) -> Turn {
             id: next_identifier(last.id),
             challenge: fields.c.unwrap_or_else(|| grown(&last.challenge)),
         },
-        Call::Change2 => Turn {
+        Call::Change1 | Call::Change2 => Turn {
             id: next_identifier(last.id),
             challenge: last.challenge,
         },
-        Call::Change1 | Call::End => *last,
+        Call::End => *last,
     }
 }
 
@@ -91,6 +91,11 @@ pub fn write_change(
     buffer: &mut [u8],
 ) -> Written {
     written(change_packet(turn, old, new, filler), buffer)
+}
+
+/// Writes a version 1 change: refusal 8 for either password, then 9.
+pub fn write_change_1(turn: &Turn, old: &[u8], new: &[u8], buffer: &mut [u8]) -> Written {
+    written(change_1_packet(turn, old, new), buffer)
 }
 
 fn response_packet(turn: &Turn, password: &[u8], name: &[u8]) -> Result<Vec<u8>, u8> {
@@ -115,6 +120,21 @@ fn change_packet(turn: &Turn, old: &[u8], new: &[u8], filler: &[u8]) -> Result<V
         flags: 1,
     };
     Ok(packet::change(turn.id, &fields))
+}
+
+/// "with bit 0 set, LM fields zero and length 65535".
+fn change_1_packet(turn: &Turn, old: &[u8], new: &[u8]) -> Result<Vec<u8>, u8> {
+    let old_hash = hashes::nt_hash(old)?;
+    let new_hash = hashes::nt_hash(new)?;
+    let fields = Change1Fields {
+        lm_old: [0; 16],
+        lm_new: [0; 16],
+        nt_old: hashes::under_challenge(&old_hash, &turn.challenge),
+        nt_new: hashes::under_challenge(&new_hash, &turn.challenge),
+        length: 65_535,
+        flags: 1,
+    };
+    Ok(packet::change_1(turn.id, &fields))
 }
 
 /// Refusal 9 for a buffer smaller than the packet; else the packet at its front.

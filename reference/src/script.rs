@@ -1,6 +1,8 @@
 //! The command interpreter. Each line of the input gives one line of the output.
 
-use crate::authenticator::{self, Account, Conversation, Entry, Fault, Last, Phase};
+use crate::authenticator::{
+    self, Account, Change, Conversation, Entry, Fault, Last, Phase, Terms,
+};
 use crate::hashes;
 use crate::issued::{self, Issued};
 use crate::message::{self, Call, Fields};
@@ -37,6 +39,7 @@ pub struct Session {
     account: Option<Account>,
     handed_out: Option<Account>,
     limit: u8,
+    change: Option<Change>,
     list: List,
 }
 
@@ -75,7 +78,7 @@ type Outcome = Option<String>;
 
 impl Session {
     /// The state at the start: commands, no account, the conversation of a refused opening, the
-    /// greatest limit, and an empty list.
+    /// greatest limit, silent about the change, and an empty list.
     pub fn new() -> Session {
         Session {
             section: Section::Cases,
@@ -83,6 +86,7 @@ impl Session {
             account: None,
             handed_out: None,
             limit: FIRST_LIMIT,
+            change: None,
             list: List::empty(FIRST_PLACES),
         }
     }
@@ -188,6 +192,12 @@ impl Session {
                 }
             },
             ["oldnew", old, new] => hex(&hashes::old_under_new(&fixed(old)?, &fixed(new)?)),
+            ["underchallenge", hash, challenge] => {
+                hex(&hashes::under_challenge(&fixed(hash)?, &fixed(challenge)?))
+            }
+            ["fromchallenge", field, challenge] => {
+                hex(&hashes::from_challenge(&fixed(field)?, &fixed(challenge)?))
+            }
             ["name", packet, home] => {
                 let (packet, home) = (octets(packet)?, octets(home)?);
                 format!(
@@ -213,6 +223,15 @@ impl Session {
             }
             ["limit", limit] => {
                 self.limit = octet(limit)?;
+                return Some(None);
+            }
+            ["changeversion", version] => {
+                self.change = match version {
+                    "-" => None,
+                    "1" => Some(Change::One),
+                    "2" => Some(Change::Two),
+                    _ => return None,
+                };
                 return Some(None);
             }
             ["list", buffer, used, counts] => {
@@ -274,6 +293,16 @@ impl Session {
                 );
                 show_written(&answer, &buffer)
             }
+            ["writechange1", id, challenge, old, new, buffer] => {
+                let mut buffer = octets(buffer)?;
+                let answer = peer::write_change_1(
+                    &turn(id, challenge)?,
+                    &octets(old)?,
+                    &octets(new)?,
+                    &mut buffer,
+                );
+                show_written(&answer, &buffer)
+            }
             _ => return None,
         };
         Some(Some(result))
@@ -299,6 +328,11 @@ impl Session {
             "no" => Some(false),
             _ => return None,
         };
+        let terms = Terms {
+            retries,
+            lm,
+            change: self.change,
+        };
         let mut buffer = octets(buffer)?;
         let mut issued = Issued {
             list: &mut self.list.buffer,
@@ -308,8 +342,7 @@ impl Session {
         let opening = authenticator::open(
             id,
             &challenge,
-            retries,
-            lm,
+            &terms,
             self.limit,
             &mut issued,
             &mut buffer,
@@ -466,8 +499,12 @@ fn show_conversation(conversation: &Conversation) -> String {
         Phase::Change(kept) => ("change", show_entry(kept)),
         Phase::Ended => ("ended", "-".to_string()),
     };
+    let version = match conversation.change {
+        Change::One => "/1",
+        Change::Two => "",
+    };
     format!(
-        "{} {} {} {} {} {} {} {}",
+        "{} {} {} {} {}{version} {} {} {}",
         conversation.id,
         hex(&conversation.challenge),
         conversation.retries,

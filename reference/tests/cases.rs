@@ -2,7 +2,7 @@
 //! print. The text is compared with the stored file, which both programs run;
 //! `WRITE_CASES=1 cargo test --release --offline --test cases` writes that file anew.
 
-use reference::authenticator::{Account, Entry, Fault, Phase};
+use reference::authenticator::{Account, Change, Entry, Fault, Phase};
 use reference::hashes;
 use reference::packet::{self, ChangeFields};
 use reference::peer::{self, Turn};
@@ -184,6 +184,8 @@ struct Sheet {
     session: Session,
     /// The limit of the openings, 255 at the start.
     limit: u8,
+    /// The change of the openings, version 2 at the start.
+    change: Change,
     /// The steps so far that drew a reply which is no repeat.
     judged: usize,
 }
@@ -194,6 +196,7 @@ impl Sheet {
             text: String::new(),
             session: Session::new(),
             limit: 255,
+            change: Change::Two,
             judged: 0,
         }
     }
@@ -253,6 +256,33 @@ impl Sheet {
         self.limit = limit;
     }
 
+    /// The change that openings choose; silent about it where none is named.
+    fn change_version(&mut self, version: &str) {
+        self.is(&format!("changeversion {version}"), "");
+        self.change = match version {
+            "1" => Change::One,
+            _ => Change::Two,
+        };
+    }
+
+    /// The limit as it is printed in a conversation: with `/1` where version 1's change is awaited.
+    fn printed_limit(&self) -> String {
+        let version = match self.change {
+            Change::One => "/1",
+            Change::Two => "",
+        };
+        format!("{}{version}", self.limit)
+    }
+
+    /// A Failure's message.
+    fn message(&self, reason: &str, r: u8) -> String {
+        let v = match self.session.conversation().change {
+            Change::One => 1,
+            Change::Two => 2,
+        };
+        text(&format!("E={reason} R={r} V={v}"))
+    }
+
     /// An empty list, long enough for any opening.
     fn places(&mut self) {
         self.is("places 8", "");
@@ -268,7 +298,7 @@ impl Sheet {
             result,
             format!(
                 "0 13 {buffer} {id} {challenge} {retries} {allowed} {} response - - {}",
-                self.limit,
+                self.printed_limit(),
                 spent(challenge, retries.parse().unwrap())
             )
         );
@@ -297,13 +327,14 @@ impl Sheet {
             resp(7, Z24, NR, 1, b"u")
         };
         let answer = self.step(&packet, B);
-        assert_eq!(hex(answer.reply()), format!("04070011{E648}"));
+        let message = self.message("648", 0);
+        assert_eq!(hex(answer.reply()), format!("04070011{message}"));
         assert_eq!(
             answer.conversation,
             format!(
                 "8 {CHX} 2 {} {} change {nt}/{lm}/0001/0",
                 if choice == "yes" { "yes" } else { "no" },
-                self.limit
+                self.printed_limit()
             )
         );
     }
@@ -316,7 +347,10 @@ impl Sheet {
         // What is awaited is never what was answered last, so that no repeat is taken for a try.
         let awaited = match words[11] {
             "response" => format!("2:{}:", words[6]),
-            "change" => format!("6:{}:", words[6]),
+            "change" => {
+                let code = self.session.conversation().change.code();
+                format!("{code}:{}:", words[6])
+            }
             _ => String::from("none"),
         };
         assert!(!words[13].starts_with(&awaited), "{result}");
@@ -334,7 +368,7 @@ impl Sheet {
                 let keys = handed.map(|record| (record.nt_keys, record.lm_keys));
                 assert_eq!(keys, Some((lent.nt_keys, lent.lm_keys)), "{result}");
             }
-            (true, Some(6), _) => {
+            (true, Some(5 | 6), _) => {
                 assert_eq!(record == "-", words[1] == "709", "{result}");
                 assert_eq!(handed, handed.map(Account::keyed), "{result}");
             }
@@ -407,7 +441,7 @@ impl Sheet {
 
     fn failed(&mut self, packet: &[u8], reason: &str, r: u8) -> Stepped {
         let answer = self.step(packet, B);
-        let message = text(&format!("E={reason} R={r} V=2"));
+        let message = self.message(reason, r);
         assert_eq!(
             (answer.refusal.as_str(), answer.reason.as_str()),
             ("0", reason),
@@ -434,7 +468,7 @@ impl Sheet {
         assert_eq!(answer.fault, (fault as u8).to_string(), "{}", hex(packet));
         assert_eq!(
             hex(answer.reply()),
-            format!("04{:02X}0011{E709}", packet[1])
+            format!("04{:02X}0011{}", packet[1], self.message("709", 0))
         );
         assert!(answer.conversation.ends_with(" ended -"));
         answer
@@ -1648,21 +1682,22 @@ fn turns(s: &mut Sheet) {
         &format!("turn 255 {CHX} {}", failure(255, "E=648 R=0 V=2")),
         &format!("0 {CHX}"),
     );
-    s.title("no next turn: success, end, version 1 change, refusals 3, 5, 11");
+    s.title("no next turn: success, end, refusals 3, 5, 11; CR07-12: one for a version 1 change");
     let same = format!("7 {CHX}");
-    for packet in [
-        "03070004".to_string(),
-        failure(7, "E=691 R=0 V=2"),
-        failure(7, "E=646 R=1 C=0123456789ABCDEF"),
-        failure(7, "E=648 R=1 V=1 C=0123456789ABCDEF"),
-        failure(7, "E=648"),
-        failure(7, "R=1 V=2"),
-        failure(8, e691),
-        "0407".to_string(),
-        "-".to_string(),
-        format!("0107000D08{CHX}"),
+    let next = format!("8 {CHX}");
+    for (packet, turn) in [
+        ("03070004".to_string(), &same),
+        (failure(7, "E=691 R=0 V=2"), &same),
+        (failure(7, "E=646 R=1 C=0123456789ABCDEF"), &same),
+        (failure(7, "E=648 R=1 V=1 C=0123456789ABCDEF"), &next),
+        (failure(7, "E=648"), &next),
+        (failure(7, "R=1 V=2"), &same),
+        (failure(8, e691), &same),
+        ("0407".to_string(), &same),
+        ("-".to_string(), &same),
+        (format!("0107000D08{CHX}"), &same),
     ] {
-        s.is(&format!("turn 7 {CHX} {packet}"), &same);
+        s.is(&format!("turn 7 {CHX} {packet}"), turn);
     }
 }
 
@@ -4293,6 +4328,20 @@ fn malformed_lines() {
         "turn 9 00 00",
         "writeresponse 7 00*8 - 75",
         "writechange 7 00*8 - - 00*512",
+        "writechange1 7 00*8 - -",
+        "writechange1 7 00*7 - - AA*72",
+        "writechange1 256 00*8 - - AA*72",
+        "writechange1 7 00*8 - - 00*512 AA*72",
+        "changeversion",
+        "changeversion 0",
+        "changeversion 3",
+        "changeversion 01",
+        "changeversion 1 1",
+        "underchallenge 00*16",
+        "underchallenge 00*15 00*8",
+        "underchallenge 00*16 00*7",
+        "fromchallenge 00*17 00*8",
+        "fromchallenge 00*16 00*9",
         ":unknown",
         "MD4 00",
         " md4 00",
@@ -4322,6 +4371,7 @@ fn conversations_made_by_hand() {
         retries: 200,
         lm: true,
         limit: 3,
+        change: Change::Two,
         phase: Phase::Change(kept),
         last: None,
     };

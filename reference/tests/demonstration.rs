@@ -4,7 +4,9 @@
 //! each 709 stands what is wrong with the change, and `docs/SLIPS.md` shows no octets that no
 //! program has written.
 
-use reference::authenticator::{open, step, Account, Answer, Conversation, Entry, Fault, Phase};
+use reference::authenticator::{
+    open, step, Account, Answer, Change, Conversation, Entry, Fault, Phase, Terms,
+};
 use reference::hashes::{challenge_response, lm_hash, nt_hash};
 use reference::issued::Issued;
 use reference::peer::{write_change, Turn};
@@ -179,8 +181,11 @@ fn lm_is_judged_where_the_box_was_asked_for_it() {
         let opening = open(
             packet[1],
             &challenge,
-            Some(0),
-            asked,
+            &Terms {
+                retries: Some(0),
+                lm: asked,
+                change: None,
+            },
             255,
             &mut issued,
             &mut reply,
@@ -233,8 +238,10 @@ fn the_count_goes_from_call_to_call() {
             let opening = open(
                 packet[1],
                 &eight(&packet[5..13]),
-                Some(retries),
-                None,
+                &Terms {
+                    retries: Some(retries),
+                    ..Terms::default()
+                },
                 3,
                 &mut issued,
                 &mut [0; 17],
@@ -327,6 +334,7 @@ fn answered(packet: &[u8], challenge: [u8; 8]) -> Answer {
         retries: 2,
         lm: false,
         limit: 255,
+        change: Change::Two,
         phase: Phase::Change(kept),
         last: None,
     };

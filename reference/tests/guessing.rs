@@ -3,7 +3,7 @@
 //! which every Response is judged invalid.
 
 use reference::authenticator::{
-    open, step, Account, Answer, Conversation, Opening, Phase, REFUSED,
+    open, step, Account, Answer, Conversation, Opening, Phase, Terms, REFUSED,
 };
 use reference::issued::Issued;
 use reference::peer::{self, Turn, Verdict};
@@ -106,15 +106,12 @@ fn opening(id: u8, challenge: &[u8; 8], r: u8, lm: bool, limit: u8) -> Opening {
         used: 0,
         counts: &mut [0; 256],
     };
-    open(
-        id,
-        challenge,
-        Some(r),
-        Some(lm),
-        limit,
-        &mut issued,
-        &mut [0xAA; 17],
-    )
+    let terms = Terms {
+        retries: Some(r),
+        lm: Some(lm),
+        change: None,
+    };
+    open(id, challenge, &terms, limit, &mut issued, &mut [0xAA; 17])
 }
 
 /// A box opened with identifier 7 and CH.
@@ -479,7 +476,11 @@ fn cr09_11() {
                 counts: &mut later,
             };
             let mut reply = vec![0xAA; room];
-            let opening = open(7, &CH, Some(r), None, limit, &mut issued, &mut reply);
+            let terms = Terms {
+                retries: Some(r),
+                ..Terms::default()
+            };
+            let opening = open(7, &CH, &terms, limit, &mut issued, &mut reply);
             assert_eq!(opening.refusal, refusal);
             if refusal > 0 {
                 assert_eq!((opening.written, opening.conversation), (0, REFUSED));

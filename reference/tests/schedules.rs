@@ -1,7 +1,7 @@
 //! Change request 2026-10: each row of the list of rules with its values, and what holds of any run
 //! of conversations with one account whose record carries any schedules.
 
-use reference::authenticator::{step, Account, Answer, Conversation, Entry, Fault, Phase};
+use reference::authenticator::{step, Account, Answer, Change, Conversation, Entry, Fault, Phase};
 use reference::hashes::{self, challenge_response};
 use reference::packet;
 use reference::peer::{self, Turn};
@@ -36,6 +36,7 @@ fn boxed(lm: bool) -> Conversation {
         retries: 2,
         lm,
         limit: 10,
+        change: Change::Two,
         phase: Phase::Response,
         last: None,
     }

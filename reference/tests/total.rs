@@ -1,7 +1,9 @@
 //! Every input draws an answer or a numbered refusal; a refusal changes nothing. The inputs come
 //! from a fixed generator, so each run is the same.
 
-use reference::authenticator::{self, Account, Conversation, Entry, Fault, Last, Phase, Reply};
+use reference::authenticator::{
+    self, Account, Change, Conversation, Entry, Fault, Last, Phase, Reply, Terms,
+};
 use reference::issued::Issued;
 use reference::peer::{self, Turn, Verdict};
 use reference::rc4::rc4;
@@ -40,13 +42,14 @@ impl Random {
 /// A packet near to a right one.
 fn packet_near(random: &mut Random, id: u8) -> Vec<u8> {
     let size = [
-        0, 1, 3, 4, 5, 13, 17, 54, 55, 56, 310, 311, 1117, 1118, 1119,
-    ][random.below(15)];
+        0, 1, 3, 4, 5, 13, 17, 54, 55, 56, 71, 72, 73, 310, 311, 1117, 1118, 1119,
+    ][random.below(18)];
     let mut packet = random.octets(size);
     if size >= 4 && random.below(8) > 0 {
         packet[0] = match (random.below(4), size) {
             (0, _) => random.below(8) as u8,
             (_, 1117..) => 6,
+            (_, 71..=73) => 5,
             (_, 54..) => 2,
             _ => 1,
         };
@@ -58,7 +61,10 @@ fn packet_near(random: &mut Random, id: u8) -> Vec<u8> {
         };
         packet[2..4].copy_from_slice(&(length as u16).to_be_bytes());
     }
-    if size > 54 && random.below(8) > 0 {
+    if (72..=73).contains(&size) && random.below(8) > 0 {
+        packet[70] = 0;
+        packet[71] = random.below(3) as u8;
+    } else if size > 54 && random.below(8) > 0 {
         packet[4] = 49;
         packet[53] = random.below(3) as u8;
     }
@@ -77,17 +83,20 @@ fn near_octet(random: &mut Random) -> u8 {
 
 /// A last answer, or none. Its identifier is mostly the one before the awaited one, and sometimes
 /// the awaited one, as no conversation has it that an opening and steps made.
-fn last_near(random: &mut Random, id: u8) -> Option<Last> {
+fn last_near(random: &mut Random, id: u8, change: Change) -> Option<Last> {
     if random.below(4) == 0 {
         return None;
     }
     let id = id.wrapping_sub([0, 1, 1, 1][random.below(4)]);
     let reply = match random.below(8) {
         0 => Reply::success(id),
-        n => Reply::failure(id, [691, 646, 647, 648, 649, 709, 691][n - 1], n == 1),
+        n => {
+            let reason = [691, 646, 647, 648, 649, 709, 691][n - 1];
+            Reply::failure(id, reason, n == 1, change)
+        }
     };
     Some(Last {
-        code: [2, 2, 6, 0][random.below(4)],
+        code: [2, 2, change.code(), 0][random.below(4)],
         id,
         reply,
     })
@@ -118,6 +127,7 @@ fn steps() {
     let mut random = Random(1);
     let mut drawn = [0; 8];
     let (mut judged, mut between, mut ended) = (0, 0, 0);
+    let mut judged_in = [0; 7];
     for _ in 0..60_000 {
         let account = Account {
             nt: (random.below(4) > 0).then(|| random.array()),
@@ -141,11 +151,12 @@ fn steps() {
             retries: random.below(9) as u8,
             lm: random.below(2) > 0,
             limit: near_octet(&mut random),
+            change: [Change::One, Change::Two][random.below(2)],
             phase,
             last: None,
         };
         let before = Conversation {
-            last: last_near(&mut random, before.id),
+            last: last_near(&mut random, before.id, before.change),
             ..before
         };
         let mut packet = packet_near(&mut random, before.id);
@@ -209,12 +220,14 @@ fn steps() {
             assert!(repeat.repeated);
             assert_eq!((repeat.reason, &again), (answer.reason, &buffer));
             // The peer reads what the box wrote.
+            let version = u64::from(before.change.version());
+            judged_in[usize::from(packet[0])] += 1;
             match peer::read_reply(before.id, &buffer) {
                 Ok(Verdict::Success) => assert_eq!(answer.reason, 0),
                 Ok(Verdict::Failure(fields)) => {
                     assert_eq!(
                         (fields.e, fields.c, fields.v),
-                        (u64::from(answer.reason), None, 2)
+                        (u64::from(answer.reason), None, version)
                     );
                 }
                 Err(refusal) => panic!("{refusal}"),
@@ -226,6 +239,9 @@ fn steps() {
     }
     for (kind, count) in [("judged", judged), ("between", between), ("ended", ended)] {
         assert!(count > 1_000, "{kind}: {count}");
+    }
+    for (code, least) in [(2, 1_000), (5, 100), (6, 100)] {
+        assert!(judged_in[code] > least, "{judged_in:?}");
     }
     for (refusal, count) in drawn.iter().enumerate() {
         assert!(*count > 100, "{refusal}: {drawn:?}");
@@ -289,6 +305,7 @@ fn every_set_of_faults_tells_its_first() {
             retries: 2,
             lm: true,
             limit: near_octet(&mut random),
+            change: Change::Two,
             phase: Phase::Change(kept),
             last: None,
         };
@@ -370,8 +387,10 @@ fn openings() {
         let opening = authenticator::open(
             id,
             &challenge,
-            retries,
-            None,
+            &Terms {
+                retries,
+                ..Terms::default()
+            },
             limit,
             &mut issued,
             &mut later_reply,
@@ -457,8 +476,10 @@ fn peer_to_box_and_back() {
         let opened = authenticator::open(
             id,
             &challenge,
-            Some(0),
-            None,
+            &Terms {
+                retries: Some(0),
+                ..Terms::default()
+            },
             limit,
             &mut issued,
             &mut reply,
@@ -604,6 +625,10 @@ fn script_lines() {
         "name",
         "failure",
         "writechange",
+        "writechange1",
+        "changeversion",
+        "underchallenge",
+        "fromchallenge",
         "relend",
         "-",
         "7",
