@@ -28,8 +28,8 @@ demo:
 layout:
 	rt fmt --check
 
-# The independent second program: its own tests, and that the expected output of `vectors` is what
-# it writes.
+# The independent second program: its own tests, and that the expected output of `vectors` and of
+# `vectors_one` is what it writes.
 reference:
 	cargo test --quiet --release --offline --manifest-path reference/Cargo.toml
 	cargo build --quiet --release --offline --manifest-path reference/Cargo.toml
@@ -77,7 +77,8 @@ bench:
 	rt staticlib mschap
 	sh tests/bench.sh target/staticlib/libmschap.a
 
-# Makes the expected output of `vectors` anew, by the independent program alone.
+# Makes the expected output of `vectors` and of `vectors_one` anew, by the independent program alone.
 expected:
 	cargo build --quiet --release --offline --manifest-path reference/Cargo.toml
 	reference/target/release/reference crates/vectors/data/published.txt crates/vectors/data/cases.txt > crates/vectors/stdout
+	reference/target/release/reference crates/vectors_one/data/cases.txt > crates/vectors_one/stdout

@@ -1,6 +1,6 @@
-//! Makes the cases file, and checks the results of its lines against the values that the rules
-//! print. The text is compared with the stored file, which both programs run;
-//! `WRITE_CASES=1 cargo test --release --offline --test cases` writes that file anew.
+//! Makes the two files of cases, and checks the results of their lines against the values that the
+//! rules print. Each text is compared with the stored file, which both programs run;
+//! `WRITE_CASES=1 cargo test --release --offline --test cases` writes those files anew.
 
 use reference::authenticator::{Account, Change, Entry, Fault, Phase};
 use reference::hashes;
@@ -9,6 +9,9 @@ use reference::peer::{self, Turn};
 use reference::rc4::rc4;
 use reference::schedules::Schedules;
 use reference::script::{hex, Session};
+
+#[path = "cases/version_one.rs"]
+mod version_one;
 
 /// Fixed octets: the challenge, the password `MyPw` with its hash H and its response NR are those
 /// of RFC 2433 B.2; the others were computed by OpenSSL and by Nettle. Q is the new password
@@ -2068,6 +2071,12 @@ impl Peer {
             hex(password),
             text("DOM\\user")
         );
+        self.send(s, &command, verdict)
+    }
+
+    fn change_1(&mut self, s: &mut Sheet, old: &[u8], new: &[u8], verdict: &str) -> Stepped {
+        let passwords = format!("{} {}", hex(old), hex(new));
+        let command = format!("writechange1 {} {passwords} AA*72", self.turn);
         self.send(s, &command, verdict)
     }
 

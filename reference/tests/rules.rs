@@ -214,7 +214,11 @@ impl Tree {
         Tree {
             items,
             crates,
-            headings: headings(&read(&root().join("crates/vectors/data/cases.txt"))),
+            headings: ["vectors", "vectors_one"]
+                .map(|name| read(&root().join(format!("crates/{name}/data/cases.txt"))))
+                .iter()
+                .flat_map(|text| headings(text))
+                .collect(),
             host_tests: texts(&root().join("host/rust/tests")),
         }
     }
