@@ -128,7 +128,7 @@ fn steps() {
     let mut drawn = [0; 8];
     let (mut judged, mut between, mut ended) = (0, 0, 0);
     let mut judged_in = [0; 7];
-    for _ in 0..60_000 {
+    for _ in 0..150_000 {
         let account = Account {
             nt: (random.below(4) > 0).then(|| random.array()),
             lm: (random.below(4) > 0).then(|| random.array()),
