@@ -1,8 +1,6 @@
 //! The command interpreter. Each line of the input gives one line of the output.
 
-use crate::authenticator::{
-    self, Account, Change, Conversation, Entry, Fault, Last, Phase, Terms,
-};
+use crate::authenticator::{self, Account, Change, Conversation, Entry, Fault, Last, Phase, Terms};
 use crate::hashes;
 use crate::issued::{self, Issued};
 use crate::message::{self, Call, Fields};
@@ -339,14 +337,8 @@ impl Session {
             used: self.list.used,
             counts: &mut self.list.counts,
         };
-        let opening = authenticator::open(
-            id,
-            &challenge,
-            &terms,
-            self.limit,
-            &mut issued,
-            &mut buffer,
-        );
+        let opening =
+            authenticator::open(id, &challenge, &terms, self.limit, &mut issued, &mut buffer);
         self.list.used = issued.used;
         self.conversation = opening.conversation;
         Some(format!(
