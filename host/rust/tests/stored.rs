@@ -9,7 +9,7 @@ use layout::{Told, ANSWER_SIZE, KINDS, LIST_HEAD, RECORD_SIZE};
 use mschap::sys;
 use mschap::{Refusal, Terms, Update};
 use reference::authenticator::{self as their, Account, Conversation, Entry};
-use reference::authenticator::{Fault, Last, Phase, Reply};
+use reference::authenticator::{Change, Fault, Last, Phase, Reply};
 use reference::message::Call;
 use reference::peer::{self, Turn, Verdict};
 use reference::{hashes, issued, packet, smbpasswd};
@@ -127,6 +127,7 @@ fn conversation(phase: Phase) -> Conversation {
         retries: 2,
         lm: true,
         limit: LIMIT,
+        change: Change::Two,
         phase,
         last: None,
     }
@@ -149,11 +150,31 @@ fn conversations_kept() -> Vec<Conversation> {
         .map(conversation)
         .to_vec();
     all.extend([
-        answered(8, Phase::Response, 2, Reply::failure(7, 691, true)),
-        answered(8, Phase::Change(entry()), 2, Reply::failure(7, 648, false)),
+        answered(
+            8,
+            Phase::Response,
+            2,
+            Reply::failure(7, 691, true, Change::Two),
+        ),
+        answered(
+            8,
+            Phase::Change(entry()),
+            2,
+            Reply::failure(7, 648, false, Change::Two),
+        ),
         answered(7, Phase::Ended, 2, Reply::success(7)),
-        answered(7, Phase::Ended, 6, Reply::failure(7, 709, false)),
-        answered(7, Phase::Response, 9, Reply::failure(7, 691, true)),
+        answered(
+            7,
+            Phase::Ended,
+            6,
+            Reply::failure(7, 709, false, Change::Two),
+        ),
+        answered(
+            7,
+            Phase::Response,
+            9,
+            Reply::failure(7, 691, true, Change::Two),
+        ),
     ]);
     all
 }
@@ -255,8 +276,8 @@ fn last_answers() {
     let mut seen = Seen::default();
     for reply in [
         Reply::success(7),
-        Reply::failure(7, 691, false),
-        Reply::failure(7, 691, true),
+        Reply::failure(7, 691, false, Change::Two),
+        Reply::failure(7, 691, true, Change::Two),
     ] {
         let bytes = layout::conversation(&answered(7, Phase::Ended, 2, reply));
         let last = &bytes[layout::LAST_AT..];
@@ -905,17 +926,12 @@ fn lists() {
                 counts: &mut counts,
             };
             let mut their_reply = [FILL; 17];
-            let retries = Some(1);
-            let lm = Some(true);
-            let opening = their::open(
-                7,
-                &CHALLENGE,
-                retries,
-                lm,
-                LIMIT,
-                &mut passed,
-                &mut their_reply,
-            );
+            let terms = their::Terms {
+                retries: Some(1),
+                lm: Some(true),
+                change: None,
+            };
+            let opening = their::open(7, &CHALLENGE, &terms, LIMIT, &mut passed, &mut their_reply);
             let used = passed.used;
             assert_eq!(number, opening.refusal.into(), "{bytes:?}");
             assert_eq!(reply, their_reply);

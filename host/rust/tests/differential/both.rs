@@ -215,15 +215,12 @@ impl Passed {
             retries,
             lm_allowed,
         } = *terms;
-        let opened = their::open(
-            *id,
-            challenge,
+        let terms = their::Terms {
             retries,
-            lm_allowed,
-            limit,
-            &mut passed,
-            reply,
-        );
+            lm: lm_allowed,
+            change: None,
+        };
+        let opened = their::open(*id, challenge, &terms, limit, &mut passed, reply);
         self.used = passed.used as u16;
         opened
     }

@@ -5,7 +5,7 @@ use crate::both::{our_conversation, Boxes};
 use crate::packets;
 use crate::random::Random;
 use crate::run::{run, Seen};
-use reference::authenticator::{Conversation, Entry, Phase};
+use reference::authenticator::{Change, Conversation, Entry, Phase};
 use reference::{hashes, packet, peer};
 
 /// Where the block's last four octets, the old hash under the new one, the NT response and the low
@@ -103,6 +103,7 @@ fn faulty(random: &mut Random, seen: &mut Seen) {
         retries: random.below(8) as u8,
         lm: random.chance(50),
         limit,
+        change: Change::Two,
         phase: Phase::Change(kept),
         last: None,
     };

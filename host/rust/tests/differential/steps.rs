@@ -6,7 +6,7 @@ use crate::packets;
 use crate::random::Random;
 use crate::run::{run, Seen};
 use mschap::sys;
-use reference::authenticator::{Account, Conversation, Last, Phase, Reply};
+use reference::authenticator::{Account, Change, Conversation, Last, Phase, Reply};
 use reference::{hashes, packet, peer};
 
 /// A Response that is valid for the account as often as not.
@@ -50,7 +50,7 @@ fn last(random: &mut Random, id: u8, packet: &[u8]) -> Option<Last> {
         0 | 1 => Reply::success(id),
         _ => {
             let reason = random.pick(&[646, 647, 648, 649, 691, 709]);
-            Reply::failure(id, reason, random.chance(50))
+            Reply::failure(id, reason, random.chance(50), Change::Two)
         }
     };
     Some(Last { code, id, reply })
@@ -65,6 +65,7 @@ fn step(random: &mut Random, seen: &mut Seen) {
         retries: random.below(8) as u8,
         lm: random.chance(60),
         limit,
+        change: Change::Two,
         phase: Phase::Response,
         last: None,
     };

@@ -4,7 +4,7 @@
 #![allow(dead_code)]
 
 use mschap::sys;
-use reference::authenticator::{Account, Conversation, Entry, Last, Phase, Reply};
+use reference::authenticator::{Account, Change, Conversation, Entry, Last, Phase, Reply};
 use reference::peer::Turn;
 use reference::schedules::Schedules;
 
@@ -261,8 +261,8 @@ fn to_last(bytes: &[u8]) -> Option<Option<Last>> {
     let (id, failed) = to_reply(bytes)?;
     let reply = match failed {
         None => Reply::success(id),
-        Some((reason @ 100..=999, retry)) => Reply::failure(id, reason, retry),
-        Some((_, retry)) => Reply::failure(id, 691, retry),
+        Some((reason @ 100..=999, retry)) => Reply::failure(id, reason, retry, Change::Two),
+        Some((_, retry)) => Reply::failure(id, 691, retry, Change::Two),
     };
     let code = bytes[1];
     Some(flag(bytes[0])?.then_some(Last { code, id, reply }))
@@ -299,6 +299,7 @@ pub fn to_conversation(bytes: &[u8]) -> Option<Conversation> {
         retries: body[4],
         lm: flag(body[1])?,
         limit: body[2],
+        change: Change::Two,
         phase: match body[0] {
             0 => Phase::Ended,
             2 => Phase::Response,
