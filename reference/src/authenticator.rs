@@ -246,10 +246,10 @@ pub struct Opening {
     pub conversation: Conversation,
 }
 
-/// What is wrong with a change that draws 709. Of version 2 (request 2026-04): "the first that holds
-/// of: no NT hash, bit 0 clear, over 512, odd, old hash wrong, response wrong"; of version 1 (request
-/// 2026-07): "the first of LM not allowed and over 14 (these for bit 0 clear only), hash absent, old
-/// hash wrong". The numbers are the places in these sentences, one behind the other.
+/// What is wrong with a change that draws 709. Of version 2 (request 2026-04): "the first that
+/// holds of: no NT hash, bit 0 clear, over 512, odd, old hash wrong, response wrong"; of version 1
+/// (request 2026-07): "the first of LM not allowed and over 14 (these for bit 0 clear only), hash
+/// absent, old hash wrong". The numbers are the places in these sentences, one behind the other.
 #[derive(Clone, Copy, Debug, PartialEq, Eq)]
 pub enum Fault {
     /// The kept record has no NT hash.
@@ -622,9 +622,9 @@ fn judge_change(
     }
 }
 
-/// The hashes of a version 2 change that is accepted, or what is wrong with it: each is asked in the
-/// order of [`Fault`], so that the first is told. The old hash is that of the kept record, octet by
-/// octet, and the new response that of the new hash: no schedules that were lent have an effect.
+/// The hashes of a version 2 change that is accepted, or what is wrong with it: each is asked in
+/// the order of [`Fault`], so that the first is told. The old hash is that of the kept record, octet
+/// by octet, and the new response that of the new hash: no schedules that were lent have an effect.
 fn checked(
     conversation: &Conversation,
     fields: &ChangeFields,
