@@ -406,7 +406,10 @@ fn shown(page: &str) -> Vec<&str> {
 #[test]
 fn slips_show_octets_that_were_written() {
     let page = read("docs/SLIPS.md");
-    let written = read("crates/demo/stdout") + &read("crates/vectors/stdout");
+    let programs = ["demo", "vectors", "vectors_one"];
+    let written = programs
+        .map(|name| read(&format!("crates/{name}/stdout")))
+        .concat();
     let octets = shown(&page);
     for found in &octets {
         assert!(written.contains(found), "docs/SLIPS.md shows {found}");
