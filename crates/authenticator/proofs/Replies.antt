@@ -109,7 +109,7 @@ read-reply t id (Failure e true) behind small =
 read-reply t id (Failure e false) behind small =
     failure-read id e 0 (version (t .change)) behind small (omega arith) (digit (t .change))
 
--- so the octets of a reply tell its reason
+-- so the octets of a reply tell its reason, whatever the terms
 abbrev reasonRead : Verdict → ℕ
 reasonRead verdicts.Success = noReason
 reasonRead (verdicts.Failure f) = f .e
@@ -120,14 +120,14 @@ reason-read : (t : Terms) (reply : Reply)
 reason-read t Success = refl
 reason-read t (Failure e retry) = refl
 
-pub reply-tells : (t : Terms) (id : ℕ) (r s : Reply) → reasonOf r < 1000 → reasonOf s < 1000
-    → replyPacket t id r ≡ replyPacket t id s → reasonOf r ≡ reasonOf s
-reply-tells t id r s few less e =
+pub reply-tells : (t u : Terms) (id : ℕ) (r s : Reply) → reasonOf r < 1000 → reasonOf s < 1000
+    → replyPacket t id r ≡ replyPacket u id s → reasonOf r ≡ reasonOf s
+reply-tells t u id r s few less e =
     sym (reason-read t r)
     ∙ ap (λ (x : Reading). reasonRead (x .verdict))
     (sym (read-reply t id r [] few) ∙ ap (λ (x : List ℕ). readReply id (x ++ [])) e
-    ∙ read-reply t id s [] less)
-    ∙ reason-read t s
+    ∙ read-reply u id s [] less)
+    ∙ reason-read u s
 
 module _ (c : Conversation) (s : StepInput) (ok : Passes c (s .packet) (s .buffer)) where
   abbrev reason : ℕ

@@ -25,6 +25,7 @@ use Rattle.smbpasswd.specs.declared.Place.{Place}
 use Rattle.smbpasswd.specs.declared.Place.the-variants.{Nowhere, Line, Doubled, Malformed}
 use Rattle.smbpasswd.proofs.ChangedLine.{IsHash}
 use Rattle.smbpasswd.proofs.ReadBack.{read-back, others-same}
+use Rattle.verify.specs.declared.Terms.{Terms}
 use Rattle.series.specs.Series.{invalid, right, passwordChange, Step, ours, other}
 use Rattle.series.specs.Series.{PacketKind, packetKinds, SeriesState, start, exchange}
 use Rattle.series.specs.Series.{next, judgedAt, Allowed, LetsIn}
@@ -32,7 +33,7 @@ use Rattle.series.specs.Boxes.{ourBox}
 use Rattle.series.specs.Writers.{ourWriter}
 use Rattle.series.specs.AccountFile.{ourFileWriter, aged, again, KeptAt, KeptInFile}
 use Rattle.series.proofs.Invariant.{Invariant, whole}
-use Rattle.series.proofs.Demand3.{Ready, law, change-updated, lets-in, ready-first}
+use Rattle.series.proofs.Demand3.{Ready, law, change-updated, lets-in, termsOf, ready-first}
 
 -- ---- the record that is found again
 
@@ -87,49 +88,49 @@ module _ (name file : List ℕ) (a : Account) (new : List ℕ) (at changedAt lat
   abbrev expired : Bool
   expired = isExpired later maxAge (hasFlag letterX (field 4 (lineAt at file))) changedAt
 
-  pub found-again : again ourFileWriter name file (found (changed (entryOf a) (ntHashOf new)))
+  pub found-again : again ourFileWriter name file (found (changed (entryOf a) (hashOf (ntHashOf new)) noHash))
       changedAt later maxAge
-      ≡ aged expired (found (changed (entryOf a) (ntHashOf new)))
+      ≡ aged expired (found (changed (entryOf a) (hashOf (ntHashOf new)) noHash))
   found-again =
-      ap (λ (x : Found). x .lookup) (read-back name (changed (entryOf a) (ntHashOf new))
+      ap (λ (x : Found). x .lookup) (read-back name (changed (entryOf a) (hashOf (ntHashOf new)) noHash)
       changedAt file no-is-hash (nt-is-hash new) at p small later maxAge)
       ∙ ap (λ (d : Bool). found (accountWith (hashOf (ntHashOf new)) noHash d false false expired)) (sym (f .disabled))
       ∙ ap₂ (λ (h d : Bool). found (accountWith (hashOf (ntHashOf new)) noHash (a .disabled) h d expired)) (sym (f .hours)) (sym (f .dialin))
 
   -- not expired, it is the record that was handed out
   pub in-force : expired ≡ false
-      → again ourFileWriter name file (found (changed (entryOf a) (ntHashOf new))) changedAt later
+      → again ourFileWriter name file (found (changed (entryOf a) (hashOf (ntHashOf new)) noHash)) changedAt later
       maxAge
-      ≡ found (changed (entryOf a) (ntHashOf new))
+      ≡ found (changed (entryOf a) (hashOf (ntHashOf new)) noHash)
   in-force e =
-      found-again ∙ ap (λ (t : Bool). aged t (found (changed (entryOf a) (ntHashOf new)))) e
+      found-again ∙ ap (λ (t : Bool). aged t (found (changed (entryOf a) (hashOf (ntHashOf new)) noHash))) e
 
 -- ---- along a series
 
-module _ (name file : List ℕ) (now maxAge : ℕ) (a : Account) (e : findIn now maxAge name file .lookup ≡ found (withFailures 0 a)) (g : Rightful a) (limit : ℕ) where
+module _ (name file : List ℕ) (now maxAge : ℕ) (a : Account) (e : findIn now maxAge name file .lookup ≡ found (withFailures 0 a)) (g : Rightful a) (terms : Terms) where
   agree : Agree a
   agree = from-file now maxAge name file a e
 
-  kept-at : (due : List PacketKind) (p : SeriesState) (m : Step) → Ready a limit (packetKinds m ++ due) p → Allowed stepOn ourWriter a p m
+  kept-at : (due : List PacketKind) (p : SeriesState) (m : Step) → Ready a terms (packetKinds m ++ due) p → Allowed stepOn ourWriter a p m
       → KeptAt stepOn ourWriter ourFileWriter name file p m
   kept-at due p (other s) r h = tt
   kept-at due p (ours (invalid w n) l) r h = tt
   kept-at due p (ours (right w n) l) r h = tt
-  kept-at due p (ours (passwordChange old new filler) l) r h = λ at changedAt later maxAge′ there small.
-      let updated = change-updated a g agree limit due p old new filler l r h in
-      let n = changed-rightful a (ntHashOf new) g in
+  kept-at due p (ours (passwordChange v old new filler) l) r h = λ at changedAt later maxAge′ there small.
+      let updated = change-updated a g agree terms due p v old new filler l r h in
+      let n = changed-rightful a (ntHashOf new) noHash g in
       let line = from-line now maxAge name file a at e there in
-      let x = exchange stepOn ourWriter p (passwordChange old new filler) l .outcome .answer .updated in
+      let x = exchange stepOn ourWriter p (passwordChange v old new filler) l .outcome .answer .updated in
       let t = isExpired later maxAge′ (hasFlag letterX (field 4 (lineAt at file))) changedAt in
       let moved = ap (λ (u : Lookup). again ourFileWriter name file u changedAt later maxAge′) updated in (
         moved ∙ found-again name file a new at changedAt later maxAge′ line there small ∙ ap (aged t) (sym updated),
         (λ z. subst (λ (u : Lookup). LetsIn stepOn ourWriter (u .account) new)
             (sym (moved ∙ in-force name file a new at changedAt later maxAge′ line there small z))
-            (lets-in (changed (entryOf a) (ntHashOf new)) new (n .0)
-            (changed-agrees (entryOf a) (ntHashOf new)) (n .1) refl (sym (n .2)))),
+            (lets-in (changed (entryOf a) (hashOf (ntHashOf new)) noHash) new (n .0)
+            (changed-agrees (entryOf a) (hashOf (ntHashOf new)) noHash) (n .1) refl (sym (n .2)))),
         (λ another m.
             ap (λ (u : Lookup). findIn later maxAge′ another (writtenIn name (u .account) changedAt file)) updated
-            ∙ others-same name (changed (entryOf a) (ntHashOf new)) changedAt file no-is-hash
+            ∙ others-same name (changed (entryOf a) (hashOf (ntHashOf new)) noHash) changedAt file no-is-hash
             (nt-is-hash new) another m later maxAge′),
       )
 
@@ -137,15 +138,15 @@ module _ (name file : List ℕ) (now maxAge : ℕ) (a : Account) (e : findIn now
       (KeptAt stepOn ourWriter ourFileWriter name file)
   invariant =
       record {
-        Ready = Ready a limit;
+        Ready = Ready a terms;
         law = λ due p m r h. (
           kept-at due p m r h,
-          law a g agree limit due p m r h .1,
-          law a g agree limit due p m r h .2,
+          law a g agree terms due p m r h .1,
+          law a g agree terms due p m r h .2,
         );
       }
 
 pub kept-in-file : KeptInFile ourBox ourWriter ourFileWriter
 unfolding invariant
 kept-in-file name file now maxAge a e o ok eight k behind ms g few below due h =
-    whole (invariant name file now maxAge a e g (o .limit)) (start o behind a) ms (ready-first o ok eight k behind ms a few below due) h .0
+    whole (invariant name file now maxAge a e g (termsOf o)) (start o behind a) ms (ready-first o ok eight k behind ms a few below due) h .0

@@ -32,15 +32,16 @@ sentBy t = record { sent = sentFor t; turn = t }
 -- the judgement d is drawn, and our peer reads its reply
 pub record Exchanged (p : SeriesState) (w : Wrote) (l : ExchangeInput)
     (d : Judgement) : Type 0 where
-  pub draws : Draws (carried stepOn p w l) (replyPacket (p .box .conversation .id) (d .reply))
-      (readingFor (d .reply))
+  pub draws : Draws (carried stepOn p w l)
+      (replyPacket (p .box .conversation .terms) (p .box .conversation .id) (d .reply))
+      (readingFor (p .box .conversation .terms) (d .reply))
   pub judges : judged stepOn (p .box) (reaching (p .account) w l) ≡ 1
   -- where box and peer stand then, and the record that is handed out
   pub handed : carried stepOn p w l .outcome .answer .updated ≡ d .updated
   pub conversation : nextAfter stepOn (p .box .conversation) (reaching (p .account) w l)
       ≡ withLast (answerWith (p .box .conversation) (d .reply)) (d .next)
   pub turn : afterReply (carried stepOn p w l .peer) (carried stepOn p w l .reply) .turn
-      ≡ nextTurn (sentBy (p .peer .turn)) (readingFor (d .reply))
+      ≡ nextTurn (sentBy (p .peer .turn)) (readingFor (p .box .conversation .terms) (d .reply))
 
 module _ (p : SeriesState) (w : Wrote) (l : ExchangeInput) (d : Judgement) (kept : Tracks (p .box))
     (same-id : p .box .conversation .id ≡ p .peer .turn .id)
@@ -55,21 +56,21 @@ module _ (p : SeriesState) (w : Wrote) (l : ExchangeInput) (d : Judgement) (kept
     abbrev s : StepInput
     s = reaching (p .account) w l
 
-    heard : readReply (p .peer .turn .id) (replyPacket (c .id) (d .reply) ++ l .replyPadding)
-        ≡ readingFor (d .reply)
+    heard : readReply (p .peer .turn .id) (replyPacket (c .terms) (c .id) (d .reply) ++ l .replyPadding)
+        ≡ readingFor (c .terms) (d .reply)
     heard =
-        ap (λ (i : ℕ). readReply i (replyPacket (c .id) (d .reply) ++ l .replyPadding))
+        ap (λ (i : ℕ). readReply i (replyPacket (c .terms) (c .id) (d .reply) ++ l .replyPadding))
         (sym same-id)
-        ∙ read-reply (c .id) (d .reply) (l .replyPadding) small
+        ∙ read-reply (c .terms) (c .id) (d .reply) (l .replyPadding) small
 
     sent-same : afterWriting (p .peer) (w .answer) ≡ sentBy (p .peer .turn)
     sent-same = rw zero
 
-    reply-same : replyOf (stepOn c s) ≡ replyPacket (c .id) (d .reply)
+    reply-same : replyOf (stepOn c s) ≡ replyPacket (c .terms) (c .id) (d .reply)
     reply-same = ap replyOf took ∙ reply-of c d (l .buffer) room
 
     read-same : peerReads (afterWriting (p .peer) (w .answer))
-        (replyOf (stepOn c s) ++ l .replyPadding) ≡ readingFor (d .reply)
+        (replyOf (stepOn c s) ++ l .replyPadding) ≡ readingFor (c .terms) (d .reply)
     read-same = ap₂ (λ (q : Peer) (r : List ℕ). peerReads q (r ++ l .replyPadding)) sent-same
         reply-same ∙ heard
 

@@ -4,7 +4,7 @@
 -- Assumes nothing.
 use mathlib.Core.Bool.{Bool, true, false, cond, not, _&&_, false≢true}
 use mathlib.Core.List.{List, [], _∷_}
-use mathlib.Core.Logic.{inl}
+use mathlib.Core.Logic.{inl, inr}
 use mathlib.Core.Path.{_≡_, refl, sym, ap, ap₂, _∙_, subst}
 use Prim.Native.Nat.{ℕ, _<_}
 use native.Mathlib.Omega.{arith}
@@ -19,6 +19,7 @@ use Rattle.accounts.specs.declared.Account.{Account}
 use Rattle.accounts.specs.declared.Lookup.{Lookup}
 use Rattle.verify.specs.Lockout.{failuresAfter}
 use Rattle.authenticator.specs.Judge.{replyFor}
+use Rattle.verify.specs.declared.ChangeVersion.the-variants.{Two}
 use Rattle.authenticator.specs.Encode.{replyPacket}
 use Rattle.authenticator.specs.Opening.{opened}
 use Rattle.authenticator.specs.Step.{Outcome}
@@ -115,21 +116,22 @@ module _ (box : Box) (rule : CountRule) (lock : ℕ → Bool) (limit : ℕ)
         (eq-eqb (octet 0 (packetSaying v)) responseCode (said-code v))
 
     pub reply-so : replyOf (outcomeOf box p (sent v))
-        ≡ replyPacket 255
+        ≡ replyPacket (first limit n v .terms) 255
         (replyFor (first limit n v) (cond (not (lock n) && v) noReason authenticationFailure))
     reply-so = ap replyOf outcome-so ∙ facts .reply n v
 
     turned-away : not (not (lock n) && v) ≡ true
         → IsTurnedAway (octet 1 (packetSaying v)) (replyOf (outcomeOf box p (sent v)))
-    turned-away e = inl (subst (λ (r : List ℕ). IsAuthenticationFailure
+    turned-away e = inr (inl (subst (λ (r : List ℕ). IsAuthenticationFailure Two
         (octet 1 (packetSaying v)) r) (sym reply-failed)
-        (subst (λ (i : ℕ). IsAuthenticationFailure i (replyPacket 255 (Failure
-        authenticationFailure false))) (sym (said-id v)) (failure-either 255 false)))
+        (subst (λ (i : ℕ). IsAuthenticationFailure Two i (replyPacket (first limit n v .terms) 255
+        (Failure authenticationFailure false))) (sym (said-id v))
+        (failure-either (first limit n v .terms) 255 false))))
       where
         reply-failed : replyOf (outcomeOf box p (sent v))
-            ≡ replyPacket 255 (Failure authenticationFailure false)
+            ≡ replyPacket (first limit n v .terms) 255 (Failure authenticationFailure false)
         reply-failed = reply-so
-            ∙ ap (λ (t : Bool). replyPacket 255 (replyFor (first limit n v)
+            ∙ ap (λ (t : Bool). replyPacket (first limit n v .terms) 255 (replyFor (first limit n v)
             (cond t noReason authenticationFailure))) (not-true (not (lock n) && v) e)
 
     stored-so : runNext box p (sends (sent v)) .account ≡ counting (rule (lock n) v n)

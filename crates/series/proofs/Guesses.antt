@@ -13,20 +13,20 @@ use Rattle.message.specs.Reasons.{authenticationFailure, changingPassword}
 use Rattle.packets.specs.Codes.{responseCode}
 use Rattle.packets.specs.Frame.{octet}
 use Rattle.packets.specs.Response.{readResponse}
-use Rattle.packets.specs.Change.{readChange}
 use Rattle.accounts.specs.Account.{found}
 use Rattle.accounts.specs.declared.Account.{Account}
 use Rattle.accounts.specs.declared.Lookup.{Lookup}
 use Rattle.verify.specs.Lockout.{mostFailures, oneMore}
 use Rattle.verify.specs.Response.{foundValid, counted, responseReason}
 use Rattle.verify.specs.Faults.{isFaultless}
-use Rattle.verify.specs.Change.{checkedChange}
+use Rattle.verify.specs.declared.ChangeVersion.{ChangeVersion}
+use Rattle.verify.specs.declared.ChangeVersion.the-variants.{One, Two}
 use Rattle.verify.specs.declared.CheckedChange.{CheckedChange}
 use Rattle.verify.specs.declared.Terms.{Terms}
 use Rattle.verify.proofs.Counting.{one-more, never-falls, counted-failed, judged-at-limit}
 use Rattle.verify.proofs.Reasons.{three-digits, response-not-changing}
-use Rattle.authenticator.specs.Conversation.{awaitedCode, isEnded, noAnswer, closed}
-use Rattle.authenticator.specs.Judge.{reasonOf, replyFor, judgeResponse, judgeChange}
+use Rattle.authenticator.specs.Conversation.{changeCodeOf, awaitedCode, isEnded, noAnswer, closed}
+use Rattle.authenticator.specs.Judge.{reasonOf, replyFor, judgeResponse, checkedFor, judgeChange}
 use Rattle.authenticator.specs.Judge.{verdictOf, judgeIn, judge}
 use Rattle.authenticator.specs.Encode.{replyPacket}
 use Rattle.authenticator.specs.Opening.{Opening, opened}
@@ -62,7 +62,9 @@ use Rattle.series.specs.Guesses.{
   firstState,
   inputOf,
   isOwn,
+  TurnsAway,
   IsTurnedAway,
+  IsFailure691,
   runNext,
   isGuess,
   guesses,
@@ -74,6 +76,21 @@ use Rattle.series.specs.Guesses.{
 use Rattle.series.proofs.Invariant.{end-behind, along-before, along-behind}
 use Rattle.series.proofs.LmOptIn.{as-unknown, turned-away}
 
+-- no change has a Response's code
+no-response : (v : ChangeVersion) → changeCodeOf v ≡ responseCode → ⊥
+no-response One e = omega (arith, e)
+no-response Two e = omega (arith, e)
+
+-- terms that name a change
+abbrev naming : ChangeVersion → Terms
+naming v = record { lm = false; limit = 0; change = v }
+
+-- a Failure with 691 by either
+either-691 : (v : ChangeVersion) (id : ℕ) (reply : List ℕ) → IsAuthenticationFailure v id reply
+    → IsFailure691 id reply
+either-691 One id reply h = inl h
+either-691 Two id reply h = inr h
+
 -- ---- a packet that is judged
 
 module _ (c : Conversation) (s : StepInput) (ok : Passes c (s .packet) (s .buffer))
@@ -81,22 +98,31 @@ module _ (c : Conversation) (s : StepInput) (ok : Passes c (s .packet) (s .buffe
   abbrev drawn : Reply
   drawn = judge c (s .packet) (s .account) .reply
 
-  reply-drawn : replyOf (stepOn c s) ≡ replyPacket (c .id) drawn
+  reply-drawn : replyOf (stepOn c s) ≡ replyPacket (c .terms) (c .id) drawn
   reply-drawn = ap replyOf took
       ∙ reply-of c (judge c (s .packet) (s .account)) (s .buffer) (ok .readable .room)
 
   -- its reply tells the reason
-  told : (r : Reply) → reasonOf r < 1000
-      → replyOf (stepOn c s) ≡ replyPacket (octet 1 (s .packet)) r → reasonOf drawn ≡ reasonOf r
-  told r few h =
-      reply-tells (c .id) drawn r (three-digits (judge-fitting c (s .packet) (s .account) .0)) few
-      (sym reply-drawn ∙ h ∙ ap (λ (i : ℕ). replyPacket i r) (ok .id))
+  told : (t : Terms) (r : Reply) → reasonOf r < 1000
+      → replyOf (stepOn c s) ≡ replyPacket t (octet 1 (s .packet)) r → reasonOf drawn ≡ reasonOf r
+  told t r few h =
+      reply-tells (c .terms) t (c .id) drawn r
+      (three-digits (judge-fitting c (s .packet) (s .account) .0)) few
+      (sym reply-drawn ∙ h ∙ ap (λ (i : ℕ). replyPacket t i r) (ok .id))
+
+  -- whatever change V names
+  reason-away : (v : ChangeVersion) → TurnsAway v (octet 1 (s .packet)) (replyOf (stepOn c s))
+      → (reasonOf drawn ≡ authenticationFailure) ⊎ (reasonOf drawn ≡ changingPassword)
+  reason-away v (inl (inl h)) =
+      inl (told (naming v) (Failure authenticationFailure true) (omega arith) h)
+  reason-away v (inl (inr h)) =
+      inl (told (naming v) (Failure authenticationFailure false) (omega arith) h)
+  reason-away v (inr h) = inr (told (naming v) (Failure changingPassword false) (omega arith) h)
 
   reason-told : IsTurnedAway (octet 1 (s .packet)) (replyOf (stepOn c s))
       → (reasonOf drawn ≡ authenticationFailure) ⊎ (reasonOf drawn ≡ changingPassword)
-  reason-told (inl (inl h)) = inl (told (Failure authenticationFailure true) (omega arith) h)
-  reason-told (inl (inr h)) = inl (told (Failure authenticationFailure false) (omega arith) h)
-  reason-told (inr h) = inr (told (Failure changingPassword false) (omega arith) h)
+  reason-told (inl h) = reason-away One h
+  reason-told (inr h) = reason-away Two h
 
   -- a Response
   module _ (ph : c .phase ≡ Response) where
@@ -128,7 +154,7 @@ module _ (c : Conversation) (s : StepInput) (ok : Passes c (s .packet) (s .buffe
   unchanged ph h = ap (λ (o : Outcome). o .answer .updated .found) took ∙ which (reason-told h)
     where
       v : CheckedChange
-      v = checkedChange (c .kept) (c .challenge) (readChange (s .packet))
+      v = checkedFor (c .terms .change) c (s .packet)
 
       accepted : Bool → Verdict
       accepted t = chosen c v t
@@ -274,7 +300,7 @@ module _ (limit : ℕ) (few : limit ≤ mostFailures) where
             → stepOn c input ≡ judgedAs c (judge c packet (found a)) buffer
             → Counted (n + guess) stored
         phase-of Response ph y ok e =
-            let code = ok .code ∙ ap awaitedCode ph in
+            let code = ok .code ∙ ap (awaitedCode (c .terms .change)) ph in
             let f = readResponse packet in
             let one : guess ≡ 1 =
             ap₂ (λ (t u : Bool). cond {A = ℕ} (t && (u && true)) 1 0) y
@@ -292,10 +318,11 @@ module _ (limit : ℕ) (few : limit ≤ mostFailures) where
             ≤ counted (c .terms) (c .challenge) a f .failures))) lim
             (counted-failed (c .terms) (c .challenge) a f (failed c input ok e ph (away y))))) k
         phase-of Change ph y ok e =
-            let code = ok .code ∙ ap awaitedCode ph in
+            let code = ok .code ∙ ap (awaitedCode (c .terms .change)) ph in
             let none : guess ≡ 0 =
             ap₂ (λ (t u : Bool). cond {A = ℕ} (t && (u && true)) 1 0) y
-            (ne-eqb (octet 0 packet) responseCode (λ z. omega (arith, code, z))) in
+            (ne-eqb (octet 0 packet) responseCode
+            (λ z. no-response (c .terms .change) (sym code ∙ z))) in
             none-more n guess a stored none (not-stored (unchanged c input ok e ph (away y))) k
         phase-of Ended ph y ok e = absurd (true≢false (sym (ap isEnded ph) ∙ ok .live))
 
@@ -397,10 +424,11 @@ module _ (limit : ℕ) (few : limit ≤ mostFailures) where
           (readResponse (s .packet))) mine
           ∙ judged-at-limit (c .terms) (c .challenge) (p .account) (readResponse (s .packet))
           (omega (arith, h (s .line) .limited (k .live), full)) in (
-            subst (λ (id : ℕ). IsAuthenticationFailure id (replyOf (stepOn c (inputOf p s))))
+            subst (λ (id : ℕ). IsFailure691 id (replyOf (stepOn c (inputOf p s))))
                 (sym (k .id))
+                (either-691 (c .terms .change) (c .id) (replyOf (stepOn c (inputOf p s)))
                 (turned-away c (inputOf p s) invalid
-                (response-phase (c .phase) (sym (k .code) ∙ code)) k),
+                (response-phase (c .terms .change) (c .phase) (sym (k .code) ∙ code)) k)),
             as-unknown c (inputOf p s) invalid,
           )
 

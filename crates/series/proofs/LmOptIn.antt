@@ -5,7 +5,8 @@ use mathlib.Core.Bool.{Bool, true, false, cond, not, _&&_, and-false, true≢fal
 use mathlib.Core.List.{List}
 use mathlib.Core.Logic.{_≢_, inl, inr}
 use mathlib.Core.Path.{_≡_, refl, sym, ap, ap₂, _∙_, subst}
-use Prim.Native.Nat.{ℕ}
+use Prim.Native.Nat.{ℕ, _<_}
+use native.Mathlib.Omega.{arith}
 use borrow.Author.Tests.{not-true}
 use lib.Dec.{eqb}
 use Rattle.message.specs.Reasons.{authenticationFailure, passwordExpired}
@@ -21,6 +22,7 @@ use Rattle.verify.specs.Lockout.{isLocked}
 use Rattle.verify.specs.Response.{answers, valid, foundValid, firstReason, responseReason}
 use Rattle.verify.specs.Response.{validByHash}
 use Rattle.verify.proofs.Carried.{by-hash}
+use Rattle.verify.specs.declared.ChangeVersion.{ChangeVersion}
 use Rattle.verify.specs.declared.Terms.{Terms}
 use Rattle.verify.proofs.Counting.{judged-below}
 use Rattle.verify.proofs.Reasons.{answers-right}
@@ -28,7 +30,7 @@ use Rattle.authenticator.specs.Admit.{refusalFor}
 use Rattle.authenticator.specs.Conversation.{isEnded, noAnswer}
 use Rattle.authenticator.specs.Encode.{version, replyPacket}
 use Rattle.authenticator.specs.Judge.{mayRetry, validIn, judgeResponse, judgeIn, judge}
-use Rattle.authenticator.specs.Opening.{Opening, lmAllowed, firstConversation, opened}
+use Rattle.authenticator.specs.Opening.{Opening, lmAllowed, changeOf, firstConversation, opened}
 use Rattle.authenticator.specs.Step.{withoutRecord}
 use Rattle.authenticator.specs.Steps.{StepInput, stepOn, replyOf, BoxState, unanswered}
 use Rattle.authenticator.specs.Steps.{isJudged, nextState}
@@ -43,6 +45,7 @@ use Rattle.authenticator.proofs.Openings.{opened-either}
 use Rattle.authenticator.proofs.Seen.{Seen, unjudged, judgedNow, seen, Tracks, tracks-next}
 use Rattle.authenticator.proofs.Seen.{unanswered-tracks, response-phase}
 use Rattle.authenticator.proofs.Steps.{judged-step, reply-of}
+use Rattle.authenticator.proofs.Bound.{leftIn, judged-less}
 use Rattle.authenticator.proofs.Terms.{opened-off, step-keeps-terms}
 use Rattle.series.specs.Boxes.{withLm}
 use Rattle.series.specs.Openers.{ourOpener}
@@ -86,66 +89,84 @@ unknown-reply : (c : Conversation) (p : List ℕ)
 unfolding judgeResponse responseReason firstReason
 unknown-reply c p = refl
 
-pub failure-either : (id : ℕ) (retry : Bool)
-    → IsAuthenticationFailure id (replyPacket id (Failure authenticationFailure retry))
-failure-either id true = inl refl
-failure-either id false = inr refl
+pub failure-either : (t : Terms) (id : ℕ) (retry : Bool)
+    → IsAuthenticationFailure (t .change) id
+    (replyPacket t id (Failure authenticationFailure retry))
+failure-either t id true = inl refl
+failure-either t id false = inr refl
 
 pub turned-away : (c : Conversation) (s : StepInput)
     → foundValid (c .terms) (c .challenge) (s .account) (readResponse (s .packet)) ≡ false
     → c .phase ≡ Response → Passes c (s .packet) (s .buffer)
-    → IsAuthenticationFailure (c .id) (replyOf (stepOn c s))
+    → IsAuthenticationFailure (c .terms .change) (c .id) (replyOf (stepOn c s))
 unfolding judge
 turned-away c s v ph ok =
     let reply = ap replyOf (as-unknown c s v)
     ∙ ap replyOf (judged-step c (s .packet) notFound (s .buffer) ok)
     ∙ reply-of c (judge c (s .packet) notFound) (s .buffer) (ok .readable .room)
-    ∙ ap (λ (x : Phase). replyPacket (c .id) (judgeIn x c (s .packet) notFound .reply)) ph
-    ∙ ap (replyPacket (c .id)) (unknown-reply c (s .packet)) in
-    subst (IsAuthenticationFailure (c .id)) (sym reply)
-    (failure-either (c .id) (mayRetry c authenticationFailure))
+    ∙ ap (λ (x : Phase). replyPacket (c .terms) (c .id) (judgeIn x c (s .packet) notFound .reply))
+    ph
+    ∙ ap (replyPacket (c .terms) (c .id)) (unknown-reply c (s .packet)) in
+    subst (IsAuthenticationFailure (c .terms .change) (c .id)) (sym reply)
+    (failure-either (c .terms) (c .id) (mayRetry c authenticationFailure))
 
--- what holds of our box at any place of a conversation that was opened without asking for LM: LM is
--- off, and the box keeps of its last answer what is seen of it
-pub record OffAt (p : BoxState) : Type 0 where
+-- what holds of our box at any place of a conversation that was opened without asking for LM and
+-- for a version's change: LM is off, that change is the terms' while a packet may be judged, and
+-- the box keeps of its last answer what is seen of it
+pub record OffAt (v : ChangeVersion) (p : BoxState) : Type 0 where
   pub off : p .conversation .terms .lm ≡ false
+  pub change : 0 < leftIn (p .conversation) → p .conversation .terms .change ≡ v
   pub tracks : Tracks p
 
-off-next : (p : BoxState) (s : StepInput) → OffAt p → OffAt (nextState stepOn p s)
-off-next p s i =
+off-next : (v : ChangeVersion) (p : BoxState) (s : StepInput) → OffAt v p
+    → OffAt v (nextState stepOn p s)
+off-next v p s i =
     record {
       off = ap (λ (t : Terms). t .lm) (step-keeps-terms (p .conversation) s) ∙ i .off;
+      change = λ some. ap (λ (t : Terms). t .change) (step-keeps-terms (p .conversation) s)
+          ∙ i .change (omega (arith, judged-less p s (i .tracks), some));
       tracks = tracks-next p s (i .tracks);
     }
 
 off-after : (o : Opening) → o .lm ≢ Allowed → (ss : List StepInput)
-    → OffAt (placeAfter ourOpener o ss)
+    → OffAt (changeOf (o .change)) (placeAfter ourOpener o ss)
 off-after o h ss =
-    end-keeps (nextState stepOn) OffAt off-next (unanswered (opened o .conversation))
+    end-keeps (nextState stepOn) (OffAt v) (off-next v) (unanswered (opened o .conversation))
     (record {
       off = opened-off o h;
+      change = opened-either o (λ (c : Conversation). 0 < leftIn c → c .terms .change ≡ v)
+          (λ some. refl) (λ some. absurd (omega (arith, some)));
       tracks = unanswered-tracks (opened o .conversation)
           (opened-either o (λ (c : Conversation). c .last ≡ noAnswer) refl refl);
     })
     ss
+  where
+    v : ChangeVersion
+    v = changeOf (o .change)
 
-off-here : (p : BoxState) (s : StepInput) → OffAt p → octet 0 (s .packet) ≡ responseCode
-    → isByLm s ≡ true → isJudged stepOn p s ≡ true
-    → IsAuthenticationFailure (octet 1 (s .packet)) (replyOf (stepOn (p .conversation) s))
+off-here : (v : ChangeVersion) (p : BoxState) (s : StepInput) → OffAt v p
+    → octet 0 (s .packet) ≡ responseCode → isByLm s ≡ true → isJudged stepOn p s ≡ true
+    → IsAuthenticationFailure v (octet 1 (s .packet)) (replyOf (stepOn (p .conversation) s))
     × (withoutRecord (stepOn (p .conversation) s)
     ≡ withoutRecord (stepOn (p .conversation) (withNoRecord s)))
-off-here p s i code by now = which (seen p s (i .tracks))
+off-here v p s i code by now = which (seen p s (i .tracks))
   where
+    some : 0 < leftIn (p .conversation)
+    some = omega (arith, judged-less p s (i .tracks), ap (λ (t : Bool). cond {A = ℕ} t 1 0) now)
+
     which : Seen p s
-        → IsAuthenticationFailure (octet 1 (s .packet)) (replyOf (stepOn (p .conversation) s))
+        → IsAuthenticationFailure v (octet 1 (s .packet)) (replyOf (stepOn (p .conversation) s))
         × (withoutRecord (stepOn (p .conversation) s)
         ≡ withoutRecord (stepOn (p .conversation) (withNoRecord s)))
     which (unjudged z e u) = absurd (true≢false (sym now ∙ z))
     which (judgedNow y ok e) = (
-      subst (λ (id : ℕ). IsAuthenticationFailure id (replyOf (stepOn (p .conversation) s)))
+      subst (λ (id : ℕ). IsAuthenticationFailure v id (replyOf (stepOn (p .conversation) s)))
           (sym (ok .id))
+          (subst (λ (u : ChangeVersion). IsAuthenticationFailure u (p .conversation .id)
+          (replyOf (stepOn (p .conversation) s))) (i .change some)
           (turned-away (p .conversation) s (not-by-lm (p .conversation) s (i .off) by)
-          (response-phase (p .conversation .phase) (sym (ok .code) ∙ code)) ok),
+          (response-phase (p .conversation .terms .change) (p .conversation .phase)
+          (sym (ok .code) ∙ code)) ok)),
       as-unknown (p .conversation) s (not-by-lm (p .conversation) s (i .off) by),
     )
 
@@ -173,16 +194,18 @@ module _ (o : Opening) (a : Account) (s : StepInput) (peer : LmPeer o a s) where
       ∙ rw (by, answers-right (a .lm) (o .challenge) (f .lm) (peer .hash) (peer .response))
 
   answered : (expired : Bool)
-      → replyPacket (o .id) (cond expired (expiredFor (first true) (withFailures 0 a))
+      → replyPacket (first true .terms) (o .id) (cond expired (expiredFor (first true) (withFailures 0 a))
       (accepted (first true) (withFailures 0 a))
       .reply)
-      ≡ cond expired (failurePacket (o .id) (textOf passwordExpired 0 version))
+      ≡ cond expired
+      (failurePacket (o .id) (textOf passwordExpired 0 (version (changeOf (o .change)))))
       (successPacket (o .id))
   answered true = refl
   answered false = refl
 
   pub peer-in : replyOf (stepOn (first true) s)
-      ≡ cond (a .expired) (failurePacket (o .id) (textOf passwordExpired 0 version))
+      ≡ cond (a .expired)
+      (failurePacket (o .id) (textOf passwordExpired 0 (version (changeOf (o .change)))))
       (successPacket (o .id))
   peer-in =
       let ok = peer-passes true in
@@ -202,7 +225,8 @@ module _ (o : Opening) (a : Account) (s : StepInput) (peer : LmPeer o a s) where
 pub lm-opt-in : LmOptIn ourOpener
 lm-opt-in =
     record {
-      off = λ o h ss s. off-here (placeAfter ourOpener o ss) s (off-after o h ss);
+      off = λ o h ss s.
+          off-here (changeOf (o .change)) (placeAfter ourOpener o ss) s (off-after o h ss);
       on = λ o asked may a s peer.
           ap (λ (c : Conversation). replyOf (stepOn c s)) (opens-where-it-may o may .1)
           ∙ ap (λ (t : Bool). replyOf (stepOn (withLm t (firstConversation o)) s))

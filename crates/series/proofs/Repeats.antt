@@ -17,7 +17,7 @@ use Rattle.series.specs.Course.{end, Along}
 use Rattle.series.specs.Repeats.{EachAgain}
 
 along-again : (c : Conversation) (reply : List ℕ) (s : StepInput)
-    → Keeps (c .last) (s .packet) reply
+    → Keeps c (s .packet) reply
     → (ts : List StepInput) → EachAgain s ts
     → Along (nextAfter stepOn) (Drawn reply) c ts × (end (nextAfter stepOn) c ts ≡ c)
 along-again c reply s k [] h = (tt, refl)

@@ -7,20 +7,26 @@ use mathlib.Core.Path.{_≡_, refl, sym, ap, _∙_, subst}
 use Prim.Native.Nat.{ℕ, _<_}
 use native.Mathlib.Omega.{arith}
 use lib.ListN.{length}
-use Rattle.credentials.specs.Credentials.{ntHashOf, sealedBlock, unsealedAs, passwordIn}
+use Rattle.credentials.specs.Credentials.{ntHashOf, hashFromChallenge, sealedBlock}
+use Rattle.credentials.specs.Credentials.{unsealedAs, passwordIn}
+use Rattle.credentials.proofs.UnderChallenge.{from-under}
 use Rattle.credentials.specs.declared.Unsealed.{Unsealed}
 use Rattle.credentials.specs.declared.Content.the-variants.{Password}
 use Rattle.credentials.proofs.Laws.{
+  length-nt,
+  octets-nt,
   length-response,
   unseal-sealed,
   password-sealed,
   content-password,
 }
 use Rattle.packets.specs.Change.{readChange}
+use Rattle.packets.specs.ChangeOne.{readChangeOne}
 use Rattle.packets.specs.Name.{isSplit, domainOf, accountOf}
 use Rattle.packets.specs.Reply.{readChallenge, readReply}
 use Rattle.packets.specs.declared.Change.{Change}
-use Rattle.packets.proofs.ReadBack.{ResponseBack, ChangeBack, challenge-back}
+use Rattle.packets.specs.declared.ChangeOne.{ChangeOne}
+use Rattle.packets.proofs.ReadBack.{ResponseBack, ChangeBack, ChangeOneBack, challenge-back}
 use Rattle.packets.proofs.Lookup.{lookup-parts, lookup-home}
 use Rattle.authenticator.specs.Opening.{Opening, opened}
 use Rattle.authenticator.specs.Judge.{reasonOf, replyFor}
@@ -30,12 +36,14 @@ use Rattle.authenticator.proofs.Replies.{readingFor, judged-read, repeat-read}
 use Rattle.authenticator.proofs.Steps.{kind-judged}
 use Rattle.authenticator.specs.declared.Conversation.{Conversation}
 use Rattle.authenticator.proofs.Openings.{opened-written}
-use Rattle.peer.specs.Write.{responseFields, changeFields, responseFor, writeResponse, writeChange}
+use Rattle.peer.specs.Write.{responseFields, changeFields, changeOneFields, responseFor}
+use Rattle.peer.specs.Write.{writeResponse, writeChange, writeChangeOne}
 use Rattle.peer.specs.Peer.{peerReads}
 use Rattle.peer.specs.declared.Peer.{Peer}
 use Rattle.peer.specs.declared.Turn.{Turn}
-use Rattle.peer.proofs.Found.{response-found, change-found}
+use Rattle.peer.proofs.Found.{response-found, change-found, change-one-found}
 use Rattle.peer.proofs.Left.{left, name-fits, response-left, new-fits, filler-full, change-left}
+use Rattle.peer.proofs.Left.{change-one-left}
 use Rattle.series.specs.Series.{challengeRead}
 
 -- ---- the box's packets
@@ -48,13 +56,13 @@ challenge-read o ok eight behind =
     ap (λ (x : List ℕ). readChallenge (x ++ behind)) (opened-written o ok eight)
     ∙ challenge-back (o .id) (o .challenge) behind eight
 
--- Success, or the Failure with the reason (646 to 649, 691, 709), R, no C and V=2: what our peer
--- reads of the reply to its last packet where that was judged
+-- Success, or the Failure with the reason (646 to 649, 691, 709), R, no C and V, 1 or 2 by the
+-- change that the box was opened for: what our peer reads of the reply to its last packet where that was judged
 pub reply-read : (c : Conversation) (s : StepInput) (q : Peer) (behind : List ℕ)
     → refusalAt stepOn c s ≡ 0 → isRepeated (stepOn c s .answer .kind) ≡ false
     → q .sent .present ≡ true → q .sent .id ≡ c .id
     → peerReads q (replyOf (stepOn c s) ++ behind)
-    ≡ readingFor (replyFor c (reasonIn (stepOn c s .answer .kind)))
+    ≡ readingFor (c .terms) (replyFor c (reasonIn (stepOn c s .answer .kind)))
 reply-read c s q behind ok new sent id =
     rw sent (ap (λ (i : ℕ). readReply i (replyOf (stepOn c s) ++ behind)) id
     ∙ judged-read c s (kind-judged c (s .packet) (s .account) (s .buffer) ok new) behind)
@@ -63,7 +71,7 @@ reply-read c s q behind ok new sent id =
 pub repeat-heard : (c : Conversation) (s : StepInput) (q : Peer) (behind : List ℕ)
     → isRepeated (stepOn c s .answer .kind) ≡ true → reasonOf (c .last .reply) < 1000
     → q .sent .present ≡ true → q .sent .id ≡ c .last .id
-    → peerReads q (replyOf (stepOn c s) ++ behind) ≡ readingFor (c .last .reply)
+    → peerReads q (replyOf (stepOn c s) ++ behind) ≡ readingFor (c .terms) (c .last .reply)
 repeat-heard c s q behind again small sent id =
     rw sent (ap (λ (i : ℕ). readReply i (replyOf (stepOn c s) ++ behind)) id
     ∙ repeat-read c s again small behind)
@@ -110,7 +118,29 @@ module _ (t : Turn) (password name out padding : List ℕ)
       (length-response (ntHashOf password) (t .challenge)) (omega arith)
       (n .0) (n .1) none)
 
--- ---- a change
+-- ---- a version 1 change
+
+module _ (t : Turn) (old new out padding : List ℕ)
+    (ok : writeChangeOne t old new out .answer .refusal ≡ 0) where
+  abbrev changeOne : List ℕ
+  changeOne = left (writeChangeOne t old new out) ++ padding
+
+  -- every field: the LM ones zero, the length 65535, the flags 1
+  pub change-one-round-trip : ChangeOneBack (t .id) (changeOneFields (t .challenge) old new)
+      changeOne
+  change-one-round-trip =
+      subst (λ (x : List ℕ). ChangeOneBack (t .id) (changeOneFields (t .challenge) old new)
+      (x ++ padding)) (sym (change-one-left t old new out ok)) (change-one-found t old new padding)
+
+  -- its new field, decrypted under the challenge, is the new password's hash
+  pub hash-round-trip : hashFromChallenge (readChangeOne changeOne .ntnew) (t .challenge)
+      ≡ ntHashOf new
+  hash-round-trip =
+      ap (λ (f : ChangeOne). hashFromChallenge (f .ntnew) (t .challenge))
+      (change-one-round-trip .fields)
+      ∙ from-under (t .challenge) (ntHashOf new) (length-nt new) (octets-nt new)
+
+-- ---- a version 2 change
 
 module _ (t : Turn) (old new filler out padding : List ℕ)
     (ok : writeChange t old new filler out .answer .refusal ≡ 0) where

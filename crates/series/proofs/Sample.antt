@@ -24,6 +24,8 @@ use Rattle.authenticator.specs.Steps.{Box}
 use Rattle.accounts.specs.declared.Account.{Account}
 use Rattle.authenticator.specs.declared.Retries.{Retries}
 use Rattle.authenticator.specs.declared.Retries.the-variants.{Default, Count}
+use Rattle.authenticator.specs.declared.ChangeChoice.the-variants.{Unspecified}
+use Rattle.verify.specs.declared.ChangeVersion.the-variants.{Two}
 use Rattle.authenticator.specs.declared.LmChoice.the-variants.{Disallowed}
 use Rattle.authenticator.proofs.Openings.{may-open-empty}
 use Rattle.series.specs.Series.{
@@ -59,6 +61,7 @@ openingOf r limit =
       challenge = challenge;
       retries = r;
       lm = Disallowed;
+      change = Unspecified;
       limit = limit;
       issued = emptyList 8 3;
       buffer = replicate 17 0;
@@ -128,7 +131,7 @@ abbrev pub rightTry : Step
 rightTry = ours (right old user) (line 55 own)
 
 abbrev pub newPassword : Packet
-newPassword = passwordChange old new (replicate 512 7)
+newPassword = passwordChange Two old new (replicate 512 7)
 
 abbrev pub change : Passed → Step
 change l = ours newPassword (line 1118 l)
@@ -142,7 +145,7 @@ pub try-within : (password : List ℕ) (l : ExchangeInput) → badNtPassword pas
 try-within password l good out room = record { not8 = good; not10 = refl; not9 = out; not2 = room }
 
 change-within : (l : ExchangeInput) → 1118 ≤ length (l .out) → 17 ≤ length (l .buffer)
-    → ChangeWithin old new (replicate 512 7) l
+    → ChangeWithin Two old new (replicate 512 7) l
 change-within l out room = record {
   oldNot8 = refl;
   newNot8 = refl;

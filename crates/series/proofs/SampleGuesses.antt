@@ -115,7 +115,7 @@ module _ (limit : ℕ) where
           (ap (λ (o : Outcome). drewReply o (replicate 17 0)) took-so ∙ drew-judged begun guessAt d)
           (seen-new (unanswered begun) guessAt refl)
 
-      reply-so : replyOf (box begun guessAt) ≡ replyPacket 255 (d .reply)
+      reply-so : replyOf (box begun guessAt) ≡ replyPacket (begun .terms) 255 (d .reply)
       reply-so = ap replyOf took-so ∙ reply-of begun d (replicate 17 0) (omega arith)
 
 -- ---- one guess, with the sample's record and any count
@@ -182,7 +182,7 @@ pub record Guessed (box : Box) (rule : CountRule) (lock : ℕ → Bool) (limit :
   pub judged : (n : ℕ) (v : Bool)
       → isJudged box (unanswered (first limit n v)) (guess limit n v) ≡ true
   pub reply : (n : ℕ) (v : Bool) → replyOf (box (first limit n v) (guess limit n v))
-      ≡ replyPacket 255
+      ≡ replyPacket (first limit n v .terms) 255
       (replyFor (first limit n v) (cond (not (lock n) && v) noReason authenticationFailure))
   pub handed : (n : ℕ) (v : Bool) → box (first limit n v) (guess limit n v) .answer .updated
       ≡ found (withFailures (rule (lock n) v n) (account false))
@@ -194,7 +194,7 @@ by-rule rule limit =
     record {
       judged = λ n v. judged-so limit v (counting n) box (d n v) (box-took n v);
       reply = λ n v. reply-so limit v (counting n) box (d n v) (box-took n v)
-          ∙ ap (replyPacket 255) (reply-drawn limit n v);
+          ∙ ap (replyPacket (first limit n v .terms) 255) (reply-drawn limit n v);
       handed = λ n v. ap (λ (o : Outcome). o .answer .updated) (box-took n v)
           ∙ ap (λ (t : Bool). cond t (countedBy rule (first limit n v) (guess limit n v))
           (judge (first limit n v) (packetSaying v) (found (counting n)) .updated))
@@ -219,7 +219,7 @@ by-ours limit =
     record {
       judged = λ n v. judged-so limit v (counting n) stepOn (d n v) (took limit v (counting n));
       reply = λ n v. reply-so limit v (counting n) stepOn (d n v) (took limit v (counting n))
-          ∙ ap (replyPacket 255) (reply-drawn limit n v);
+          ∙ ap (replyPacket (first limit n v .terms) 255) (reply-drawn limit n v);
       handed = λ n v. ap (λ (o : Outcome). o .answer .updated) (took limit v (counting n))
           ∙ rule-counted limit n v failuresAfter;
     }
@@ -235,7 +235,7 @@ by-limit other limit =
     record {
       judged = λ n v. judged-so limit v (counting n) box (d n v) (box-took n v);
       reply = λ n v. reply-so limit v (counting n) box (d n v) (box-took n v)
-          ∙ ap (replyPacket 255) (reply-drawn (other limit) n v);
+          ∙ ap (replyPacket (first limit n v .terms) 255) (reply-drawn (other limit) n v);
       handed = λ n v. ap (λ (o : Outcome). o .answer .updated) (box-took n v)
           ∙ rule-counted (other limit) n v failuresAfter;
     }

@@ -14,11 +14,14 @@ use Rattle.challenges.specs.Challenges.{nextId}
 use Rattle.message.specs.Message.{calledFor, failedWith, noChallenge}
 use Rattle.message.specs.Reasons.{authenticationFailure}
 use Rattle.message.specs.declared.Reading.{Reading}
-use Rattle.packets.specs.Codes.{responseCode, changeCode}
+use Rattle.packets.specs.Codes.{responseCode}
 use Rattle.packets.specs.Frame.{octet, badFrame}
 use Rattle.packets.specs.Reply.{longestReply, badReplyBuffer}
 use Rattle.packets.specs.declared.ChallengeFields.{ChallengeFields}
 use Rattle.authenticator.specs.Admit.{isRepeat, stepRefusal}
+use Rattle.verify.specs.declared.ChangeVersion.{ChangeVersion}
+use Rattle.verify.specs.declared.ChangeVersion.the-variants.{One, Two}
+use Rattle.authenticator.specs.Conversation.{changeCodeOf}
 use Rattle.authenticator.specs.Encode.{version}
 use Rattle.authenticator.specs.Opening.{Opening, opened}
 use Rattle.authenticator.specs.Steps.{StepInput, Box, BoxState, repeatsAnswered, isRepeatAt}
@@ -44,7 +47,8 @@ use Rattle.series.specs.Series.{
   next,
 }
 use Rattle.series.specs.Writers.{ourWriter}
-use Rattle.series.proofs.RoundTrips.{challenge-read, response-round-trip, change-round-trip}
+use Rattle.series.proofs.RoundTrips.{challenge-read, response-round-trip}
+use Rattle.series.proofs.RoundTrips.{change-round-trip, change-one-round-trip}
 
 pub first-id : (o : Opening) → opened o .refusal ≡ 0 → length (o .challenge) ≡ 8 → (behind : List ℕ)
     (a : Account) → start o behind a .peer .turn .id ≡ o .id
@@ -60,7 +64,7 @@ module _ (box : Box) (p : SeriesState) (l : ExchangeInput) where
   abbrev codeOf : Packet → ℕ
   codeOf (invalid w n) = responseCode
   codeOf (right w n) = responseCode
-  codeOf (passwordChange o n f) = changeCode
+  codeOf (passwordChange v o n f) = changeCodeOf v
 
   abbrev Carries : ℕ → List ℕ → Type 0
   Carries code packet = (octet 0 packet ≡ code) × (octet 1 packet ≡ p .peer .turn .id)
@@ -75,16 +79,19 @@ module _ (box : Box) (p : SeriesState) (l : ExchangeInput) where
   pub sent-carries : (t : Packet) → Written t → Carries (codeOf t) (sent t)
   sent-carries (invalid w n) ok = try-carries w n ok
   sent-carries (right w n) ok = try-carries w n ok
-  sent-carries (passwordChange o n f) ok =
+  sent-carries (passwordChange One o n f) ok =
+      let back = change-one-round-trip (p .peer .turn) o n (l .out) (l .packetPadding) ok in
+      (back .code, back .id)
+  sent-carries (passwordChange Two o n f) ok =
       let back = change-round-trip (p .peer .turn) o n f (l .out) (l .packetPadding) ok in
       (back .code, back .id)
 
-  pub retry-id : (t : Packet) → Written t
+  pub retry-id : (v : ChangeVersion) (t : Packet) → Written t
       → peerReads (exchange box ourWriter p t l .peer) (exchange box ourWriter p t l .reply)
-      ≡ failedWith authenticationFailure 1 version noChallenge
+      ≡ failedWith authenticationFailure 1 (version v) noChallenge
       → next box ourWriter p (ours t l) .peer .turn .id ≡ nextId (p .peer .turn .id)
   unfolding nextTurn calledFor
-  retry-id t ok e =
+  retry-id v t ok e =
       ap (λ (r : Reading). nextTurn (exchange box ourWriter p t l .peer) r .id) e
       ∙ ap (λ (b : Bool). nextId (cond b (sentFor (p .peer .turn)) (p .peer .sent) .id))
       (eq-eqb _ 0 ok)

@@ -18,6 +18,7 @@ use Rattle.authenticator.specs.Opening.{Opening, openRefusal, opened, openedIss
 use Rattle.authenticator.specs.declared.Conversation.{Conversation}
 use Rattle.authenticator.specs.declared.Retries.{Retries}
 use Rattle.authenticator.specs.declared.Retries.the-variants.{Default, Count}
+use Rattle.authenticator.specs.declared.ChangeChoice.the-variants.{Unspecified}
 use Rattle.authenticator.specs.declared.LmChoice.{LmChoice}
 use Rattle.authenticator.specs.declared.LmChoice.the-variants.{Silent}
 use Rattle.authenticator.proofs.Openings.{opened-first, may-open-empty}
@@ -28,7 +29,7 @@ use Rattle.series.specs.OneList.{PassedOn, Openable, Two}
 
 abbrev pub openingWith : LmChoice → Issued → Retries → List ℕ → Opening
 openingWith lm list r challenge =
-    record { id = 7; challenge = challenge; retries = r; lm = lm; limit = 5; issued = list; buffer = replicate 17 0 }
+    record { id = 7; challenge = challenge; retries = r; lm = lm; change = Unspecified; limit = 5; issued = list; buffer = replicate 17 0 }
 
 abbrev pub openingOn : Issued → Retries → List ℕ → Opening
 openingOn = openingWith Silent

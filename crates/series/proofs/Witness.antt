@@ -24,6 +24,8 @@ use Rattle.accounts.specs.declared.Account.{Account}
 use Rattle.accounts.proofs.Agreeing.{counted-agrees}
 use Rattle.authenticator.specs.declared.Phase.the-variants.{Ended}
 use Rattle.authenticator.specs.declared.Retries.the-variants.{Default, Count}
+use Rattle.authenticator.specs.declared.ChangeChoice.the-variants.{Unspecified}
+use Rattle.verify.specs.declared.ChangeVersion.the-variants.{Two}
 use Rattle.authenticator.specs.declared.LmChoice.the-variants.{Silent}
 use Rattle.authenticator.specs.declared.Conversation.{Conversation}
 use Rattle.authenticator.proofs.Openings.{opened-first, may-open-empty}
@@ -202,7 +204,7 @@ met = (
 -- ---- the claim of this series
 
 -- each packet draws what it should, three are judged, and the conversation has ended
-pub claimed : Along (next ourBox ourWriter) (Claimed ourBox ourWriter record3)
+pub claimed : Along (next ourBox ourWriter) (Claimed ourBox ourWriter record3 Two)
     (start (opening (Count 1)) [] record3) steps
     × (total (next ourBox ourWriter) (judgedAt ourBox ourWriter)
     (start (opening (Count 1)) [] record3) steps ≡ 3)
@@ -231,11 +233,11 @@ drawn-again p s e pos =
 -- which no record is handed out again
 pub try-again : DrawnAgain (first .box) tried
 try-again = drawn-again (first .box) tried (ap (octet 0) (claimed .0 .1 .0 .0 .0)
-    ∙ failure-code _ (textOf 691 1 version)) (omega arith)
+    ∙ failure-code _ (textOf 691 1 (version Two))) (omega arith)
 
 pub right-again : DrawnAgain (second .box) proved
 right-again = drawn-again (second .box) proved (ap (octet 0) (claimed .0 .1 .1 .1 .1 .0 .0 .0)
-    ∙ failure-code _ (textOf 648 0 version)) (omega arith)
+    ∙ failure-code _ (textOf 648 0 (version Two))) (omega arith)
 
 pub change-again : DrawnAgain (third .box) changed
 change-again = drawn-again (third .box) changed (ap (octet 0)
@@ -257,6 +259,7 @@ laterOpening =
       challenge = replicate 8 1;
       retries = Default;
       lm = Silent;
+      change = Unspecified;
       limit = 1;
       issued = emptyList 8
           3;

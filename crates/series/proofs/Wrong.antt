@@ -25,6 +25,7 @@ use Rattle.authenticator.specs.Opening.{firstConversation, opened}
 use Rattle.authenticator.specs.Admit.{refusalFor}
 use Rattle.authenticator.specs.Conversation.{awaitedCode}
 use Rattle.challenges.specs.Challenges.{nextId}
+use Rattle.verify.specs.declared.ChangeVersion.the-variants.{Two}
 use Rattle.authenticator.specs.Encode.{version}
 use Rattle.verify.specs.Lockout.{failuresAfter}
 use Rattle.verify.specs.Response.{firstReason, responseReason}
@@ -126,7 +127,7 @@ module _ (d : Judge) (c : Conversation) (s : StepInput) (new : repeatsHere c s �
 
   -- and the reply is the one that it draws
   pub code-drawn : {n : ℕ} → 17 ≤ length (s .buffer) → octet 0 (replyOf (judging d c s)) ≡ n → 0 < n
-      → octet 0 (replyPacket (c .id) (d c s .reply)) ≡ n
+      → octet 0 (replyPacket (c .terms) (c .id) (d c s .reply)) ≡ n
   code-drawn room e pos =
       ap (octet 0) (sym (reply-of c (d c s) (s .buffer) room))
       ∙ ap (λ (o : Outcome). octet 0 (replyOf o)) (sym (drew e pos)) ∙ e
@@ -166,8 +167,8 @@ not-finding h =
     omega (
       arith,
       code,
-      ap (λ (r : Reply). octet 0 (replyPacket (p .box .conversation .id) r)) reply
-          ∙ failure-code _ (textOf 691 1 version),
+      ap (λ (r : Reply). octet 0 (replyPacket (p .box .conversation .terms) (p .box .conversation .id) r)) reply
+          ∙ failure-code _ _,
     )
 
 -- ---- accepts always
@@ -188,7 +189,7 @@ not-accepting h =
     ) in
     let s = exchange box ourWriter p (invalid bad user) (line 60 (another notFound)) .input in
     let code = code-drawn accepts (p .box .conversation) s (first-new s) (omega arith)
-    (ap (octet 0) (all .0 .0 .0 .0) ∙ failure-code _ (textOf 691 1 version)) (omega arith) in
+    (ap (octet 0) (all .0 .0 .0 .0) ∙ failure-code _ (textOf 691 1 (version Two))) (omega arith) in
     omega (arith, code, success-code (p .box .conversation .id))
 
 -- ---- pretends on retries
@@ -222,9 +223,9 @@ not-pretending h =
     let s = exchange box ourWriter p (invalid bad user) (line 60 (another notFound)) .input in
     let t = exchange box ourWriter q (invalid bad user) (line 60 (another notFound)) .input in
     let first = drew (pretends 2) (p .box .conversation) s (first-new s)
-    (ap (octet 0) (all .0 .0 .0 .0) ∙ failure-code _ (textOf 691 1 version)) (omega arith) in
+    (ap (octet 0) (all .0 .0 .0 .0) ∙ failure-code _ (textOf 691 1 (version Two))) (omega arith) in
     let left = ap (λ (o : Outcome). o .answer .next .retries) first ∙ one-left s refl in
-    let turn = retry-id box p (line 60 (another notFound)) (invalid bad user) (all .0 .0 .1) (all .0 .0 .0 .1)
+    let turn = retry-id box p (line 60 (another notFound)) Two (invalid bad user) (all .0 .0 .1) (all .0 .0 .0 .1)
     ∙ ap nextId (first-id (opening Default) opens-default refl [] (account false)) in
     let last = ap (λ (o : Outcome). o .answer .next .last .id) first
     ∙ ap (λ (c : Conversation). c .id) first-default in
@@ -233,11 +234,11 @@ not-pretending h =
     let pretended = ap (λ (n : ℕ). cond (ltb n 2) (accepts (q .box .conversation) t)
     (judge (q .box .conversation) (t .packet) notFound) .reply) left in
     let code = code-drawn (pretends 2) (q .box .conversation) t new (omega arith)
-    (ap (octet 0) (all .0 .1 .0 .0 .0) ∙ failure-code _ (textOf 691 1 version)) (omega arith) in
+    (ap (octet 0) (all .0 .1 .0 .0 .0) ∙ failure-code _ (textOf 691 1 (version Two))) (omega arith) in
     omega (
       arith,
       code,
-      ap (λ (r : Reply). octet 0 (replyPacket (q .box .conversation .id) r))
+      ap (λ (r : Reply). octet 0 (replyPacket (q .box .conversation .terms) (q .box .conversation .id) r))
           pretended ∙ success-code (q .box .conversation .id),
     )
 
@@ -248,7 +249,7 @@ not-pretending h =
 abbrev Expired : Conversation → List ℕ → Type 0
 Expired c p =
     let d = judge c p (found (account true)) in
-    let reply = replyPacket (c .id) (d .reply) in
+    let reply = replyPacket (c .terms) (c .id) (d .reply) in
     (octet 0 reply ≡ 4) × (octet 7 reply ≡ 52 → d .next .kept ≡ entryOf (account true))
 
 expired-first : (p : List ℕ) → Expired (firstConversation (opening Default)) p
@@ -260,7 +261,7 @@ expired-first p = which (validIn (firstConversation (opening Default)) (account 
     c = firstConversation (opening Default)
 
     which : (v : Bool) → let e = firstReason v (entryOf (account true)) in
-        let reply = replyPacket 255 (replyFor c e) in
+        let reply = replyPacket (c .terms) 255 (replyFor c e) in
         (octet 0 reply ≡ 4) × (octet 7 reply ≡ 52
         → afterReason c (entryOf (withFailures (failuresAfter false v 0) (account true))) e .kept
         ≡ entryOf (account true))
@@ -271,7 +272,7 @@ expired-drawn : (p : List ℕ) → Expired (opened (opening Default) .conversati
 expired-drawn p = subst (λ (c : Conversation). Expired c p) (sym first-default) (expired-first p)
 
 -- the octet of E's second digit: 648
-four-of : (id : ℕ) → octet 7 (failurePacket id (textOf 648 0 version)) ≡ 52
+four-of : (id : ℕ) → octet 7 (failurePacket id (textOf 648 0 (version Two))) ≡ 52
 unfolding failurePacket textOf hexOf
 four-of id = refl
 
@@ -296,7 +297,7 @@ not-leaving-record h =
     (right-allowed box ourWriter p true, (change-allowed box ourWriter q true own, tt)) in
     let s = exchange box ourWriter p (right old user) (line 55 own) .input in
     let first = drew leavesRecord (p .box .conversation) s (first-new s)
-    (ap (octet 0) (all .0 .0 .0 .0) ∙ failure-code _ (textOf 648 0 version)) (omega arith) in
+    (ap (octet 0) (all .0 .0 .0 .0) ∙ failure-code _ (textOf 648 0 (version Two))) (omega arith) in
     let expired = expired-drawn (s .packet) in
     let four = ap (octet 7) (sym (reply-of (p .box .conversation)
     (leavesRecord (p .box .conversation) s) (s .buffer) (omega arith))
@@ -305,7 +306,7 @@ not-leaving-record h =
     let answered = all .0 .1 .0 .0 in
     let t = exchange box ourWriter q newPassword (line 1118 own) .input in
     let last = ap (λ (o : Outcome). o .answer .next .last .code) first
-    ∙ ap (λ (c : Conversation). awaitedCode (c .phase)) first-default in
+    ∙ ap (λ (c : Conversation). awaitedCode (c .terms .change) (c .phase)) first-default in
     let sent = sent-carries box q (line 1118 own) newPassword (all .0 .1 .0 .1) .0 in
     let fresh = other-code (q .box .conversation) t (λ e. omega (arith, sym sent ∙ e ∙ last)) in
     let d = judge (q .box .conversation) (t .packet) (t .account) .updated in

@@ -27,12 +27,13 @@ use Rattle.smbpasswd.specs.Write.{hashText, timeText, changedLine, writtenIn}
 use Rattle.smbpasswd.specs.declared.Found.{Found}
 use Rattle.smbpasswd.specs.declared.Place.the-variants.{Line}
 use Rattle.series.specs.Course.{Along}
+use Rattle.verify.specs.declared.ChangeVersion.the-variants.{Two}
 use Rattle.series.specs.Series.{own, another, right, Step, ours, PasswordChange, SeriesState, start, exchange, next, Allowed}
 use Rattle.series.specs.Boxes.{ourBox}
 use Rattle.series.specs.Writers.{ourWriter}
 use Rattle.series.specs.AccountFile.{FileWriter, keepingTime, writingZero, keepingLm, losingOthers, notWriting, aged, again, KeptAt, KeptInFile}
 use Rattle.series.proofs.Sample.{opening, opens-default, old, new, user, line, newPassword, change, try-within, change-allowed}
-use Rattle.series.proofs.Demand3.{law, change-updated, ready-first}
+use Rattle.series.proofs.Demand3.{termsOf, law, change-updated, ready-first}
 use Rattle.series.proofs.AccountFile.{kept-in-file}
 
 -- ---- a file with one account
@@ -101,16 +102,17 @@ change-is-allowed = (change-allowed ourBox ourWriter second true (another notFou
 
 -- the record that the change hands out
 abbrev handedOut : Lookup
-handedOut = found (changed (entryOf account) newHash)
+handedOut = found (changed (entryOf account) (hashOf newHash) noHash)
 
 handed-out : exchange ourBox ourWriter second newPassword (line 1118 (another notFound)) .outcome .answer .updated ≡ handedOut
 handed-out =
     let ready = ready-first (opening Default) opens-default refl 0 [] (first ∷ change (another notFound) ∷ []) account (omega arith) (omega arith) refl in
-    change-updated account rightful agreeing 5 [] second old new (replicate 512 7)
+    change-updated account rightful agreeing (termsOf (opening Default)) [] second Two old new
+    (replicate 512 7)
     (line 1118 (another notFound))
-    (law account rightful agreeing 5 (PasswordChange ∷ []) begun first ready first-allowed .2)
+    (law account rightful agreeing (termsOf (opening Default)) (PasswordChange Two ∷ []) begun first ready first-allowed .2)
     change-is-allowed
-    ∙ ap (λ (h : List ℕ). found (changed (entryOf account) h)) hash-new
+    ∙ ap (λ (h : List ℕ). found (changed (entryOf account) (hashOf h) noHash)) hash-new
 
 -- the claim, at this series
 series : (write : FileWriter) → KeptInFile ourBox ourWriter write

@@ -6,6 +6,7 @@
 -- Assumes nothing.
 use mathlib.Core.Bool.{Bool, true, false, cond, not, _&&_}
 use mathlib.Core.List.{List, [], _∷_}
+use mathlib.Core.Logic.{inl, inr}
 use mathlib.Core.Path.{_≡_, refl, ap, _∙_}
 use Prim.Native.Nat.{ℕ, suc, _≤_, _<_}
 use native.Mathlib.Omega.{arith}
@@ -20,12 +21,17 @@ use Rattle.authenticator.specs.Steps.{Box, replyOf}
 use Rattle.series.specs.Course.{end}
 use Rattle.series.specs.Boxes.{judging, CountRule, countsBy, fromFirst, wrapping, clearing}
 use Rattle.series.specs.Boxes.{notCounting, limitedTo}
-use Rattle.series.specs.Guesses.{firstState, outcomeOf, runNext, GuessLimit}
+use Rattle.verify.specs.declared.ChangeVersion.the-variants.{One, Two}
+use Rattle.series.specs.Guesses.{firstState, IsFailure691, outcomeOf, runNext, GuessLimit}
 use Rattle.series.proofs.SampleGuesses.{packetSaying, counting, first, Guessed, by-rule, by-limit}
 use Rattle.series.proofs.GuessRuns.{sent, calls, countAfter, allFail, is-guess, reply-so}
 use Rattle.series.proofs.GuessRuns.{ran}
 use Rattle.series.proofs.Wrong.{success-code}
 use Rattle.series.proofs.WrongLm.{failed}
+
+failed-691 : (id : ℕ) (reply : List ℕ) → IsFailure691 id reply → octet 0 reply ≡ 4
+failed-691 id reply (inl h) = failed One id reply h
+failed-691 id reply (inr h) = failed Two id reply h
 
 -- as many guesses as the limit were turned away, and the right password gets in
 pub guessed : (box : Box) (rule : CountRule) (lock : ℕ → Bool) (limit : ℕ)
@@ -41,11 +47,11 @@ guessed box rule lock limit facts pos few n vs away enough unlocked h =
     (omega (arith, r .many, enough)) (sent true)
     (is-guess box rule lock limit facts pos p k (r .counted) (r .onLine) true) in
     let in-again = reply-so box rule lock limit facts pos p k (r .counted) (r .onLine) true
-    ∙ ap (λ (t : Bool). replyPacket 255 (replyFor (first limit k true)
+    ∙ ap (λ (t : Bool). replyPacket (first limit k true .terms) 255 (replyFor (first limit k true)
     (cond (not t && true) noReason authenticationFailure))) unlocked in
     omega (
       arith,
-      failed (octet 1 (packetSaying true)) (replyOf (outcomeOf box p (sent true))) (claim .0),
+      failed-691 (octet 1 (packetSaying true)) (replyOf (outcomeOf box p (sent true))) (claim .0),
       ap (octet 0) in-again,
       success-code 255,
     )

@@ -39,6 +39,8 @@ use Rattle.authenticator.proofs.Seen.{judged-exactly, unanswered-tracks}
 use Rattle.authenticator.proofs.Steps.{number-step, repeated-step, drew-exactly, repeated-reply}
 use Rattle.series.specs.Boxes.{withLm}
 use Rattle.series.specs.Openers.{refusesSilent, takesLm, opensAnswered}
+use Rattle.verify.specs.declared.ChangeVersion.{ChangeVersion}
+use Rattle.verify.specs.declared.ChangeVersion.the-variants.{Two}
 use Rattle.series.specs.LmOptIn.{isByLm, IsAuthenticationFailure, LmPeer, LmOptIn}
 use Rattle.series.proofs.LmOptIn.{not-by-lm, turned-away, peer-passes, peer-in}
 use Rattle.series.proofs.OneList.{opens-where-it-may}
@@ -100,9 +102,10 @@ lm-peer l =
 abbrev code : Conversation → ℕ
 code c = octet 0 (replyOf (stepOn c sent))
 
-pub failed : (id : ℕ) (reply : List ℕ) → IsAuthenticationFailure id reply → octet 0 reply ≡ 4
-failed id reply (inl e) = ap (octet 0) e ∙ failure-code id _
-failed id reply (inr e) = ap (octet 0) e ∙ failure-code id _
+pub failed : (v : ChangeVersion) (id : ℕ) (reply : List ℕ) → IsAuthenticationFailure v id reply
+    → octet 0 reply ≡ 4
+failed v id reply (inl e) = ap (octet 0) e ∙ failure-code id _
+failed v id reply (inr e) = ap (octet 0) e ∙ failure-code id _
 
 module _ (l : LmChoice) where
   abbrev first : Bool → Conversation
@@ -115,7 +118,7 @@ module _ (l : LmChoice) where
   let-in = ap (octet 0) (peer-in (sample l) lmOnly sent (lm-peer l)) ∙ success-code 7
 
   turned : code (first false) ≡ 4
-  turned = failed 7 (replyOf (stepOn (first false) sent))
+  turned = failed Two 7 (replyOf (stepOn (first false) sent))
       (turned-away (first false) sent (not-by-lm (first false) sent refl by-lm) refl
       (sent-passes false))
 
@@ -143,7 +146,7 @@ module _ (takes : LmChoice → Bool) (claim : LmOptIn (takesLm takes)) where
           let same = conversation-taking l takes e in
           let judged = subst (λ (c : Conversation). isJudged stepOn (unanswered c) sent ≡ true)
           (sym same) (sent-judged l true) in
-          let out = failed _ _ (claim .off (sample l) h [] sent (there .code) by-lm judged .0) in
+          let out = failed Two _ _ (claim .off (sample l) h [] sent (there .code) by-lm judged .0) in
           absurd (omega (arith, let-in l, ap code same, out))
 
   yes : takes Allowed ≡ true
@@ -208,6 +211,6 @@ module _ (claim : LmOptIn opensAnswered) where
       let same = ap alreadyAnswered (opens-where-it-may (sample Silent) (openable Silent) .1) in
       let judged = subst (λ (x : Conversation). isJudged stepOn (unanswered x) sent ≡ true)
       (sym same) seen-judged in
-      let out = failed _ _ (claim .off (sample Silent) (λ e. false≢true (ap lmAllowed e)) [] sent
+      let out = failed Two _ _ (claim .off (sample Silent) (λ e. false≢true (ap lmAllowed e)) [] sent
       (there .code) by-lm judged .0) in
       omega (arith, success, ap code same, out)

@@ -22,6 +22,7 @@ use Rattle.packets.specs.Response.{responseRefusal}
 use Rattle.packets.specs.Reply.{failurePacket}
 use Rattle.packets.proofs.ReadBack.{ResponseBack}
 use Rattle.packets.proofs.Writing.{length-success}
+use Rattle.verify.specs.declared.ChangeVersion.the-variants.{Two}
 use Rattle.authenticator.specs.Encode.{replyPacket}
 use Rattle.series.proofs.Repeats.{again-itself}
 use Rattle.accounts.specs.Account.{notFound, found}
@@ -152,7 +153,7 @@ module _ (w : Conversation → StepInput → Bool) (f : Box) where
       (repeats-again second (try 255) t kept
       (record { code = code; id = id; room = r .room; frame = r .frame }))
     where
-      kept : Keeps (second .last) (try 255 .packet) (replyPacket 255 (Failure 691 true))
+      kept : Keeps second (try 255 .packet) (replyPacket (second .terms) 255 (Failure 691 true))
       kept = record { present = refl; code = refl; id = refl; drawn = refl }
 
   as-ours : (c : Conversation) (s : StepInput) → repeatsHere c s ≡ false → answeringRepeats w f c s
@@ -313,7 +314,7 @@ module _ (k : Kind) (h : Demand3 (handsOutAgain k) ourWriter) where
   abbrev t : StepInput
   t = exchange box ourWriter q newPassword (line 1118 (another notFound)) .input
 
-  claimed : Along (next box ourWriter) (Claimed box ourWriter (account true)) p
+  claimed : Along (next box ourWriter) (Claimed box ourWriter (account true) Two) p
       (rightTry ∷ change (another notFound) ∷ [])
   claimed =
       h (opening (Count 1)) opens-once refl .1 (account true) 0 []
@@ -356,9 +357,9 @@ module _ (k : Kind) (h : Demand3 (handsOutAgain k) ourWriter) where
       (ap (λ (x : Outcome). octet 0 (replyOf x)) (sym theirs)
       ∙ ap (octet 0) (claimed .1 .0 .0 .0 .0) ∙ success-code _) (omega arith)
 
-  kept : Keeps (r .box .conversation .last) (t .packet) (replyOf (stepOn (q .box .conversation) t))
+  kept : Keeps (r .box .conversation) (t .packet) (replyOf (stepOn (q .box .conversation) t))
   kept =
-      subst (λ (x : Outcome). Keeps (x .answer .next .last) (t .packet)
+      subst (λ (x : Outcome). Keeps (x .answer .next) (t .packet)
       (replyOf (stepOn (q .box .conversation) t))) (sym theirs)
       (answered (q .box .conversation) t change-answered)
 

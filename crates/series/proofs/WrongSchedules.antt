@@ -28,6 +28,7 @@ use Rattle.accounts.specs.declared.Lookup.{Lookup}
 use Rattle.verify.specs.Lockout.{isLocked, failuresAfter}
 use Rattle.verify.specs.Response.{answers, valid, firstReason, responseReason, counted}
 use Rattle.authenticator.specs.Conversation.{awaitedCode}
+use Rattle.verify.specs.declared.ChangeVersion.the-variants.{Two}
 use Rattle.authenticator.specs.Encode.{version, replyPacket}
 use Rattle.authenticator.specs.Judge.{validIn, replyFor, judgeResponse, judge}
 use Rattle.authenticator.specs.Opening.{firstConversation}
@@ -208,13 +209,13 @@ not-replying-by-hash h =
       (right-allowed box ourWriter (next box ourWriter p (ours (invalid bad user) l)) false, tt),
     ) in
     let code = code-drawn repliesByHash (p .box .conversation) s (first-new s) (omega arith)
-    (ap (octet 0) (all .0 .0 .0 .0) ∙ failure-code _ (textOf 691 1 version)) (omega arith) in
+    (ap (octet 0) (all .0 .0 .0 .0) ∙ failure-code _ (textOf 691 1 (version Two))) (omega arith) in
     let reply = ap (λ (c : Conversation). judge c (s .packet) (found badOnly) .reply) first-default
     ∙ hash-accepted (readResponse (s .packet)) (fields box (account false)) in
     omega (
       arith,
       code,
-      ap (λ (x : Reply). octet 0 (replyPacket (p .box .conversation .id) x)) reply
+      ap (λ (x : Reply). octet 0 (replyPacket (p .box .conversation .terms) (p .box .conversation .id) x)) reply
           ∙ success-code _,
     )
 
@@ -223,12 +224,12 @@ not-replying-by-hash h =
 -- our peer's change from "MyPw" to "bad", and what is passed with it: a record with the round keys
 -- of "MyPw"
 abbrev toBad : Packet
-toBad = passwordChange old bad (replicate 512 7)
+toBad = passwordChange Two old bad (replicate 512 7)
 
 abbrev passedOld : ExchangeInput
 passedOld = line 1118 (another (found (account false)))
 
-bad-within : ChangeWithin old bad (replicate 512 7) passedOld
+bad-within : ChangeWithin Two old bad (replicate 512 7) passedOld
 bad-within = record {
   oldNot8 = refl;
   newNot8 = refl;
@@ -248,9 +249,9 @@ not-keeping-schedules h =
     (omega arith) refl (right-allowed box ourWriter p true, ((bad-within, refl), tt)) in
     let s = exchange box ourWriter p (right old user) (line 55 own) .input in
     let first = drew keepsSchedules (p .box .conversation) s (first-new s)
-    (ap (octet 0) (all .0 .0 .0 .0) ∙ failure-code _ (textOf 648 0 version)) (omega arith) in
+    (ap (octet 0) (all .0 .0 .0 .0) ∙ failure-code _ (textOf 648 0 (version Two))) (omega arith) in
     let last = ap (λ (o : Outcome). o .answer .next .last .code) first
-    ∙ ap (λ (c : Conversation). awaitedCode (c .phase)) first-default in
+    ∙ ap (λ (c : Conversation). awaitedCode (c .terms .change) (c .phase)) first-default in
     let answered = all .0 .1 .0 .0 in
     let t = exchange box ourWriter q toBad passedOld .input in
     let sent = sent-carries box q passedOld toBad (all .0 .1 .0 .1) .0 in
@@ -273,6 +274,6 @@ not-keeping-schedules h =
     omega (
       arith,
       code,
-      ap (λ (x : Reply). octet 0 (replyPacket (r .box .conversation .id) x)) reply
+      ap (λ (x : Reply). octet 0 (replyPacket (r .box .conversation .terms) (r .box .conversation .id) x)) reply
           ∙ failure-code _ _,
     )

@@ -118,7 +118,7 @@ module _ (c : Conversation) (lm : c .terms .lm ≡ false) (ph : c .phase ≡ Res
           let d = judge c (s .packet) (s .account) in
           let code = ap (λ (o : Outcome). octet 0 (replyOf o)) z
           ∙ ap (octet 0) (reply-of c d (s .buffer) room
-          ∙ ap (replyPacket (c .id)) (fails c ph s not-valid))
+          ∙ ap (replyPacket (c .terms) (c .id)) (fails c ph s not-valid))
           ∙ failure-code (c .id) _ in
           omega arith
 

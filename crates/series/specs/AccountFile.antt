@@ -12,7 +12,7 @@ use Rattle.octets.specs.Parts.{agrees}
 use Rattle.accounts.specs.Account.{accountWith, lookupOf, found, withFailures, Rightful}
 use Rattle.accounts.specs.declared.Account.{Account}
 use Rattle.accounts.specs.declared.Lookup.{Lookup}
-use Rattle.authenticator.specs.Opening.{Opening, retriesOf, opened}
+use Rattle.authenticator.specs.Opening.{Opening, retriesOf, changeOf, opened}
 use Rattle.authenticator.specs.Steps.{Box}
 use Rattle.smbpasswd.specs.Line.{colon, letterX, field, fromField}
 use Rattle.smbpasswd.specs.Record.{hasFlag, isExpired}
@@ -109,8 +109,8 @@ module _ (box : Box) (writer : Writer) (write : FileWriter) (name file : List �
   abbrev pub KeptAt : SeriesState → Step → Type 0
   KeptAt p (ours (invalid w n) l) = Unit {0}
   KeptAt p (ours (right w n) l) = Unit {0}
-  KeptAt p (ours (passwordChange old new filler) l) = KeptBy
-      (exchange box writer p (passwordChange old new filler) l) new
+  KeptAt p (ours (passwordChange v old new filler) l) = KeptBy
+      (exchange box writer p (passwordChange v old new filler) l) new
   KeptAt p (other s) = Unit {0}
 
 -- Whatever file the box's record was found in, at whatever time and for whatever maximum age, and
@@ -124,6 +124,6 @@ KeptInFile box writer write =
     → (o : Opening) → opened o .refusal ≡ 0 → length (o .challenge) ≡ 8
     → (k : ℕ) (behind : List ℕ) (ms : List Step)
     → Rightful a → k ≤ retriesOf (o .retries) → a .failures + k < o .limit
-    → collect packetKinds ms ≡ plan k (a .expired)
+    → collect packetKinds ms ≡ plan k (changeOf (o .change)) (a .expired)
     → Along (next box writer) (Allowed box writer a) (start o behind a) ms
     → Along (next box writer) (KeptAt box writer write name file) (start o behind a) ms

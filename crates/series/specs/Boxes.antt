@@ -155,7 +155,7 @@ notCounting locked v n = n
 abbrev pub withLimit : ℕ → Conversation → Conversation
 withLimit limit c =
     record {
-      terms = record { lm = c .terms .lm; limit = limit };
+      terms = record { lm = c .terms .lm; limit = limit; change = c .terms .change };
       id = c .id;
       challenge = c .challenge;
       retries = c .retries;
@@ -248,8 +248,8 @@ abbrev pub laysReply : Box
 laysReply c s =
     record {
       answer = refusedAs (refusalAt stepOn c s) c (s .buffer) .answer;
-      buffer = writtenOver (replyPacket (c .id) (judge c (s .packet) (s .account) .reply))
-          (s .buffer);
+      buffer = writtenOver
+          (replyPacket (c .terms) (c .id) (judge c (s .packet) (s .account) .reply)) (s .buffer);
     }
 
 -- hands out the record that was passed
@@ -270,7 +270,7 @@ handsOutRecord c s =
 abbrev pub withLm : Bool → Conversation → Conversation
 withLm allowed c =
     record {
-      terms = record { lm = allowed; limit = c .terms .limit };
+      terms = record { lm = allowed; limit = c .terms .limit; change = c .terms .change };
       id = c .id;
       challenge = c .challenge;
       retries = c .retries;

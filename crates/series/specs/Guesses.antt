@@ -17,6 +17,8 @@ use Rattle.packets.specs.Frame.{octet}
 use Rattle.packets.specs.Reply.{failurePacket}
 use Rattle.accounts.specs.declared.Account.{Account}
 use Rattle.authenticator.specs.Conversation.{closed}
+use Rattle.verify.specs.declared.ChangeVersion.{ChangeVersion}
+use Rattle.verify.specs.declared.ChangeVersion.the-variants.{One, Two}
 use Rattle.authenticator.specs.Encode.{version}
 use Rattle.authenticator.specs.Opening.{Opening, opened}
 use Rattle.authenticator.specs.Step.{Outcome, withoutRecord}
@@ -69,11 +71,18 @@ abbrev pub isOwn : Passed → Bool
 isOwn own = true
 isOwn (another l) = false
 
--- a Failure with 691, or a change's with 709
+-- a Failure with 691, or a change's with 709, of a box that was opened for a version's change
+abbrev pub TurnsAway : ChangeVersion → ℕ → List ℕ → Type 0
+TurnsAway v id reply =
+    IsAuthenticationFailure v id reply
+    ⊎ (reply ≡ failurePacket id (textOf changingPassword 0 (version v)))
+
+-- whatever it was opened for
 abbrev pub IsTurnedAway : ℕ → List ℕ → Type 0
-IsTurnedAway id reply =
-    IsAuthenticationFailure id reply
-    ⊎ (reply ≡ failurePacket id (textOf changingPassword 0 version))
+IsTurnedAway id reply = TurnsAway One id reply ⊎ TurnsAway Two id reply
+
+abbrev pub IsFailure691 : ℕ → List ℕ → Type 0
+IsFailure691 id reply = IsAuthenticationFailure One id reply ⊎ IsAuthenticationFailure Two id reply
 
 module _ (box : Box) where
   abbrev pub outcomeOf : RunState → LinePacket → Outcome
@@ -123,7 +132,7 @@ module _ (box : Box) where
   -- a guess draws 691, and all but the record that is handed out is as with no record
   abbrev pub LockedOut : RunState → LinePacket → Type 0
   LockedOut p s =
-      IsAuthenticationFailure (octet 1 (s .packet)) (replyOf (outcomeOf p s))
+      IsFailure691 (octet 1 (s .packet)) (replyOf (outcomeOf p s))
       × (withoutRecord (outcomeOf p s)
       ≡ withoutRecord (box (p .lines (s .line) .conversation) (withNoRecord (inputOf p s))))
 

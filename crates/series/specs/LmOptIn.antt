@@ -18,8 +18,9 @@ use Rattle.packets.specs.Reply.{successPacket, failurePacket}
 use Rattle.accounts.specs.Account.{notFound, found, LogonPermitted, Agree}
 use Rattle.accounts.specs.declared.Account.{Account}
 use Rattle.authenticator.specs.Admit.{refusalFor}
+use Rattle.verify.specs.declared.ChangeVersion.{ChangeVersion}
 use Rattle.authenticator.specs.Encode.{version}
-use Rattle.authenticator.specs.Opening.{Opening, firstConversation}
+use Rattle.authenticator.specs.Opening.{Opening, changeOf, firstConversation}
 use Rattle.authenticator.specs.Step.{withoutRecord}
 use Rattle.authenticator.specs.Steps.{StepInput, replyOf, BoxState, unanswered}
 use Rattle.authenticator.specs.Steps.{isJudged, nextState}
@@ -38,11 +39,11 @@ isByLm s = not (eqb (readResponse (s .packet) .flag) 1 && s .account .account .n
 abbrev pub withNoRecord : StepInput → StepInput
 withNoRecord s = record { packet = s .packet; account = notFound; buffer = s .buffer }
 
--- a Failure with 691, with a retry or without
-abbrev pub IsAuthenticationFailure : ℕ → List ℕ → Type 0
-IsAuthenticationFailure id reply =
-    (reply ≡ failurePacket id (textOf authenticationFailure 1 version))
-    ⊎ (reply ≡ failurePacket id (textOf authenticationFailure 0 version))
+-- a Failure with 691, with a retry or without, of a box that was opened for a version's change
+abbrev pub IsAuthenticationFailure : ChangeVersion → ℕ → List ℕ → Type 0
+IsAuthenticationFailure v id reply =
+    (reply ≡ failurePacket id (textOf authenticationFailure 1 (version v)))
+    ⊎ (reply ≡ failurePacket id (textOf authenticationFailure 0 (version v)))
 
 -- The first Response of a peer that knows its LM hash alone (an "old phone"): it is by LM, the
 -- record has that hash, its round keys agree, it is permitted to log on and is not locked, and the
@@ -71,7 +72,7 @@ module _ (opener : Opener) where
       (o : Opening) → o .lm ≢ Allowed → (ss : List StepInput) (s : StepInput)
       → octet 0 (s .packet) ≡ responseCode → isByLm s ≡ true
       → isJudged ourBox (placeAfter o ss) s ≡ true
-      → IsAuthenticationFailure (octet 1 (s .packet))
+      → IsAuthenticationFailure (changeOf (o .change)) (octet 1 (s .packet))
       (replyOf (ourBox (placeAfter o ss .conversation) s))
       × (withoutRecord (ourBox (placeAfter o ss .conversation) s)
       ≡ withoutRecord (ourBox (placeAfter o ss .conversation) (withNoRecord s)))
@@ -82,7 +83,8 @@ module _ (opener : Opener) where
   OnIfAllowed =
       (o : Opening) → o .lm ≡ Allowed → Openable o → (a : Account) (s : StepInput) → LmPeer o a s
       → replyOf (ourBox (opener .answer o .conversation) s)
-      ≡ cond (a .expired) (failurePacket (o .id) (textOf passwordExpired 0 version))
+      ≡ cond (a .expired)
+      (failurePacket (o .id) (textOf passwordExpired 0 (version (changeOf (o .change)))))
       (successPacket (o .id))
 
   -- Whatever is said of LM, an opening that needs nothing more hands out a conversation that goes

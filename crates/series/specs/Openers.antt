@@ -64,6 +64,7 @@ noRetries o =
       challenge = o .challenge;
       retries = Count 0;
       lm = o .lm;
+      change = o .change;
       limit = o .limit;
       issued = o .issued;
       buffer = o .buffer;

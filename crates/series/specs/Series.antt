@@ -1,5 +1,5 @@
 -- Demand 3. Words in quotes are document 01's, "The series in demand 3", and document 02's,
--- requests 2026-01, 2026-09 and 2026-10.
+-- requests 2026-01, 2026-07, 2026-09 and 2026-10.
 -- Assumes nothing: these are definitions.
 use mathlib.Core.Bool.{Bool, true, false, cond}
 use mathlib.Core.List.{List, [], _∷_, _++_}
@@ -12,11 +12,13 @@ use Rattle.message.specs.Message.{textOf, failedWith, noChallenge, succeeded}
 use Rattle.message.specs.declared.Reading.{Reading}
 use Rattle.packets.specs.Response.{badName, readResponse}
 use Rattle.packets.specs.Reply.{successPacket, failurePacket, readChallenge, longestReply}
-use Rattle.packets.specs.Sizes.{nameOffset, changeSize}
+use Rattle.packets.specs.Sizes.{nameOffset, changeSize, changeOneSize}
 use Rattle.packets.specs.declared.ChallengeFields.{ChallengeFields}
 use Rattle.accounts.specs.Account.{found, Rightful, Agree}
 use Rattle.verify.specs.Response.{foundValid}
-use Rattle.authenticator.specs.Opening.{Opening, retriesOf, opened, openedBuffer}
+use Rattle.verify.specs.declared.ChangeVersion.{ChangeVersion}
+use Rattle.verify.specs.declared.ChangeVersion.the-variants.{One, Two}
+use Rattle.authenticator.specs.Opening.{Opening, retriesOf, changeOf, opened, openedBuffer}
 use Rattle.authenticator.specs.Encode.{version}
 use Rattle.authenticator.specs.Step.{Outcome}
 use Rattle.authenticator.specs.Steps.{StepInput, Box, replyOf, BoxState, unanswered, judged}
@@ -34,11 +36,11 @@ use Rattle.series.specs.Writers.{Writer}
 -- ---- our peer's packets
 
 -- A packet that our peer writes: a "try" from a password, invalid or with the "right password", or
--- the change.
+-- the change, of either version. (Version 1's has no filler: what stands there has no effect.)
 pub data Packet : Type 0 where
   invalid : (password name : List ℕ) → Packet
   right : (password name : List ℕ) → Packet
-  passwordChange : (old new filler : List ℕ) → Packet
+  passwordChange : (version : ChangeVersion) (old new filler : List ℕ) → Packet
 
 -- The record that is passed with a packet: the rightful account's, which is "the record last handed
 -- out" for it, or another account's or none.
@@ -61,21 +63,23 @@ pub data Step : Type 0 where
   other : StepInput → Step
 
 pub data PacketKind : Type 0 where
-  Invalid Right PasswordChange : PacketKind
+  Invalid Right : PacketKind
+  PasswordChange : ChangeVersion → PacketKind
 
 abbrev pub packetKind : Packet → PacketKind
 packetKind (invalid w n) = Invalid
 packetKind (right w n) = Right
-packetKind (passwordChange o n f) = PasswordChange
+packetKind (passwordChange v o n f) = PasswordChange v
 
 abbrev pub packetKinds : Step → List PacketKind
 packetKinds (ours t l) = packetKind t ∷ []
 packetKinds (other s) = []
 
 -- our peer's packets in their order: "k invalid tries", the right password and, "after 648", the
--- change
-abbrev pub plan : ℕ → Bool → List PacketKind
-plan k expired = replicate k Invalid ++ (Right ∷ cond expired (PasswordChange ∷ []) [])
+-- change, of the version that the box was opened for: "For such a box demand 3 reads "version 1
+-- change"" (request 2026-07)
+abbrev pub plan : ℕ → ChangeVersion → Bool → List PacketKind
+plan k v expired = replicate k Invalid ++ (Right ∷ cond expired (PasswordChange v ∷ []) [])
 
 -- ---- a packet on its way
 
@@ -110,7 +114,7 @@ start o behind a = record {
 abbrev pub writes : Writer → Turn → Packet → List ℕ → Wrote
 writes w t (invalid p n) out = w .response t p n out
 writes w t (right p n) out = w .response t p n out
-writes w t (passwordChange o n f) out = w .change t o n f out
+writes w t (passwordChange v o n f) out = w .change v t o n f out
 
 -- "it reaches the box as written": what the writer left in its output buffer, with padding behind
 -- it
@@ -141,17 +145,27 @@ pub record TryWithin (password name : List ℕ) (l : ExchangeInput) : Type 0 whe
   pub not9 : nameOffset + length name ≤ length (l .out)
   pub not2 : longestReply ≤ length (l .buffer)
 
-pub record ChangeWithin (old new filler : List ℕ) (l : ExchangeInput) : Type 0 where
+-- how long a change is, and whether its filler draws 12: version 1's has none
+abbrev pub changeSizeOf : ChangeVersion → ℕ
+changeSizeOf One = changeOneSize
+changeSizeOf Two = changeSize
+
+abbrev pub badFillerOf : ChangeVersion → List ℕ → Bool
+badFillerOf One filler = false
+badFillerOf Two filler = badFiller filler
+
+pub record ChangeWithin (v : ChangeVersion) (old new filler : List ℕ)
+    (l : ExchangeInput) : Type 0 where
   pub oldNot8 : badNtPassword old ≡ false
   pub newNot8 : badNtPassword new ≡ false
-  pub not12 : badFiller filler ≡ false
-  pub not9 : changeSize ≤ length (l .out)
+  pub not12 : badFillerOf v filler ≡ false
+  pub not9 : changeSizeOf v ≤ length (l .out)
   pub not2 : longestReply ≤ length (l .buffer)
 
 abbrev pub Within : Packet → ExchangeInput → Type 0
 Within (invalid w n) l = TryWithin w n l
 Within (right w n) l = TryWithin w n l
-Within (passwordChange o n f) l = ChangeWithin o n f l
+Within (passwordChange v o n f) l = ChangeWithin v o n f l
 
 -- ---- the claim
 
@@ -159,10 +173,10 @@ Within (passwordChange o n f) l = ChangeWithin o n f l
 abbrev pub Draws : Exchange → List ℕ → Reading → Type 0
 Draws x reply reading = (replyOf (x .outcome) ≡ reply) × (peerReads (x .peer) (x .reply) ≡ reading)
 
--- a Failure that our box writes
-abbrev pub DrawsFailure : Exchange → ℕ → ℕ → ℕ → Type 0
-DrawsFailure x id e r = Draws x (failurePacket id (textOf e r version))
-    (failedWith e r version noChallenge)
+-- a Failure that a box writes that was opened for a version's change: V tells it
+abbrev pub DrawsFailure : Exchange → ChangeVersion → ℕ → ℕ → ℕ → Type 0
+DrawsFailure x v id e r = Draws x (failurePacket id (textOf e r (version v)))
+    (failedWith e r (version v) noChallenge)
 
 abbrev pub DrawsSuccess : Exchange → ℕ → Type 0
 DrawsSuccess x id = Draws x (successPacket id) succeeded
@@ -214,7 +228,7 @@ module _ (box : Box) (writer : Writer) where
       (passedWith (p .account) (l .account))
       (readResponse (exchange p (invalid w n) l .input .packet)) ≡ false
   Meant a p (right w n) l = (ntHashOf w ≡ a .nt .octets) × (l .account ≡ own)
-  Meant a p (passwordChange o n f) l = ntHashOf o ≡ a .nt .octets
+  Meant a p (passwordChange v o n f) l = ntHashOf o ≡ a .nt .octets
 
   -- "Any other step may have any packet, record and buffer with which the box refuses it"; "its
   -- others may be repeats too".
@@ -243,25 +257,25 @@ module _ (box : Box) (writer : Writer) where
 
   -- An invalid try draws 691 with R=1; the right password Success or, expired, 648; the change
   -- Success, and a record is handed out that lets the new password in. (What a reading calls for is
-  -- part of it: a retry, a version 2 change.)
-  abbrev pub Answered : Account → ℕ → Packet → Exchange → Type 0
-  Answered a id (invalid w n) x = DrawsFailure x id authenticationFailure 1
-  Answered a id (right w n) x = cond (a .expired) (DrawsFailure x id passwordExpired 0)
+  -- part of it: a retry, a change of the version that the box was opened for, v.)
+  abbrev pub Answered : Account → ChangeVersion → ℕ → Packet → Exchange → Type 0
+  Answered a v id (invalid w n) x = DrawsFailure x v id authenticationFailure 1
+  Answered a v id (right w n) x = cond (a .expired) (DrawsFailure x v id passwordExpired 0)
       (DrawsSuccess x id)
-  Answered a id (passwordChange o n f) x =
+  Answered a v id (passwordChange u o n f) x =
       DrawsSuccess x id × (x .outcome .answer .updated .found ≡ true)
       × LetsIn (x .outcome .answer .updated .account) n
 
   -- each packet of our peer is written, not refused, and is answered
-  abbrev pub Claimed : Account → SeriesState → Step → Type 0
-  Claimed a p (ours t l) = Answered a (p .peer .turn .id) t (exchange p t l)
+  abbrev pub Claimed : Account → ChangeVersion → SeriesState → Step → Type 0
+  Claimed a v p (ours t l) = Answered a v (p .peer .turn .id) t (exchange p t l)
       × (exchange p t l .wrote .answer .refusal ≡ 0)
-  Claimed a p (other s) = Unit {0}
+  Claimed a v p (other s) = Unit {0}
 
   -- "A single claim about the series from opening to end": the Challenge is read; where the round
   -- keys agree with the hashes and "the count before plus the invalid tries is below the limit",
-  -- each packet of our peer is written and draws what it should; "with k invalid tries the box
-  -- judges exactly k + 1 packets, or k + 2 with the record expired", whatever refused packets and
+  -- each packet of our peer is written and draws what it should, the change being the one that the
+  -- opening names; "with k invalid tries the box judges exactly k + 1 packets, or k + 2 with the record expired", whatever refused packets and
   -- repeats come between them, and the conversation has ended; of any steps at all, with records of
   -- any round keys, it judges at most r + 2, and each does what StepClaim says: a repeat draws the
   -- same reply, what is not judged leaves all as it was, and a judged Response hands its record
@@ -275,9 +289,9 @@ module _ (box : Box) (writer : Writer) where
       ≡ record { refusal = 0; id = o .id; challenge = o .challenge })
       × ((a : Account) (k : ℕ) (behind : List ℕ) (ms : List Step)
       → Rightful a → Agree a → k ≤ retriesOf (o .retries) → a .failures + k < o .limit
-      → collect packetKinds ms ≡ plan k (a .expired)
+      → collect packetKinds ms ≡ plan k (changeOf (o .change)) (a .expired)
       → Along next (Allowed a) (start o behind a) ms
-      → Along next (Claimed a) (start o behind a) ms
+      → Along next (Claimed a (changeOf (o .change))) (start o behind a) ms
       × (total next judgedAt (start o behind a) ms ≡ k + cond (a .expired) 2 1)
       × (end next (start o behind a) ms .box .conversation .phase ≡ Ended))
       × ((ss : List StepInput)

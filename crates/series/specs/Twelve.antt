@@ -23,6 +23,7 @@ use Rattle.authenticator.specs.Steps.{replyOf}
 use Rattle.authenticator.specs.declared.Kind as kinds
 use Rattle.authenticator.specs.declared.Kind.the-variants as kind
 use Rattle.authenticator.specs.declared.Retries.the-variants.{Default}
+use Rattle.authenticator.specs.declared.ChangeChoice.the-variants.{Unspecified}
 use Rattle.authenticator.specs.declared.LmChoice.the-variants.{Silent}
 
 -- An identifier or a challenge whose next is asked for; a raw key; an opening with an identifier
@@ -53,6 +54,7 @@ openingOf id c =
       challenge = c;
       retries = Default;
       lm = Silent;
+      change = Unspecified;
       limit = 255;
       issued = emptyList 8 3;
       buffer = replicate 17 0;
