@@ -1,5 +1,5 @@
--- What an opening, a step and the setting of a count write is valid for the next step: the library
--- never refuses an encoding of its own as a bad argument.
+-- What an opening and a step write is valid for the next step: the library never refuses an encoding
+-- of its own as a bad argument.
 -- Assumes nothing.
 use mathlib.Core.Bool.{Bool, true, false, cond}
 use mathlib.Core.List.{List, _++_}
@@ -66,13 +66,10 @@ use Rattle.layouts.specs.Answers.{answerKeys, isEncodedAnswer}
 use Rattle.layouts.specs.Records.{recordHeadSize, recordSize, ntKeysAt, lmKeysAt, recordHead}
 use Rattle.layouts.specs.Records.{recordKeys, encodeRecord, decodeHead, decodeRecord}
 use Rattle.layouts.specs.Records.{isEncodedRecord}
-use Rattle.layouts.specs.Call.{numbered}
-use Rattle.layouts.proofs.Filling.{both}
+use Rattle.layouts.specs.Call.{valueOr}
+use Rattle.layouts.proofs.Filling.{both, valid-call}
 use Rattle.layouts.specs.declared.StepResult.{StepResult}
 use Rattle.numbers.specs.Results.{resultOf}
-use Rattle.mschap.specs.Sizes.{valueOr}
-use Rattle.mschap.specs.Records.{recordFailures, setFailuresArguments, failuresSet}
-use Rattle.mschap.specs.Records.{SetFailuresCall}
 use Rattle.mschap.specs.Step.{stepOf, stepArguments, handedKeys, StepCall, answerFault}
 use Rattle.mschap.specs.Step.{AnswerRecordCall}
 use Rattle.layouts.proofs.RecordLaws.{SizedEntry, decoded-head-sized, record-fits, head-back}
@@ -81,8 +78,8 @@ use Rattle.credentials.proofs.KeyOctets.{length-encoded}
 use Rattle.layouts.proofs.AnswerLaws.{decoded-answer-sized, length-result, length-encoded-answer}
 use Rattle.layouts.proofs.AnswerLaws.{answer-fits, answer-back}
 use Rattle.numbers.proofs.FlagLaws.{made-keys}
-use Rattle.mschap.proofs.KeyBounds.{for-length, keys-found}
-use Rattle.mschap.proofs.Laying.{length-record-keys, part-of-part, part-behind}
+use Rattle.records.proofs.Laying.{length-record-keys, part-of-part}
+use Rattle.records.proofs.Decoding.{record-by, keys-made}
 use Rattle.layouts.proofs.ConversationLaws.{SizedConversation, conversation-fits}
 use Rattle.layouts.proofs.ConversationLaws.{decoded-conversation-sized, last-reason-small}
 use Rattle.layouts.proofs.ConversationLaws.{conversation-back}
@@ -211,45 +208,7 @@ module _ (c : Conversation) (s : SizedConversation c) where
             reason = d .reason;
           })
 
--- ---- a record and its round keys
-
--- decoded from its head and the bytes of its round keys
-record-by : (u : EntryLookup) (keys : List ℕ) → SizedEntry (u .entry)
-    → decodeRecord (recordHead u ++ keys)
-    ≡ lookupOf (u .found) (withSchedules (u .entry) (keysAt 0 keys) (keysAt keysSize keys))
-record-by u keys s =
-    let head = length-head u s in
-    let bytes = recordHead u ++ keys in
-    ap (λ (x : EntryLookup). lookupOf (x .found) (withSchedules (x .entry) (keysAt ntKeysAt bytes)
-    (keysAt lmKeysAt bytes))) (head-back u keys s)
-    ∙ ap₂ (λ (n m : List ℕ). lookupOf (u .found) (withSchedules (u .entry) (storedIn n)
-    (storedIn m)))
-    (part-behind 0 keysSize recordHeadSize (recordHead u) keys head)
-    (part-behind keysSize keysSize recordHeadSize (recordHead u) keys head)
-
--- those of its own hashes
-keys-made : (found : Bool) (e : Entry)
-    → let k = encodeSchedules (accountOf e) in
-    lookupOf found (withSchedules e (keysAt 0 k) (keysAt keysSize k)) ≡ lookupOf found (accountOf e)
-keys-made found e =
-    let nt = encodeKeys (schedulesFor (e .nt) .keys) in
-    let lm = encodeKeys (schedulesFor (e .lm) .keys) in
-    let n = length-encoded (schedulesFor (e .nt) .keys)
-    ∙ ap (λ (k : ℕ). 8 * k) (for-length (e .nt)) in
-    let m = length-encoded (schedulesFor (e .lm) .keys)
-    ∙ ap (λ (k : ℕ). 8 * k) (for-length (e .lm)) in
-    ap₂ (λ (x y : Schedules). lookupOf found (withSchedules e x y))
-    (keys-found 0 (nt ++ lm) (e .nt) (take-at nt lm keysSize n))
-    (keys-found keysSize (nt ++ lm) (e .lm)
-    (ap (take keysSize) (drop-at nt lm keysSize n) ∙ take-all keysSize lm (omega (arith, m))))
-
--- So the bytes of a record that is made of an entry are decoded to just that record: its round keys
--- are those of its hashes (`Agree` holds of it).
-pub made-back : (found : Bool) (e : Entry) → SizedEntry e
-    → decodeRecord (encodeRecord (lookupOf found (accountOf e))) ≡ lookupOf found (accountOf e)
-made-back found e s =
-    record-by (record { found = found; entry = e }) (encodeSchedules (accountOf e)) s
-    ∙ keys-made found e
+-- ---- the step from C
 
 module _ (conversation packet account buffer : List ℕ)
     (valid : isEncodedConversation conversation ≡ true)
@@ -337,11 +296,6 @@ module _ (conversation packet account buffer : List ℕ)
           (part-of-part keysSize keysSize recordHeadSize bothKeysSize account (omega arith))
       which false = keys-made (u .found) (u .entry)
 
--- a call that returned 0 had valid arguments
-valid-call : (b : Bool) (n : ℕ) → 0 ≡ numbered b n → b ≡ true
-valid-call true n e = refl
-valid-call false n e = absurd (omega (arith, e))
-
 -- so what C gets by mschap_answer_fault, after a call of mschap_step that returned 0, is what is
 -- wrong with the change that this step judged
 pub fault-tells : (conversation packet account buffer out : List ℕ)
@@ -386,31 +340,6 @@ record-tells conversation packet account buffer out place call get =
     (answer-tells conversation packet account buffer (h .0) whole)
     (answer-keys conversation packet account buffer (h .0) whole))
     ∙ record-decoded conversation packet account buffer (h .0) whole
-
--- ---- the count of a record
-
-module _ (bytes : List ℕ) (n : ℕ) where
-  set-sized : SizedEntry (failuresSet bytes n .entry)
-  set-sized = let s = decoded-head-sized bytes in record { nt = s .nt; lm = s .lm }
-
-  pub set-fits : length bytes ≡ recordSize
-      → (isEncodedRecord (recordHead (failuresSet bytes n) ++ recordKeys bytes) ≡ true)
-      × (decodeHead (recordHead (failuresSet bytes n) ++ recordKeys bytes) ≡ failuresSet bytes n)
-  set-fits e = (
-    record-fits (failuresSet bytes n) (recordKeys bytes) set-sized (length-record-keys bytes e),
-    head-back (failuresSet bytes n) (recordKeys bytes) set-sized,
-  )
-
-  -- the count that was set is the one that the record tells
-  pub set-tells : {after : List ℕ} → SetFailuresCall bytes n 0 after → recordFailures after ≡ n
-  unfolding recordFailures setFailuresArguments
-  set-tells call =
-      let valid = valid-call (setFailuresArguments bytes n) 0 (call .number) in
-      let e = length-encoded-record bytes (both (isEncodedRecord bytes) _ valid .0) in
-      let after = recordHead (failuresSet bytes n) ++ recordKeys bytes in
-      ap recordFailures (call .bytes)
-      ∙ ap (λ (t : Bool). valueOr t (decodeHead after .entry .failures)) (set-fits e .0)
-      ∙ ap (λ (l : EntryLookup). l .entry .failures) (set-fits e .1)
 
 -- ---- the opening
 

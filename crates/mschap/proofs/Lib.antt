@@ -1,5 +1,3 @@
-pub mod Laying
-pub mod KeyBounds
 pub mod ListCalls
 pub mod OpenCalls
 pub mod StepCalls

@@ -1,5 +1,4 @@
 pub mod Passwords
-pub mod Records
 pub mod Lists
 pub mod Opening
 pub mod Step

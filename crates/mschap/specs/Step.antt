@@ -8,7 +8,7 @@ use Rattle.accounts.specs.Account.{entryOf, accountOf}
 use Rattle.authenticator.specs.Conversation.{awaitedCode}
 use Rattle.authenticator.specs.Step.{Outcome, step, refusalIn, steppedOf, handsBack}
 use Rattle.verify.specs.Faults.{faultNumber}
-use Rattle.layouts.specs.Call.{Fills, sized, numbered, afterCall}
+use Rattle.layouts.specs.Call.{Fills, sized, numbered, valueOr, afterCall}
 use Rattle.layouts.specs.Keys.{encodeSchedules}
 use Rattle.layouts.specs.Records.{flag, recordSize, recordHead, recordKeys, decodeRecord}
 use Rattle.layouts.specs.Records.{isEncodedRecord}
@@ -17,7 +17,6 @@ use Rattle.layouts.specs.Answers.{isEncodedAnswer}
 use Rattle.layouts.specs.Conversations.{encodeConversation, decodeConversation}
 use Rattle.layouts.specs.Conversations.{isEncodedConversation}
 use Rattle.numbers.specs.Results.{resultOf, noRecordRefusal}
-use Rattle.mschap.specs.Sizes.{valueOr}
 
 -- ---- the call
 

@@ -1,5 +1,5 @@
 // What a conversation tells.
-use crate::INVALID;
+use layouts::INVALID;
 use layouts::decode_conversation;
 use layouts::is_encoded_conversation;
 ghost use mathlib.Core.Path.{_≡_};

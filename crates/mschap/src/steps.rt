@@ -1,5 +1,4 @@
 // The authenticator takes one step for each packet, and what its answer tells.
-use crate::INVALID;
 use accounts::Entry;
 use accounts::EntryLookup;
 use accounts::Hash;
@@ -12,6 +11,7 @@ use layouts::ANSWER_HEAD_SIZE;
 use layouts::ANSWER_SIZE;
 use layouts::BAD_ARGUMENT;
 use layouts::BOTH_KEYS_SIZE;
+use layouts::INVALID;
 use layouts::KEYS_SIZE;
 use layouts::RECORD_HEAD_SIZE;
 use layouts::RECORD_SIZE;

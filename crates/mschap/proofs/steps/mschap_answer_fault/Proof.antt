@@ -6,7 +6,7 @@ use borrow.Author.Tests.{not-true, not-false}
 use Rattle.verify.specs.Faults.{faultNumber}
 use Rattle.layouts.specs.Answers.{decodeAnswer}
 use Rattle.layouts.specs.declared.StepResult.{StepResult}
-use Rattle.mschap.specs.Sizes.{valueOr}
+use Rattle.layouts.specs.Call.{valueOr}
 use Rattle.mschap.specs.Step.{answerFault}
 use Rattle.mschap.proofs.steps.mschap_answer_fault.Statement.{statement}
 use Rattle.mschap.proofs.steps.mschap_answer_fault.Tie as tie

@@ -1,4 +1,4 @@
--- `mschap::records::mschap_make_record` meets its contract.
+-- `records::make_record` meets its contract.
 -- Assumes nothing.
 use mathlib.Core.Path.{refl, sym, ap, _∙_}
 use mathlib.Core.Bool.{Bool, _&&_}
@@ -6,8 +6,8 @@ use borrow.Author.Tests.{not-true, not-false}
 use Rattle.layouts.specs.Call.{sized}
 use Rattle.layouts.specs.Records.{encodeRecord, recordSize}
 use Rattle.layouts.proofs.Filling.{fills-as, refused-argument}
-use Rattle.mschap.proofs.records.mschap_make_record.Statement.{statement}
-use Rattle.mschap.proofs.records.mschap_make_record.Tie as tie
+use Rattle.records.proofs.make_record.Statement.{statement}
+use Rattle.records.proofs.make_record.Tie as tie
 use borrow.Author.Needs.{needs}
 
 returns : tie.Need-returns
@@ -28,8 +28,8 @@ returns-2 c =
     fills-as (ap (λ (t : Bool). t && sized recordSize out) (sym valid)) refl
     (ap encodeRecord (made .record-from .ensures)) (put .put-record .ensures)
 
-pub mschap-make-record-spec : {M : Type 1} → statement M
-mschap-make-record-spec =
+pub make-record-spec : {M : Type 1} → statement M
+make-record-spec =
     tie.close
     (tie.spec
     (λ c κs. search needs) returns (λ c κs. search needs) (λ c κs. search needs)

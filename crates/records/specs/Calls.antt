@@ -10,13 +10,11 @@ use Rattle.packets.specs.Sizes.{hashSize, challengeSize, answerSize}
 use Rattle.accounts.specs.Account.{entryFailures}
 use Rattle.accounts.specs.declared.EntryLookup.{EntryLookup}
 use Rattle.accounts.specs.declared.Hash.{Hash}
-use Rattle.accounts.specs.declared.Schedules.{Schedules}
-use Rattle.layouts.specs.Call.{Fills, sized, numbered, afterCall}
+use Rattle.layouts.specs.Call.{Fills, sized, numbered, valueOr, afterCall}
 use Rattle.layouts.specs.Keys.{keysAt}
 use Rattle.layouts.specs.Records.{recordSize, ntKeysAt, lmKeysAt, recordHead, recordKeys}
-use Rattle.layouts.specs.Records.{encodeRecord, decodeHead, isRecordOf, isEncodedRecord}
+use Rattle.layouts.specs.Records.{encodeRecord, decodeHead, isEncodedRecord}
 use Rattle.numbers.specs.Flags.{ntFlag, lmFlag, recordArguments, recordFrom, flagsOf}
-use Rattle.mschap.specs.Sizes.{valueOr}
 
 -- what making a record returns (r) and leaves
 abbrev pub MakeRecordCall : ℕ → List ℕ → List ℕ → List ℕ → ℕ → List ℕ → Type 0
@@ -69,10 +67,6 @@ SetFailuresCall bytes n r bytesAfter =
 -- of which hash, by its flag
 abbrev pub isOneHash : ℕ → Bool
 isOneHash hash = eqb hash ntFlag || eqb hash lmFlag
-
-abbrev pub responseArgumentsAs : EntryLookup → List ℕ → ℕ → List ℕ → Bool
-responseArgumentsAs l bytes hash challenge =
-    isRecordOf l bytes && (isOneHash hash && sized challengeSize challenge)
 
 unfoldable pub recordResponseArguments : List ℕ → ℕ → List ℕ → Bool
 recordResponseArguments bytes hash challenge =

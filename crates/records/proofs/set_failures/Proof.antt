@@ -1,4 +1,4 @@
--- `mschap::records::mschap_set_failures` meets its contract.
+-- `records::set_failures` meets its contract.
 -- Assumes nothing.
 use mathlib.Core.Path.{_≡_, sym, ap, _∙_}
 use mathlib.Core.Bool.{Bool, true}
@@ -14,11 +14,12 @@ use Rattle.accounts.specs.declared.EntryLookup.{EntryLookup}
 use Rattle.layouts.specs.Call.{numbered}
 use Rattle.layouts.specs.Records.{recordHead, isEncodedRecord}
 use Rattle.layouts.proofs.Filling.{both, refused-argument}
-use Rattle.layouts.proofs.RecordLaws.{SizedEntry, decoded-head-sized, length-encoded-record}
-use Rattle.mschap.specs.Records.{setFailuresArguments, failuresSet}
-use Rattle.mschap.proofs.Laying.{head-over}
-use Rattle.mschap.proofs.records.mschap_set_failures.Statement.{statement}
-use Rattle.mschap.proofs.records.mschap_set_failures.Tie as tie
+use Rattle.layouts.proofs.RecordLaws.{length-encoded-record}
+use Rattle.records.specs.Calls.{setFailuresArguments, failuresSet}
+use Rattle.records.proofs.Laying.{head-over}
+use Rattle.records.proofs.Fitting.{set-sized}
+use Rattle.records.proofs.set_failures.Statement.{statement}
+use Rattle.records.proofs.set_failures.Tie as tie
 use borrow.Author.Needs.{needs}
 
 returns : tie.Need-returns
@@ -66,15 +67,11 @@ returns-2 c =
       number = sym (ap (λ (t : Bool). numbered t 0) (valid passed));
       bytes = put .put-record-head .ensures
           ∙ ap (λ (l : EntryLookup). over (recordHead l) bytes) value
-          ∙ head-over (failuresSet bytes (a .failures)) bytes (whole bytes (a .failures)) long;
+          ∙ head-over (failuresSet bytes (a .failures)) bytes (set-sized bytes (a .failures)) long;
     }
-  where
-    whole : (bytes : List ℕ) (n : ℕ) → SizedEntry (failuresSet bytes n .entry)
-    whole bytes n =
-        let s = decoded-head-sized bytes in record { nt = s .nt; lm = s .lm }
 
-pub mschap-set-failures-spec : {M : Type 1} → statement M
-mschap-set-failures-spec =
+pub set-failures-spec : {M : Type 1} → statement M
+set-failures-spec =
     tie.close
     (tie.spec
     (λ c κs. search needs) (λ c. search needs) returns (λ c κs. search needs) cast-entry-failures

@@ -1,4 +1,4 @@
--- `mschap::records::mschap_read_record` meets its contract.
+-- `records::read_record` meets its contract.
 -- Assumes nothing.
 use mathlib.Core.Path.{_≡_, refl, sym, ap, _∙_}
 use mathlib.Core.Bool.{Bool, true}
@@ -14,9 +14,9 @@ use Rattle.layouts.specs.Records.{decodeHead, isEncodedRecord}
 use Rattle.layouts.proofs.Filling.{both}
 use Rattle.layouts.proofs.RecordLaws.{SizedEntry, decoded-head-sized}
 use Rattle.numbers.specs.Flags.{flagsOf}
-use Rattle.mschap.specs.Records.{readRecordArguments}
-use Rattle.mschap.proofs.records.mschap_read_record.Statement.{statement}
-use Rattle.mschap.proofs.records.mschap_read_record.Tie as tie
+use Rattle.records.specs.Calls.{readRecordArguments}
+use Rattle.records.proofs.read_record.Statement.{statement}
+use Rattle.records.proofs.read_record.Tie as tie
 use borrow.Author.Needs.{needs}
 
 returns : tie.Need-returns
@@ -65,8 +65,8 @@ returns-2 c =
           ∙ filled (v .entry .lm .octets) (a .lm .now) (s .1 ∙ sym (whole .lm));
     }
 
-pub mschap-read-record-spec : {M : Type 1} → statement M
-mschap-read-record-spec =
+pub read-record-spec : {M : Type 1} → statement M
+read-record-spec =
     tie.close
     (tie.spec
     (λ c κs. search needs) (λ c. search needs) (λ c. search needs) returns (λ c κs. search needs)

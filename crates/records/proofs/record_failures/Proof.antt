@@ -1,14 +1,14 @@
--- `mschap::records::mschap_record_failures` meets its contract.
+-- `records::record_failures` meets its contract.
 -- Assumes nothing.
 use mathlib.Core.Path.{sym, ap, _∙_}
 use mathlib.Core.Bool.{Bool}
 use borrow.Author.Tests.{not-true, not-false}
 use Rattle.accounts.specs.declared.EntryLookup.{EntryLookup}
 use Rattle.layouts.specs.Records.{decodeHead}
-use Rattle.mschap.specs.Sizes.{valueOr}
-use Rattle.mschap.specs.Records.{recordFailures}
-use Rattle.mschap.proofs.records.mschap_record_failures.Statement.{statement}
-use Rattle.mschap.proofs.records.mschap_record_failures.Tie as tie
+use Rattle.layouts.specs.Call.{valueOr}
+use Rattle.records.specs.Calls.{recordFailures}
+use Rattle.records.proofs.record_failures.Statement.{statement}
+use Rattle.records.proofs.record_failures.Tie as tie
 use borrow.Author.Needs.{needs}
 
 returns : tie.Need-returns
@@ -26,8 +26,8 @@ returns-2 c =
     ap (λ (l : EntryLookup). l .entry .failures) (decoded .decode-head .ensures)
     ∙ ap (λ (t : Bool). valueOr t (decodeHead bytes .entry .failures)) (sym valid)
 
-pub mschap-record-failures-spec : {M : Type 1} → statement M
-mschap-record-failures-spec =
+pub record-failures-spec : {M : Type 1} → statement M
+record-failures-spec =
     tie.close
     (tie.spec
     (λ c κs. search needs) returns (λ c κs. search needs) (λ c. search needs) returns-2)

@@ -1,4 +1,4 @@
--- `mschap::records::mschap_record_response` meets its contract.
+-- `records::record_response` meets its contract.
 -- Assumes nothing.
 use mathlib.Core.Path.{_≡_, refl, sym, ap, ap₂, _∙_}
 use mathlib.Core.Bool.{Bool, true, _&&_, cond}
@@ -18,10 +18,10 @@ use Rattle.layouts.specs.Call.{sized}
 use Rattle.layouts.specs.Keys.{keysSize}
 use Rattle.layouts.specs.Records.{isEncodedRecord}
 use Rattle.layouts.proofs.Filling.{both, fills-as, filled-with, refused-argument}
-use Rattle.mschap.specs.Records.{isOneHash, responseArgumentsAs}
-use Rattle.mschap.specs.Records.{recordResponseArguments, namedHash}
-use Rattle.mschap.proofs.records.mschap_record_response.Statement.{statement}
-use Rattle.mschap.proofs.records.mschap_record_response.Tie as tie
+use Rattle.records.specs.Calls.{isOneHash, recordResponseArguments, namedHash}
+use Rattle.records.specs.Inner.{responseArgumentsAs}
+use Rattle.records.proofs.record_response.Statement.{statement}
+use Rattle.records.proofs.record_response.Tie as tie
 use borrow.Author.Needs.{needs}
 
 -- the arguments are valid or not
@@ -77,8 +77,8 @@ returns-2 c =
     (filled-with (ap length response ∙ length-response-under _ _) response number
     (put .fill .ensures))
 
-pub mschap-record-response-spec : {M : Type 1} → statement M
-mschap-record-response-spec =
+pub record-response-spec : {M : Type 1} → statement M
+record-response-spec =
     tie.close
     (tie.spec
     (λ c κs. search needs) (λ c κs. search needs) returns (λ c κs. search needs)
