@@ -1,5 +1,5 @@
--- What an opening and a step write is valid for the next step: the library never refuses an encoding
--- of its own as a bad argument.
+-- What an opening and a step write is valid for the next step: the library never refuses an
+-- encoding of its own as a bad argument.
 -- Assumes nothing.
 use mathlib.Core.Bool.{Bool, true, false, cond}
 use mathlib.Core.List.{List, _++_}
@@ -78,8 +78,8 @@ use Rattle.credentials.proofs.KeyOctets.{length-encoded}
 use Rattle.layouts.proofs.AnswerLaws.{decoded-answer-sized, length-result, length-encoded-answer}
 use Rattle.layouts.proofs.AnswerLaws.{answer-fits, answer-back}
 use Rattle.numbers.proofs.FlagLaws.{made-keys}
-use Rattle.records.proofs.Laying.{length-record-keys, part-of-part}
-use Rattle.records.proofs.Decoding.{record-by, keys-made}
+use Rattle.account_records.proofs.Laying.{length-record-keys, part-of-part}
+use Rattle.account_records.proofs.Decoding.{record-by, keys-made}
 use Rattle.layouts.proofs.ConversationLaws.{SizedConversation, conversation-fits}
 use Rattle.layouts.proofs.ConversationLaws.{decoded-conversation-sized, last-reason-small}
 use Rattle.layouts.proofs.ConversationLaws.{conversation-back}

@@ -20,7 +20,7 @@ use Rattle.layouts.proofs.Filling.{both, refused-argument}
 use Rattle.layouts.proofs.RecordLaws.{length-head}
 use Rattle.numbers.specs.Results.{noRecordRefusal}
 use Rattle.mschap.specs.Step.{answerRecordArguments}
-use Rattle.records.proofs.Laying.{both-laid}
+use Rattle.account_records.proofs.Laying.{both-laid}
 use Rattle.mschap.proofs.steps.mschap_answer_record.Statement.{statement}
 use Rattle.mschap.proofs.steps.mschap_answer_record.Tie as tie
 use borrow.Author.Needs.{needs}

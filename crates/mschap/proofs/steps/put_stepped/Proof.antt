@@ -18,7 +18,7 @@ use Rattle.layouts.proofs.Filling.{fills-number}
 use Rattle.numbers.specs.Results.{resultOf}
 use Rattle.numbers.proofs.FlagLaws.{made-keys}
 use Rattle.authenticator.specs.Step.{refusalIn}
-use Rattle.records.proofs.Laying.{both-laid, length-record-keys}
+use Rattle.account_records.proofs.Laying.{both-laid, length-record-keys}
 use Rattle.mschap.proofs.steps.put_stepped.Statement.{statement}
 use Rattle.mschap.proofs.steps.put_stepped.Tie as tie
 use borrow.Author.Needs.{needs}

@@ -1,5 +1,5 @@
--- A record is decoded from its head and the bytes of its round keys: a record that is made is decoded
--- to itself.
+-- A record is decoded from its head and the bytes of its round keys: a record that is made is
+-- decoded to itself.
 -- Assumes nothing.
 use mathlib.Core.Bool.{Bool}
 use mathlib.Core.List.{List, _++_}
@@ -18,8 +18,8 @@ use Rattle.layouts.specs.Keys.{keysSize, keysAt, encodeSchedules}
 use Rattle.layouts.specs.Records.{recordHeadSize, ntKeysAt, lmKeysAt, recordHead, encodeRecord}
 use Rattle.layouts.specs.Records.{decodeRecord}
 use Rattle.layouts.proofs.RecordLaws.{SizedEntry, length-head, head-back}
-use Rattle.records.proofs.KeyBounds.{for-length, keys-found}
-use Rattle.records.proofs.Laying.{part-behind}
+use Rattle.account_records.proofs.KeyBounds.{for-length, keys-found}
+use Rattle.account_records.proofs.Laying.{part-behind}
 
 -- decoded from its head and the bytes of its round keys
 pub record-by : (u : EntryLookup) (keys : List ℕ) → SizedEntry (u .entry)

@@ -1,8 +1,8 @@
--- `records::is_one_hash` meets its contract.
+-- `account_records::is_one_hash` meets its contract.
 -- Assumes nothing.
 use borrow.Author.Tests.{eq-eqb, ne-eqb}
-use Rattle.records.proofs.is_one_hash.Statement.{statement}
-use Rattle.records.proofs.is_one_hash.Tie as tie
+use Rattle.account_records.proofs.is_one_hash.Statement.{statement}
+use Rattle.account_records.proofs.is_one_hash.Tie as tie
 use borrow.Author.Needs.{needs}
 
 returns : tie.Need-returns

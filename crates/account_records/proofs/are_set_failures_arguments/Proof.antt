@@ -1,11 +1,11 @@
--- `records::are_set_failures_arguments` meets its contract.
+-- `account_records::are_set_failures_arguments` meets its contract.
 -- Assumes nothing.
 use mathlib.Core.Path.{ap, _∙_}
 use mathlib.Core.Bool.{Bool, _&&_}
 use lib.Dec.{ltb}
-use Rattle.records.specs.Calls.{setFailuresArguments}
-use Rattle.records.proofs.are_set_failures_arguments.Statement.{statement}
-use Rattle.records.proofs.are_set_failures_arguments.Tie as tie
+use Rattle.account_records.specs.Calls.{setFailuresArguments}
+use Rattle.account_records.proofs.are_set_failures_arguments.Statement.{statement}
+use Rattle.account_records.proofs.are_set_failures_arguments.Tie as tie
 use borrow.Author.Needs.{needs}
 
 returns : tie.Need-returns

@@ -8,7 +8,7 @@ use Rattle.packets.specs.Sizes.{challengeSize}
 use Rattle.accounts.specs.declared.EntryLookup.{EntryLookup}
 use Rattle.layouts.specs.Call.{sized}
 use Rattle.layouts.specs.Records.{isRecordOf}
-use Rattle.records.specs.Calls.{isOneHash}
+use Rattle.account_records.specs.Calls.{isOneHash}
 
 abbrev pub responseArgumentsAs : EntryLookup → List ℕ → ℕ → List ℕ → Bool
 responseArgumentsAs l bytes hash challenge =

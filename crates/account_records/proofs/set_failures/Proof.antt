@@ -1,4 +1,4 @@
--- `records::set_failures` meets its contract.
+-- `account_records::set_failures` meets its contract.
 -- Assumes nothing.
 use mathlib.Core.Path.{_≡_, sym, ap, _∙_}
 use mathlib.Core.Bool.{Bool, true}
@@ -15,11 +15,11 @@ use Rattle.layouts.specs.Call.{numbered}
 use Rattle.layouts.specs.Records.{recordHead, isEncodedRecord}
 use Rattle.layouts.proofs.Filling.{both, refused-argument}
 use Rattle.layouts.proofs.RecordLaws.{length-encoded-record}
-use Rattle.records.specs.Calls.{setFailuresArguments, failuresSet}
-use Rattle.records.proofs.Laying.{head-over}
-use Rattle.records.proofs.Fitting.{set-sized}
-use Rattle.records.proofs.set_failures.Statement.{statement}
-use Rattle.records.proofs.set_failures.Tie as tie
+use Rattle.account_records.specs.Calls.{setFailuresArguments, failuresSet}
+use Rattle.account_records.proofs.Laying.{head-over}
+use Rattle.account_records.proofs.Fitting.{set-sized}
+use Rattle.account_records.proofs.set_failures.Statement.{statement}
+use Rattle.account_records.proofs.set_failures.Tie as tie
 use borrow.Author.Needs.{needs}
 
 returns : tie.Need-returns

@@ -1,4 +1,4 @@
--- `records::make_record` meets its contract.
+-- `account_records::make_record` meets its contract.
 -- Assumes nothing.
 use mathlib.Core.Path.{refl, sym, ap, _∙_}
 use mathlib.Core.Bool.{Bool, _&&_}
@@ -6,8 +6,8 @@ use borrow.Author.Tests.{not-true, not-false}
 use Rattle.layouts.specs.Call.{sized}
 use Rattle.layouts.specs.Records.{encodeRecord, recordSize}
 use Rattle.layouts.proofs.Filling.{fills-as, refused-argument}
-use Rattle.records.proofs.make_record.Statement.{statement}
-use Rattle.records.proofs.make_record.Tie as tie
+use Rattle.account_records.proofs.make_record.Statement.{statement}
+use Rattle.account_records.proofs.make_record.Tie as tie
 use borrow.Author.Needs.{needs}
 
 returns : tie.Need-returns

@@ -1,4 +1,4 @@
--- `records::read_record` meets its contract.
+-- `account_records::read_record` meets its contract.
 -- Assumes nothing.
 use mathlib.Core.Path.{_≡_, refl, sym, ap, _∙_}
 use mathlib.Core.Bool.{Bool, true}
@@ -14,9 +14,9 @@ use Rattle.layouts.specs.Records.{decodeHead, isEncodedRecord}
 use Rattle.layouts.proofs.Filling.{both}
 use Rattle.layouts.proofs.RecordLaws.{SizedEntry, decoded-head-sized}
 use Rattle.numbers.specs.Flags.{flagsOf}
-use Rattle.records.specs.Calls.{readRecordArguments}
-use Rattle.records.proofs.read_record.Statement.{statement}
-use Rattle.records.proofs.read_record.Tie as tie
+use Rattle.account_records.specs.Calls.{readRecordArguments}
+use Rattle.account_records.proofs.read_record.Statement.{statement}
+use Rattle.account_records.proofs.read_record.Tie as tie
 use borrow.Author.Needs.{needs}
 
 returns : tie.Need-returns

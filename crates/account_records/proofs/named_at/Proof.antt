@@ -1,4 +1,4 @@
--- `records::named_at` meets its contract.
+-- `account_records::named_at` meets its contract.
 -- Assumes nothing.
 use mathlib.Core.Bool.{Bool, cond}
 use mathlib.Core.Path.{sym, ap}
@@ -6,8 +6,8 @@ use Prim.Native.Nat.{ℕ}
 use borrow.Author.Tests.{eq-eqb, ne-eqb}
 use Rattle.layouts.specs.Records.{ntKeysAt, lmKeysAt}
 use Rattle.numbers.specs.Flags.{ntFlag}
-use Rattle.records.proofs.named_at.Statement.{statement}
-use Rattle.records.proofs.named_at.Tie as tie
+use Rattle.account_records.proofs.named_at.Statement.{statement}
+use Rattle.account_records.proofs.named_at.Tie as tie
 use borrow.Author.Needs.{needs}
 
 abbrev chosen : Bool → ℕ

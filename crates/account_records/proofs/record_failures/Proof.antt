@@ -1,4 +1,4 @@
--- `records::record_failures` meets its contract.
+-- `account_records::record_failures` meets its contract.
 -- Assumes nothing.
 use mathlib.Core.Path.{sym, ap, _∙_}
 use mathlib.Core.Bool.{Bool}
@@ -6,9 +6,9 @@ use borrow.Author.Tests.{not-true, not-false}
 use Rattle.accounts.specs.declared.EntryLookup.{EntryLookup}
 use Rattle.layouts.specs.Records.{decodeHead}
 use Rattle.layouts.specs.Call.{valueOr}
-use Rattle.records.specs.Calls.{recordFailures}
-use Rattle.records.proofs.record_failures.Statement.{statement}
-use Rattle.records.proofs.record_failures.Tie as tie
+use Rattle.account_records.specs.Calls.{recordFailures}
+use Rattle.account_records.proofs.record_failures.Statement.{statement}
+use Rattle.account_records.proofs.record_failures.Tie as tie
 use borrow.Author.Needs.{needs}
 
 returns : tie.Need-returns

@@ -11,9 +11,9 @@ use Rattle.layouts.specs.Records.{recordSize, recordHead, recordKeys, decodeHea
 use Rattle.layouts.proofs.Filling.{both, valid-call}
 use Rattle.layouts.proofs.RecordLaws.{SizedEntry, decoded-head-sized, record-fits, head-back}
 use Rattle.layouts.proofs.RecordLaws.{length-encoded-record}
-use Rattle.records.specs.Calls.{recordFailures, setFailuresArguments, failuresSet}
-use Rattle.records.specs.Calls.{SetFailuresCall}
-use Rattle.records.proofs.Laying.{length-record-keys}
+use Rattle.account_records.specs.Calls.{recordFailures, setFailuresArguments, failuresSet}
+use Rattle.account_records.specs.Calls.{SetFailuresCall}
+use Rattle.account_records.proofs.Laying.{length-record-keys}
 
 module _ (bytes : List ℕ) (n : ℕ) where
   pub set-sized : SizedEntry (failuresSet bytes n .entry)

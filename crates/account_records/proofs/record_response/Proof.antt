@@ -1,4 +1,4 @@
--- `records::record_response` meets its contract.
+-- `account_records::record_response` meets its contract.
 -- Assumes nothing.
 use mathlib.Core.Path.{_≡_, refl, sym, ap, ap₂, _∙_}
 use mathlib.Core.Bool.{Bool, true, _&&_, cond}
@@ -18,10 +18,10 @@ use Rattle.layouts.specs.Call.{sized}
 use Rattle.layouts.specs.Keys.{keysSize}
 use Rattle.layouts.specs.Records.{isEncodedRecord}
 use Rattle.layouts.proofs.Filling.{both, fills-as, filled-with, refused-argument}
-use Rattle.records.specs.Calls.{isOneHash, recordResponseArguments, namedHash}
-use Rattle.records.specs.Inner.{responseArgumentsAs}
-use Rattle.records.proofs.record_response.Statement.{statement}
-use Rattle.records.proofs.record_response.Tie as tie
+use Rattle.account_records.specs.Calls.{isOneHash, recordResponseArguments, namedHash}
+use Rattle.account_records.specs.Inner.{responseArgumentsAs}
+use Rattle.account_records.proofs.record_response.Statement.{statement}
+use Rattle.account_records.proofs.record_response.Tie as tie
 use borrow.Author.Needs.{needs}
 
 -- the arguments are valid or not

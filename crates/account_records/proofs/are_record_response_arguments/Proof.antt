@@ -1,9 +1,9 @@
--- `records::are_record_response_arguments` meets its contract.
+-- `account_records::are_record_response_arguments` meets its contract.
 -- Assumes nothing.
 use mathlib.Core.Path.{refl, ap₂, _∙_}
 use mathlib.Core.Bool.{_&&_}
-use Rattle.records.proofs.are_record_response_arguments.Statement.{statement}
-use Rattle.records.proofs.are_record_response_arguments.Tie as tie
+use Rattle.account_records.proofs.are_record_response_arguments.Statement.{statement}
+use Rattle.account_records.proofs.are_record_response_arguments.Tie as tie
 use borrow.Author.Needs.{needs}
 
 returns : tie.Need-returns

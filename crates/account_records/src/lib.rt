@@ -1,6 +1,6 @@
 // A record in a buffer of C's: made of flags and hashes, read, its count read and set, and its
-// response. What a call returns and leaves is said here; `mschap` exports the five under their names
-// in C. Every public function is total.
+// response. What a call returns and leaves is said here; `mschap` exports the five under their
+// names in C. Every public function is total.
 use accounts::EntryLookup;
 use accounts::Hash;
 use accounts::entry_failures;
@@ -22,11 +22,12 @@ use packets::HASH_SIZE;
 use refusals::both;
 ghost use mathlib.Core.Path.{_≡_};
 ghost use mathlib.Core.Bool.{cond};
-ghost use Rattle.records.specs.Calls.{MakeRecordCall, readRecordArguments};
-ghost use Rattle.records.specs.Calls.{ReadRecordCall, recordFailures};
-ghost use Rattle.records.specs.Calls.{setFailuresArguments, SetFailuresCall};
-ghost use Rattle.records.specs.Calls.{isOneHash, namedHash, namedAt, RecordResponseCall};
-ghost use Rattle.records.specs.Inner.{responseArgumentsAs};
+ghost use Rattle.account_records.specs.Calls.{MakeRecordCall, readRecordArguments};
+ghost use Rattle.account_records.specs.Calls.{ReadRecordCall, recordFailures};
+ghost use Rattle.account_records.specs.Calls.{setFailuresArguments, SetFailuresCall};
+ghost use Rattle.account_records.specs.Calls.{isOneHash, namedHash, namedAt};
+ghost use Rattle.account_records.specs.Calls.{RecordResponseCall};
+ghost use Rattle.account_records.specs.Inner.{responseArgumentsAs};
 
 const FAILURES_END: u32 = 256;
 
@@ -94,8 +95,8 @@ fn are_set_failures_arguments(account: &[u8], failures: u32) -> bool
     both(is_encoded_record(account), failures < FAILURES_END)
 }
 
-// Sets the count of a record, at most 255. With 0 the account is unlocked. Its round keys stay where
-// they are.
+// Sets the count of a record, at most 255. With 0 the account is unlocked. Its round keys stay
+// where they are.
 pub fn set_failures(account: &mut [u8], failures: u32) -> u32
     ensures { λ r. ⌜ SetFailuresCall (now (account .entry)) failures r (now (account .exit)) ⌝ }
 {

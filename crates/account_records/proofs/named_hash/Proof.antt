@@ -1,4 +1,4 @@
--- `records::named_hash` meets its contract.
+-- `account_records::named_hash` meets its contract.
 -- Assumes nothing.
 use mathlib.Core.Bool.{Bool, cond}
 use mathlib.Core.Path.{sym, ap}
@@ -6,8 +6,8 @@ use borrow.Author.Tests.{eq-eqb, ne-eqb}
 use Rattle.accounts.specs.declared.EntryLookup.{EntryLookup}
 use Rattle.accounts.specs.declared.Hash.{Hash}
 use Rattle.numbers.specs.Flags.{ntFlag}
-use Rattle.records.proofs.named_hash.Statement.{statement}
-use Rattle.records.proofs.named_hash.Tie as tie
+use Rattle.account_records.proofs.named_hash.Statement.{statement}
+use Rattle.account_records.proofs.named_hash.Tie as tie
 use borrow.Author.Needs.{needs}
 
 abbrev chosen : EntryLookup → Bool → Hash

@@ -1,10 +1,10 @@
--- `records::are_read_record_arguments` meets its contract.
+-- `account_records::are_read_record_arguments` meets its contract.
 -- Assumes nothing.
 use mathlib.Core.Path.{ap₂, _∙_}
 use mathlib.Core.Bool.{_&&_}
-use Rattle.records.specs.Calls.{readRecordArguments}
-use Rattle.records.proofs.are_read_record_arguments.Statement.{statement}
-use Rattle.records.proofs.are_read_record_arguments.Tie as tie
+use Rattle.account_records.specs.Calls.{readRecordArguments}
+use Rattle.account_records.proofs.are_read_record_arguments.Statement.{statement}
+use Rattle.account_records.proofs.are_read_record_arguments.Tie as tie
 use borrow.Author.Needs.{needs}
 
 returns : tie.Need-returns
