@@ -28,8 +28,8 @@ use Rattle.packets.specs.Response.{readResponse}
 use Rattle.packets.specs.Sizes.{flagOffset}
 use Rattle.verify.specs.Response.{usesNt, judgingKeys}
 use Rattle.numbers.specs.Results.{resultOf}
-use Rattle.mschap.specs.Step.{stepOf, stepArguments, StepCall}
-use Rattle.mschap.specs.Inner.{keysFor, AnswerPut, stepArgumentsAs}
+use Rattle.mschap.specs.Step.{stepOf, stepArguments, keysFor, StepCall}
+use Rattle.mschap.specs.Inner.{AnswerPut, stepArgumentsAs}
 
 -- valid arguments have the right sizes
 pub step-sizes : (conversation account out : List ℕ) → stepArguments conversation account out ≡ true

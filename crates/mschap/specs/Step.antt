@@ -4,9 +4,11 @@ use mathlib.Core.Bool.{Bool, cond, _&&_}
 use mathlib.Core.List.{List, _++_}
 use mathlib.Core.Path.{_≡_}
 use Prim.Native.Nat.{ℕ}
-use Rattle.accounts.specs.Account.{entryOf, accountOf}
+use Rattle.accounts.specs.Account.{accountOf}
 use Rattle.authenticator.specs.Conversation.{awaitedCode}
 use Rattle.authenticator.specs.Step.{Outcome, step, refusalIn, steppedOf, handsBack}
+use Rattle.authenticator.specs.declared.Phase.{Phase}
+use Rattle.authenticator.specs.declared.Stepped.{Stepped}
 use Rattle.verify.specs.Faults.{faultNumber}
 use Rattle.layouts.specs.Call.{Fills, sized, numbered, valueOr, afterCall}
 use Rattle.layouts.specs.Keys.{encodeSchedules}
@@ -29,14 +31,18 @@ unfoldable pub stepArguments : List ℕ → List ℕ → List ℕ → Bool
 stepArguments conversation account out =
     isEncodedConversation conversation && (isEncodedRecord account && sized answerSize out)
 
--- The bytes of the round keys of the record that is handed out: those of the record that was
--- passed, where it is handed back with its count; else those of its own hashes. That they are the
--- round keys of the step's record is proved (proofs/Fitting `record-tells`).
+-- The bytes of the round keys of the record that is handed out in a phase: those of the record that
+-- was passed, where it is handed back with its count; else those of its own hashes. That they are
+-- the round keys of the step's record is proved (proofs/Fitting `record-tells`).
+abbrev pub keysFor : Phase → Stepped → List ℕ → List ℕ
+keysFor phase s account =
+    cond (handsBack phase (s .kind)) (recordKeys account)
+    (encodeSchedules (accountOf (s .updated .entry)))
+
 abbrev pub handedKeys : List ℕ → List ℕ → List ℕ → List ℕ → List ℕ
 handedKeys conversation packet account buffer =
-    let a = stepOf conversation packet account buffer .answer in
-    cond (handsBack (decodeConversation conversation .phase) (a .kind)) (recordKeys account)
-    (encodeSchedules (accountOf (entryOf (a .updated .account))))
+    keysFor (decodeConversation conversation .phase)
+    (steppedOf (stepOf conversation packet account buffer .answer)) account
 
 -- what the call returns (r) and leaves in the conversation, the reply buffer and the answer
 pub record StepCall (conversation packet account buffer out : List ℕ) (r : ℕ)
