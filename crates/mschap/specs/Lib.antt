@@ -2,6 +2,5 @@ pub mod Passwords
 pub mod Lists
 pub mod Opening
 pub mod Step
-pub mod Peers
 pub mod Sizes
 pub mod Inner

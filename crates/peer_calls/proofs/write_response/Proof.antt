@@ -1,4 +1,4 @@
--- `mschap::peers::mschap_write_response` meets its contract.
+-- `peer_calls::write_response` meets its contract.
 -- Assumes nothing.
 use mathlib.Core.Path.{_≡_, refl, sym, ap, _∙_}
 use mathlib.Core.Bool.{true}
@@ -10,14 +10,14 @@ use Rattle.peer.specs.declared.Turn.{Turn}
 use Rattle.layouts.specs.Passwords.{decodePassword, isEncodedPassword}
 use Rattle.layouts.specs.Peers.{isEncodedPeer}
 use Rattle.layouts.proofs.Filling.{both}
-use Rattle.mschap.specs.Peers.{responseArguments}
-use Rattle.mschap.proofs.PeerCalls.{wrote-called, response-kept}
-use Rattle.mschap.proofs.peers.mschap_write_response.Statement.{statement}
-use Rattle.mschap.proofs.peers.mschap_write_response.Tie as tie
+use Rattle.peer_calls.specs.Calls.{responseArguments}
+use Rattle.peer_calls.proofs.Calling.{wrote-called, response-kept}
+use Rattle.peer_calls.proofs.write_response.Statement.{statement}
+use Rattle.peer_calls.proofs.write_response.Tie as tie
 use borrow.Author.Needs.{needs}
 
 -- The arguments are tested and decoded, the packet is written, and the next peer is put into the
--- caller's buffer: PeerCalls says what that makes the call return and leave.
+-- caller's buffer: Calling says what that makes the call return and leave.
 
 -- the arguments are not valid
 returns : tie.Need-returns
@@ -55,8 +55,8 @@ returns-2 c =
     (ap (λ (l : List ℕ). writeResponse turn l name out) (password .decode-password .ensures))
     (wrote .write-response .ensures) (put .put-peer .ensures)
 
-pub mschap-write-response-spec : {M : Type 1} → statement M
-mschap-write-response-spec =
+pub write-response-spec : {M : Type 1} → statement M
+write-response-spec =
     tie.close
     (tie.spec
     (λ c κs. search needs) (λ c. search needs) returns (λ c κs. search needs)

@@ -1,4 +1,4 @@
--- `mschap::peers::mschap_write_change` meets its contract.
+-- `peer_calls::write_change` meets its contract.
 -- Assumes nothing.
 use mathlib.Core.Path.{_≡_, refl, sym, ap₂, _∙_}
 use mathlib.Core.Bool.{true}
@@ -10,13 +10,13 @@ use Rattle.peer.specs.declared.Turn.{Turn}
 use Rattle.layouts.specs.Passwords.{decodePassword}
 use Rattle.layouts.specs.Peers.{isEncodedPeer}
 use Rattle.layouts.proofs.Filling.{both}
-use Rattle.mschap.specs.Peers.{changeArguments}
-use Rattle.mschap.proofs.PeerCalls.{wrote-called, change-kept}
-use Rattle.mschap.proofs.peers.mschap_write_change.Statement.{statement}
-use Rattle.mschap.proofs.peers.mschap_write_change.Tie as tie
+use Rattle.peer_calls.specs.Calls.{changeArguments}
+use Rattle.peer_calls.proofs.Calling.{wrote-called, change-kept}
+use Rattle.peer_calls.proofs.write_change.Statement.{statement}
+use Rattle.peer_calls.proofs.write_change.Tie as tie
 use borrow.Author.Needs.{needs}
 
--- As mschap_write_response, with two passwords.
+-- As write_response, with two passwords.
 
 -- the arguments are not valid
 returns : tie.Need-returns
@@ -57,8 +57,8 @@ returns-2 c =
     (new-decoded .decode-password2 .ensures))
     (wrote .write-change .ensures) (put .put-peer .ensures)
 
-pub mschap-write-change-spec : {M : Type 1} → statement M
-mschap-write-change-spec =
+pub write-change-spec : {M : Type 1} → statement M
+write-change-spec =
     tie.close
     (tie.spec
     (λ c κs. search needs) (λ c. search needs) returns (λ c κs. search needs)

@@ -1,10 +1,10 @@
--- `mschap::peers::are_change_arguments` meets its contract.
+-- `peer_calls::are_change_arguments` meets its contract.
 -- Assumes nothing.
 use mathlib.Core.Path.{ap₂, _∙_}
 use mathlib.Core.Bool.{_&&_}
-use Rattle.mschap.specs.Peers.{changeArguments}
-use Rattle.mschap.proofs.peers.are_change_arguments.Statement.{statement}
-use Rattle.mschap.proofs.peers.are_change_arguments.Tie as tie
+use Rattle.peer_calls.specs.Calls.{changeArguments}
+use Rattle.peer_calls.proofs.are_change_arguments.Statement.{statement}
+use Rattle.peer_calls.proofs.are_change_arguments.Tie as tie
 use borrow.Author.Needs.{needs}
 
 returns : tie.Need-returns

@@ -19,7 +19,7 @@ use Rattle.layouts.specs.Peers.{peerSize, encodePeer, decodePeer, isEncodedPeer
 use Rattle.layouts.proofs.Filling.{fills-number}
 use Rattle.layouts.proofs.PeerLaws.{length-encoded-peer}
 use Rattle.numbers.specs.Results.{callIn, failureReason}
-use Rattle.mschap.specs.Peers.{ReplyCall, WriteCall}
+use Rattle.peer_calls.specs.Calls.{ReplyCall, WriteCall}
 
 -- ---- a reply
 

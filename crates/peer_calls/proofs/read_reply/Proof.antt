@@ -1,16 +1,16 @@
--- `mschap::peers::mschap_read_reply` meets its contract.
+-- `peer_calls::read_reply` meets its contract.
 -- Assumes nothing.
 use mathlib.Core.Path.{_≡_, refl, sym, _∙_}
 use mathlib.Core.Bool.{true}
 use borrow.Author.Tests.{not-true, not-false, ne-eqb}
 use Rattle.layouts.specs.Peers.{isEncodedPeer}
-use Rattle.mschap.proofs.PeerCalls.{reply-refused, reply-called}
-use Rattle.mschap.proofs.peers.mschap_read_reply.Statement.{statement}
-use Rattle.mschap.proofs.peers.mschap_read_reply.Tie as tie
+use Rattle.peer_calls.proofs.Calling.{reply-refused, reply-called}
+use Rattle.peer_calls.proofs.read_reply.Statement.{statement}
+use Rattle.peer_calls.proofs.read_reply.Tie as tie
 use borrow.Author.Needs.{needs}
 
 -- The peer is tested and decoded, the reply is read, and what was read is put into the caller's
--- memory: PeerCalls says what that makes the call return and leave.
+-- memory: Calling says what that makes the call return and leave.
 
 -- the peer is not valid
 returns : tie.Need-returns
@@ -55,8 +55,8 @@ returns-3 c =
     (read .read-reply .ensures) (number .verdict-number .ensures) (good .if2 .left)
     (call .call-in .ensures) (reason .failure-reason .ensures) (put .put-peer .ensures)
 
-pub mschap-read-reply-spec : {M : Type 1} → statement M
-mschap-read-reply-spec =
+pub read-reply-spec : {M : Type 1} → statement M
+read-reply-spec =
     tie.close
     (tie.spec
     (λ c κs. search needs) (λ c. search needs) returns (λ c κs. search needs)
