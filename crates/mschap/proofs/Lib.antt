@@ -1,5 +1,4 @@
 pub mod ListCalls
 pub mod OpenCalls
-pub mod StepCalls
-pub mod Fitting
+pub mod OpenFitting
 pub mod PasswordFitting

@@ -6,7 +6,7 @@ use borrow.Author.Tests.{not-true, not-false}
 use Rattle.authenticator.specs.declared.Conversation.{Conversation}
 use Rattle.layouts.specs.Conversations.{decodeConversation}
 use Rattle.layouts.specs.Call.{valueOr}
-use Rattle.mschap.specs.Step.{conversationIdentifier}
+use Rattle.step_calls.specs.Calls.{conversationIdentifier}
 use Rattle.mschap.proofs.conversations.mschap_conversation_identifier.Statement.{statement}
 use Rattle.mschap.proofs.conversations.mschap_conversation_identifier.Tie as tie
 use borrow.Author.Needs.{needs}

@@ -6,7 +6,7 @@ use borrow.Author.Tests.{not-true, not-false}
 use Rattle.authenticator.specs.declared.Conversation.{Conversation}
 use Rattle.layouts.specs.Conversations.{decodeConversation}
 use Rattle.layouts.specs.Call.{valueOr}
-use Rattle.mschap.specs.Step.{conversationRetries}
+use Rattle.step_calls.specs.Calls.{conversationRetries}
 use Rattle.mschap.proofs.conversations.mschap_conversation_retries.Statement.{statement}
 use Rattle.mschap.proofs.conversations.mschap_conversation_retries.Tie as tie
 use borrow.Author.Needs.{needs}

@@ -1,4 +1,4 @@
--- `mschap::steps::mschap_step` meets its contract.
+-- `step_calls::step` meets its contract.
 -- Assumes nothing.
 use mathlib.Core.Path.{_≡_, refl, sym, ap, ap₂, subst, _∙_}
 use mathlib.Core.Bool.{Bool, true, cond}
@@ -20,15 +20,15 @@ use Rattle.layouts.specs.Call.{numbered}
 use Rattle.layouts.specs.Conversations.{decodeConversation}
 use Rattle.layouts.specs.Keys.{keysAt}
 use Rattle.layouts.specs.Records.{ntKeysAt, lmKeysAt, decodeHead, decodeRecord}
-use Rattle.mschap.specs.Step.{stepOf, stepArguments}
-use Rattle.mschap.specs.Inner.{AnswerPut, stepArgumentsAs}
-use Rattle.mschap.proofs.StepCalls.{step-sizes, step-arguments, keys-read, step-called}
-use Rattle.mschap.proofs.steps.mschap_step.Statement.{statement}
-use Rattle.mschap.proofs.steps.mschap_step.Tie as tie
+use Rattle.step_calls.specs.Calls.{stepOf, stepArguments}
+use Rattle.step_calls.specs.Inner.{AnswerPut, stepArgumentsAs}
+use Rattle.step_calls.proofs.Calling.{step-sizes, step-arguments, keys-read, step-called}
+use Rattle.step_calls.proofs.step.Statement.{statement}
+use Rattle.step_calls.proofs.step.Tie as tie
 use borrow.Author.Needs.{needs}
 
 -- The arguments are tested by one function, the step is taken on what they decode to, and its
--- answer is put into the caller's buffers: StepCalls says what that makes the call return and
+-- answer is put into the caller's buffers: Calling says what that makes the call return and
 -- leave.
 
 abbrev start : tie.After-are-step-arguments → tie.Start
@@ -138,8 +138,8 @@ returns-3 c =
         {outAfter = u} e p =
         subst (λ (x : Conversation). AnswerPut (x .phase) s m c o r d u) e p
 
-pub mschap-step-spec : {M : Type 1} → statement M
-mschap-step-spec =
+pub step-spec : {M : Type 1} → statement M
+step-spec =
     tie.close
     (tie.spec
     (λ c κs. search needs) (λ c κs. search needs) (λ c κs. search needs) (λ c. search needs)

@@ -1,4 +1,4 @@
--- `mschap::steps::judging_at` meets its contract.
+-- `step_calls::judging_at` meets its contract.
 -- Assumes nothing.
 use mathlib.Core.Bool.{Bool, true, false, cond}
 use mathlib.Core.Path.{_≡_, refl, ap, _∙_}
@@ -6,8 +6,8 @@ use Prim.Native.Nat.{ℕ, _+_, _*_}
 use native.Mathlib.Omega.{arith}
 use Rattle.layouts.specs.Records.{ntKeysAt, lmKeysAt}
 use Rattle.verify.specs.Response.{usesNt}
-use Rattle.mschap.proofs.steps.judging_at.Statement.{statement}
-use Rattle.mschap.proofs.steps.judging_at.Tie as tie
+use Rattle.step_calls.proofs.judging_at.Statement.{statement}
+use Rattle.step_calls.proofs.judging_at.Tie as tie
 use borrow.Author.Needs.{needs}
 
 -- the place, by which round keys are read

@@ -1,5 +1,5 @@
--- What an opening and a step write is valid for the next step: the library never refuses an
--- encoding of its own as a bad argument.
+-- What a step writes is valid for the next step: the library never refuses an encoding of its own
+-- as a bad argument.
 -- Assumes nothing.
 use mathlib.Core.Bool.{Bool, true, false, cond}
 use mathlib.Core.List.{List, _++_}
@@ -30,9 +30,7 @@ use Rattle.accounts.specs.Account.{
   lookupOf,
   entryLookupOf,
 }
-use Rattle.authenticator.specs.Conversation.{ended, retried, closed}
-use Rattle.authenticator.specs.Opening.{Opening, openRefusal, openedIssued, firstConversation}
-use Rattle.authenticator.specs.Opening.{openingPacket, opened}
+use Rattle.authenticator.specs.Conversation.{ended, retried}
 use Rattle.authenticator.proofs.Steps.{Case, refused, repeated, judged, case-of}
 use Rattle.authenticator.proofs.Steps as steps-laws
 use Rattle.authenticator.specs.Judge.{Judgement, reasonOf, mayRetry, replyFor, afterReason}
@@ -55,7 +53,6 @@ use Rattle.accounts.specs.declared.EntryLookup.{EntryLookup}
 use Rattle.accounts.specs.declared.Schedules.{Schedules}
 use Rattle.accounts.specs.declared.Lookup.{Lookup}
 use Rattle.authenticator.specs.declared.Conversation.{Conversation}
-use Rattle.authenticator.specs.declared.Opened as openings
 use Rattle.authenticator.specs.declared.Phase.{Phase}
 use Rattle.authenticator.specs.declared.Phase.the-variants.{Response, Change, Ended}
 use Rattle.layouts.specs.Conversations.{encodeConversation, decodeConversation}
@@ -70,8 +67,8 @@ use Rattle.layouts.specs.Call.{valueOr}
 use Rattle.layouts.proofs.Filling.{both, valid-call}
 use Rattle.layouts.specs.declared.StepResult.{StepResult}
 use Rattle.numbers.specs.Results.{resultOf}
-use Rattle.mschap.specs.Step.{stepOf, stepArguments, handedKeys, StepCall, answerFault}
-use Rattle.mschap.specs.Step.{AnswerRecordCall}
+use Rattle.step_calls.specs.Calls.{stepOf, stepArguments, handedKeys, StepCall, answerFault}
+use Rattle.step_calls.specs.Calls.{AnswerRecordCall}
 use Rattle.layouts.proofs.RecordLaws.{SizedEntry, decoded-head-sized, record-fits, head-back}
 use Rattle.layouts.proofs.RecordLaws.{length-head, length-encoded-record}
 use Rattle.credentials.proofs.KeyOctets.{length-encoded}
@@ -83,13 +80,10 @@ use Rattle.account_records.proofs.Decoding.{record-by, keys-made}
 use Rattle.layouts.proofs.ConversationLaws.{SizedConversation, conversation-fits}
 use Rattle.layouts.proofs.ConversationLaws.{decoded-conversation-sized, last-reason-small}
 use Rattle.layouts.proofs.ConversationLaws.{conversation-back}
-use Rattle.layouts.proofs.ListLaws.{list-back}
-use Rattle.layouts.specs.Lists.{encodeList, decodeList, isList}
-use Rattle.authenticator.proofs.Openings.{opened-sound}
 
 -- ---- the successors keep the sizes
 
-blank-sized : SizedEntry blankEntry
+pub blank-sized : SizedEntry blankEntry
 blank-sized = record { nt = refl; lm = refl }
 
 choice-sized : (b : Bool) {x y : Conversation} → SizedConversation x → SizedConversation y
@@ -340,54 +334,3 @@ record-tells conversation packet account buffer out place call get =
     (answer-tells conversation packet account buffer (h .0) whole)
     (answer-keys conversation packet account buffer (h .0) whole))
     ∙ record-decoded conversation packet account buffer (h .0) whole
-
--- ---- the opening
-
--- it has no last answer
-opened-sized : (o : Opening) → length (o .challenge) ≡ 8
-    → SizedConversation (opened o .conversation)
-    × (reasonOf (opened o .conversation .last .reply) < 65536)
-unfolding opened
-opened-sized o e = by (eqb (openRefusal o) 0)
-  where
-    accepted : openings.Opened
-    accepted =
-        record {
-          refusal = 0;
-          conversation = firstConversation o;
-          written = length (openingPacket o);
-          used = openedIssued o .used;
-        }
-
-    refused : openings.Opened
-    refused =
-        record {
-          refusal = openRefusal o;
-          conversation = closed;
-          written = 0;
-          used = o .issued .used;
-        }
-
-    by : (k : Bool)
-        → let c = cond {A = openings.Opened} k accepted refused .conversation in
-        SizedConversation c × (reasonOf (c .last .reply) < 65536)
-    by true = (record { challenge = e; kept = blank-sized }, omega arith)
-    by false = (record { challenge = refl; kept = blank-sized }, omega arith)
-
-pub open-fits : (o : Opening) → length (o .challenge) ≡ 8
-    → isEncodedConversation (encodeConversation (opened o .conversation)) ≡ true
-open-fits o e =
-    let s = opened-sized o e in conversation-fits (opened o .conversation) (s .0) (s .1)
-
--- and the first step is made on just the conversation that the opening gave
-pub open-carries : (o : Opening) → length (o .challenge) ≡ 8
-    → decodeConversation (encodeConversation (opened o .conversation)) ≡ opened o .conversation
-open-carries o e =
-    let s = opened-sized o e in conversation-back (opened o .conversation) (s .0) (s .1)
-
--- the list that an opening leaves is valid, and the next opening is made on just that list
-pub open-list-fits : (o : Opening) → length (o .challenge) ≡ 8 → opened o .refusal ≡ 0
-    → (isList (encodeList (openedIssued o)) ≡ true)
-    × (decodeList (encodeList (openedIssued o)) ≡ openedIssued o)
-open-list-fits o e ok =
-    let s = opened-sound o e ok in list-back (openedIssued o) (s .0) (s .1)

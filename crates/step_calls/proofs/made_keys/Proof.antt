@@ -1,4 +1,4 @@
--- `mschap::steps::made_keys` meets its contract.
+-- `step_calls::made_keys` meets its contract.
 -- Assumes nothing.
 use mathlib.Core.Bool.{Bool, true, false, not, _&&_, cond, false≢true}
 use mathlib.Core.List.{List, _++_}
@@ -12,8 +12,8 @@ use Rattle.accounts.specs.declared.Entry.{Entry}
 use Rattle.accounts.specs.declared.Hash.{Hash}
 use Rattle.accounts.specs.declared.Schedules.{Schedules}
 use Rattle.layouts.specs.Keys.{bothKeysSize, encodeSchedules}
-use Rattle.mschap.proofs.steps.made_keys.Statement.{statement}
-use Rattle.mschap.proofs.steps.made_keys.Tie as tie
+use Rattle.step_calls.proofs.made_keys.Statement.{statement}
+use Rattle.step_calls.proofs.made_keys.Tie as tie
 
 -- without a hash they are zeros
 zeros : (e : Entry) → (not (e .nt .present) && not (e .lm .present)) ≡ true

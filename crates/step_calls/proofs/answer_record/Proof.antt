@@ -1,4 +1,4 @@
--- `mschap::steps::mschap_answer_record` meets its contract.
+-- `step_calls::answer_record` meets its contract.
 -- Assumes nothing.
 use mathlib.Core.Path.{_≡_, sym, ap, ap₂, _∙_}
 use mathlib.Core.Bool.{Bool, true}
@@ -19,10 +19,10 @@ use Rattle.layouts.proofs.AnswerLaws.{decoded-answer-sized, length-encoded-answ
 use Rattle.layouts.proofs.Filling.{both, refused-argument}
 use Rattle.layouts.proofs.RecordLaws.{length-head}
 use Rattle.numbers.specs.Results.{noRecordRefusal}
-use Rattle.mschap.specs.Step.{answerRecordArguments}
+use Rattle.step_calls.specs.Calls.{answerRecordArguments}
 use Rattle.account_records.proofs.Laying.{both-laid}
-use Rattle.mschap.proofs.steps.mschap_answer_record.Statement.{statement}
-use Rattle.mschap.proofs.steps.mschap_answer_record.Tie as tie
+use Rattle.step_calls.proofs.answer_record.Statement.{statement}
+use Rattle.step_calls.proofs.answer_record.Tie as tie
 use borrow.Author.Needs.{needs}
 
 returns : tie.Need-returns
@@ -94,8 +94,8 @@ returns-3 c =
           ∙ ap (λ (x : List ℕ). recordHead l ++ x) keys;
     }
 
-pub mschap-answer-record-spec : {M : Type 1} → statement M
-mschap-answer-record-spec =
+pub answer-record-spec : {M : Type 1} → statement M
+answer-record-spec =
     tie.close
     (tie.spec
     (λ c κs. search needs) (λ c. search needs) returns (λ c κs. search needs)

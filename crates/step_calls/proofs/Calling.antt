@@ -1,4 +1,4 @@
--- What mschap_step returns and leaves, from what the functions that it calls do.
+-- What a step returns and leaves, from what the functions that it calls do.
 -- Assumes nothing.
 use mathlib.Core.Path.{_≡_, refl, sym, ap, subst, _∙_}
 use mathlib.Core.Bool.{Bool, true, false, cond}
@@ -28,8 +28,8 @@ use Rattle.packets.specs.Response.{readResponse}
 use Rattle.packets.specs.Sizes.{flagOffset}
 use Rattle.verify.specs.Response.{usesNt, judgingKeys}
 use Rattle.numbers.specs.Results.{resultOf}
-use Rattle.mschap.specs.Step.{stepOf, stepArguments, keysFor, StepCall}
-use Rattle.mschap.specs.Inner.{AnswerPut, stepArgumentsAs}
+use Rattle.step_calls.specs.Calls.{stepOf, stepArguments, keysFor, StepCall}
+use Rattle.step_calls.specs.Inner.{AnswerPut, stepArgumentsAs}
 
 -- valid arguments have the right sizes
 pub step-sizes : (conversation account out : List ℕ) → stepArguments conversation account out ≡ true

@@ -1,9 +1,9 @@
--- `mschap::steps::are_step_arguments` meets its contract.
+-- `step_calls::are_step_arguments` meets its contract.
 -- Assumes nothing.
 use mathlib.Core.Path.{refl, ap₂, _∙_}
 use mathlib.Core.Bool.{_&&_}
-use Rattle.mschap.proofs.steps.are_step_arguments.Statement.{statement}
-use Rattle.mschap.proofs.steps.are_step_arguments.Tie as tie
+use Rattle.step_calls.proofs.are_step_arguments.Statement.{statement}
+use Rattle.step_calls.proofs.are_step_arguments.Tie as tie
 use borrow.Author.Needs.{needs}
 
 returns : tie.Need-returns

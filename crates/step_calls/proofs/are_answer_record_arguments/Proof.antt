@@ -1,10 +1,10 @@
--- `mschap::steps::are_answer_record_arguments` meets its contract.
+-- `step_calls::are_answer_record_arguments` meets its contract.
 -- Assumes nothing.
 use mathlib.Core.Path.{refl, ap₂, _∙_}
 use mathlib.Core.Bool.{_&&_}
-use Rattle.mschap.specs.Step.{answerRecordArguments}
-use Rattle.mschap.proofs.steps.are_answer_record_arguments.Statement.{statement}
-use Rattle.mschap.proofs.steps.are_answer_record_arguments.Tie as tie
+use Rattle.step_calls.specs.Calls.{answerRecordArguments}
+use Rattle.step_calls.proofs.are_answer_record_arguments.Statement.{statement}
+use Rattle.step_calls.proofs.are_answer_record_arguments.Tie as tie
 use borrow.Author.Needs.{needs}
 
 returns : tie.Need-returns

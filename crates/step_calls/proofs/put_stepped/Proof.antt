@@ -1,4 +1,4 @@
--- `mschap::steps::put_stepped` meets its contract.
+-- `step_calls::put_stepped` meets its contract.
 -- Assumes nothing.
 use mathlib.Core.Bool.{Bool, cond}
 use mathlib.Core.List.{List}
@@ -19,8 +19,8 @@ use Rattle.numbers.specs.Results.{resultOf}
 use Rattle.numbers.proofs.FlagLaws.{made-keys}
 use Rattle.authenticator.specs.Step.{refusalIn}
 use Rattle.account_records.proofs.Laying.{both-laid, length-record-keys}
-use Rattle.mschap.proofs.steps.put_stepped.Statement.{statement}
-use Rattle.mschap.proofs.steps.put_stepped.Tie as tie
+use Rattle.step_calls.proofs.put_stepped.Statement.{statement}
+use Rattle.step_calls.proofs.put_stepped.Tie as tie
 use borrow.Author.Needs.{needs}
 
 -- refused: nothing is written
