@@ -1,6 +1,6 @@
 // A step in buffers of C's: the authenticator takes one for each packet, and its answer gives the
-// record that is to be stored. What a call returns and leaves is said here; `mschap` exports the two
-// under their names in C. Every public function is total.
+// record that is to be stored. What a call returns and leaves is said here; `mschap` exports the
+// two under their names in C. Every public function is total.
 use accounts::Entry;
 use accounts::EntryLookup;
 use accounts::Hash;
