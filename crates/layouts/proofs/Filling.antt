@@ -4,6 +4,7 @@ use mathlib.Core.Path.{_≡_, refl, sym, ap, ap₂, _∙_}
 use mathlib.Core.Bool.{Bool, true, false, _&&_, false≢true}
 use mathlib.Core.List.{List}
 use Prim.Native.Nat.{ℕ}
+use native.Mathlib.Omega.{arith}
 use borrow.Author.Tests.{eq-eqb, eqb-true}
 use lib.ListN.{length}
 use Rattle.octets.specs.Parts.{part, fixed}
@@ -67,3 +68,8 @@ pub valid-argument : {valid : Bool} {n k r : ℕ} {x out after : List ℕ} → v
     → length out ≡ n → Fills (sized n out) k x out r after → Fills valid k x out r after
 valid-argument {valid} {n} {k} {r} {x} {out} e f h =
     fills-as (eq-eqb (length out) n f ∙ sym e) refl refl h
+
+-- and they were in a call that returned 0
+pub valid-call : (valid : Bool) (n : ℕ) → 0 ≡ numbered valid n → valid ≡ true
+valid-call true n e = refl
+valid-call false n e = absurd (omega (arith, e))

@@ -23,6 +23,14 @@ badArgument = 100
 abbrev pub numbered : Bool → ℕ → ℕ
 numbered valid refusal = cond valid refusal badArgument
 
+-- What a call returns that has a value to return: the value, or the largest number of 32 bits where
+-- it was passed none that is valid.
+abbrev pub invalid : ℕ
+invalid = 4294967295
+
+abbrev pub valueOr : Bool → ℕ → ℕ
+valueOr valid n = cond valid n invalid
+
 -- what a call that returned r leaves: the result where r is 0, else what was there before
 abbrev pub afterCall : {A : Type 0} → ℕ → A → A → A
 afterCall r result before = cond (eqb r 0) result before

@@ -6,6 +6,9 @@ ghost use Rattle.layouts.specs.Call.{Fills, sized, bothSized};
 // What a call returns for an argument that is not valid.
 pub const BAD_ARGUMENT: u32 = 100;
 
+// What a call returns that has a value to return, and was passed none that is valid.
+pub const INVALID: u32 = 4294967295;
+
 pub fn wide(n: u8) -> u32
     ensures { λ r. ⌜ r ≡ n ⌝ }
 {

@@ -18,6 +18,7 @@ pub use answers::decode_answer;
 pub use answers::is_encoded_answer;
 pub use answers::put_answer;
 pub use buffers::BAD_ARGUMENT;
+pub use buffers::INVALID;
 pub use buffers::are_sized;
 pub use buffers::fill;
 pub use buffers::wide;

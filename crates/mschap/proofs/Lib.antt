@@ -1,9 +1,4 @@
-pub mod Laying
-pub mod KeyBounds
 pub mod ListCalls
 pub mod OpenCalls
-pub mod StepCalls
-pub mod PeerCalls
-pub mod Fitting
+pub mod OpenFitting
 pub mod PasswordFitting
-pub mod PeerFitting

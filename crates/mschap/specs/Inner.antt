@@ -1,26 +1,13 @@
 -- What the parts of the code return and leave. Only the code's inner functions cite these; no
 -- public promise does.
 -- Assumes nothing: these are definitions.
-use mathlib.Core.Bool.{Bool, cond, _&&_}
 use mathlib.Core.List.{List}
 use mathlib.Core.Path.{_≡_}
 use Prim.Native.Nat.{ℕ}
 use Rattle.authenticator.specs.Opening.{Opening, opened, openedIssued, openedBuffer}
-use Rattle.octets.specs.Parts.{agrees}
-use Rattle.accounts.specs.Account.{accountOf}
-use Rattle.accounts.specs.declared.EntryLookup.{EntryLookup}
-use Rattle.authenticator.specs.Step.{refusalIn, handsBack}
-use Rattle.authenticator.specs.declared.Conversation.{Conversation}
-use Rattle.authenticator.specs.declared.Phase.{Phase}
-use Rattle.authenticator.specs.declared.Stepped.{Stepped}
 use Rattle.authenticator.specs.declared.Opened.{Opened}
-use Rattle.layouts.specs.Call.{sized, afterCall}
-use Rattle.layouts.specs.Answers.{answerSize, encodeAnswer}
-use Rattle.layouts.specs.Keys.{encodeSchedules}
-use Rattle.layouts.specs.Records.{isRecordOf, recordKeys}
-use Rattle.layouts.specs.Conversations.{encodeConversation}
+use Rattle.layouts.specs.Call.{afterCall}
 use Rattle.layouts.specs.Lists.{encodeList}
-use Rattle.numbers.specs.Results.{resultOf}
 
 -- an opening was made on the list that is encoded, and the list was written back
 pub record OpenedOn (o : Opening) (list : List ℕ) (answer : Opened) (listAfter reply : List ℕ)
@@ -28,22 +15,3 @@ pub record OpenedOn (o : Opening) (list : List ℕ) (answer : Opened) (listAfter
   pub answered : answer ≡ opened o
   pub issued : listAfter ≡ afterCall (answer .refusal) (encodeList (openedIssued o)) list
   pub sent : reply ≡ openedBuffer o
-
--- the bytes of the round keys that go with the answer of a step in a phase, which was passed a
--- record
-abbrev pub keysFor : Phase → Stepped → List ℕ → List ℕ
-keysFor phase s account =
-    cond (handsBack phase (s .kind)) (recordKeys account)
-    (encodeSchedules (accountOf (s .updated .entry)))
-
--- the answer of such a step is written into buffers of the right sizes
-pub record AnswerPut (phase : Phase) (s : Stepped) (account conversation out : List ℕ) (r : ℕ)
-    (conversationAfter outAfter : List ℕ) : Type 0 where
-  pub number : r ≡ refusalIn (s .kind)
-  pub next : conversationAfter ≡ afterCall r (encodeConversation (s .next)) conversation
-  pub found : outAfter ≡ afterCall r (encodeAnswer (resultOf s) (keysFor phase s account)) out
-
--- the arguments of a step are valid, by what the conversation and the record decode to
-abbrev pub stepArgumentsAs : Conversation → EntryLookup → List ℕ → List ℕ → List ℕ → Bool
-stepArgumentsAs c l conversation account out =
-    agrees (encodeConversation c) conversation && (isRecordOf l account && sized answerSize out)

@@ -1,8 +1,5 @@
 pub mod Passwords
-pub mod Records
 pub mod Lists
 pub mod Opening
-pub mod Step
-pub mod Peers
 pub mod Sizes
 pub mod Inner

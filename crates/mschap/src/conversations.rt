@@ -1,10 +1,10 @@
 // What a conversation tells.
-use crate::INVALID;
+use layouts::INVALID;
 use layouts::decode_conversation;
 use layouts::is_encoded_conversation;
 ghost use mathlib.Core.Path.{_≡_};
-ghost use Rattle.mschap.specs.Step.{conversationAwaits, conversationIdentifier};
-ghost use Rattle.mschap.specs.Step.{conversationRetries};
+ghost use Rattle.step_calls.specs.Calls.{conversationAwaits, conversationIdentifier};
+ghost use Rattle.step_calls.specs.Calls.{conversationRetries};
 
 // The code that it awaits; 0 is none.
 #[no_mangle]

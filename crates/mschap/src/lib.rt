@@ -17,9 +17,6 @@ ghost use Rattle.mschap.specs.Sizes.{interfaceVersion};
 // 0.8.0: major, minor and patch, a byte each.
 const INTERFACE_VERSION: u32 = 2048;
 
-// What a function returns that has a value to return, and was passed none that is valid.
-pub(crate) const INVALID: u32 = 4294967295;
-
 // The version of the interface.
 #[no_mangle]
 pub extern "C" fn mschap_version() -> u32

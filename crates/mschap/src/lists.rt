@@ -1,5 +1,5 @@
 // The list of issued challenges: made empty, and how much of it is used.
-use crate::INVALID;
+use layouts::INVALID;
 use layouts::LIST_HEAD_SIZE;
 use layouts::is_list;
 use layouts::places_in;
@@ -9,7 +9,7 @@ use packets::CHALLENGE_SIZE;
 use refusals::both;
 ghost use mathlib.Core.Path.{_≡_};
 ghost use Rattle.mschap.specs.Lists.{badPlaces, MakeListCall, isGoodList};
-ghost use Rattle.mschap.specs.Sizes.{valueOr};
+ghost use Rattle.layouts.specs.Call.{valueOr};
 ghost use Rattle.layouts.specs.Lists.{usedIn};
 
 // The places are not whole, are too many, or fewer than are used.

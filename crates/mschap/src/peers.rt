@@ -1,20 +1,7 @@
 // The peer: what it reads, and its two packets. The caller keeps its encoding between the calls.
-use layouts::BAD_ARGUMENT;
-use layouts::decode_password;
-use layouts::decode_peer;
-use layouts::is_encoded_password;
-use layouts::is_encoded_peer;
-use layouts::put_peer;
-use layouts::wide;
-use numbers::call_in;
-use numbers::failure_reason;
-use numbers::verdict_number;
-use peer::Peer;
-use refusals::both;
-ghost use mathlib.Core.Path.{_≡_};
-ghost use Rattle.mschap.specs.Peers.{ChallengeCall};
-ghost use Rattle.mschap.specs.Peers.{ReplyCall, responseArguments, changeArguments};
-ghost use Rattle.mschap.specs.Peers.{responseFrom, changeFrom, WriteCall};
+ghost use Rattle.peer_calls.specs.Calls.{ChallengeCall, ReplyCall, WriteCall};
+ghost use Rattle.peer_calls.specs.Calls.{responseArguments, responseFrom};
+ghost use Rattle.peer_calls.specs.Calls.{changeArguments, changeFrom};
 
 // Reads a Challenge, and writes the peer that is to answer it. 3: the frame. 11: another kind, cut
 // short, or of a size other than 8.
@@ -23,12 +10,8 @@ pub extern "C" fn mschap_read_challenge(packet: &[u8], peer: &mut [u8]) -> u32
     ensures { λ r. ⌜ ChallengeCall (now (packet .entry)) (now (peer .entry))
         r (now (peer .exit)) ⌝ }
 {
-    let read = Peer::read_challenge(packet);
-    let first = read.peer;
-    put_peer(read.refusal, first, peer)
+    peer_calls::read_challenge(packet, peer)
 }
-
-// ---- a reply
 
 // Reads the reply to the last packet: writes what it calls for and its reason, and the next turn
 // into the peer. 3: the frame. 5: another identifier. 11: another kind, or by the message.
@@ -42,29 +25,7 @@ pub extern "C" fn mschap_read_reply(
     ensures { λ r. ⌜ ReplyCall (now (peer .entry)) (now (packet .entry)) (now (call .entry))
         (now (reason .entry)) r (now (peer .exit)) (now (call .exit)) (now (reason .exit)) ⌝ }
 {
-    if !is_encoded_peer(peer) {
-        return BAD_ARGUMENT;
-    }
-    let before = decode_peer(peer);
-    let read = before.read_reply(packet);
-    let reading = read.reading;
-    let verdict = reading.verdict;
-    let next = read.peer;
-    let number = verdict_number(verdict);
-    if number != 0 {
-        return wide(number);
-    }
-    *call = call_in(verdict);
-    *reason = failure_reason(verdict);
-    put_peer(0, next, peer)
-}
-
-// ---- the packets
-
-fn are_response_arguments(peer: &[u8], password: &[u8]) -> bool
-    ensures { λ r. ⌜ r ≡ responseArguments (now (peer .entry)) (now (password .entry)) ⌝ }
-{
-    both(is_encoded_peer(peer), is_encoded_password(password))
+    peer_calls::read_reply(peer, packet, call, reason)
 }
 
 // Writes the Response of the turn at the front of out; the peer has then sent it. 10: the name. 9:
@@ -81,24 +42,7 @@ pub extern "C" fn mschap_write_response(
         (now (out .entry)))
         (now (peer .entry)) (now (out .entry)) r (now (peer .exit)) (now (out .exit)) ⌝ }
 {
-    if !are_response_arguments(peer, password) {
-        return BAD_ARGUMENT;
-    }
-    let before = decode_peer(peer);
-    let wrote = before.write_response(decode_password(password), name, out);
-    let written = wrote.written;
-    let next = wrote.peer;
-    put_peer(written.refusal, next, peer)
-}
-
-fn are_change_arguments(peer: &[u8], old: &[u8], new: &[u8]) -> bool
-    ensures { λ r. ⌜ r ≡ changeArguments (now (peer .entry)) (now (old .entry))
-        (now (new .entry)) ⌝ }
-{
-    both(
-        is_encoded_peer(peer),
-        both(is_encoded_password(old), is_encoded_password(new)),
-    )
+    peer_calls::write_response(peer, password, name, out)
 }
 
 // Writes the version 2 change of the turn at the front of out; the peer has then sent it. 12: the
@@ -117,12 +61,5 @@ pub extern "C" fn mschap_write_change(
         (now (out .entry)))
         (now (peer .entry)) (now (out .entry)) r (now (peer .exit)) (now (out .exit)) ⌝ }
 {
-    if !are_change_arguments(peer, old, new) {
-        return BAD_ARGUMENT;
-    }
-    let before = decode_peer(peer);
-    let wrote = before.write_change(decode_password(old), decode_password(new), filler, out);
-    let written = wrote.written;
-    let next = wrote.peer;
-    put_peer(written.refusal, next, peer)
+    peer_calls::write_change(peer, old, new, filler, out)
 }

@@ -1,37 +1,7 @@
 // A record: made of flags and hashes, read, its count read and set, and its response.
-use crate::INVALID;
-use accounts::EntryLookup;
-use accounts::Hash;
-use accounts::entry_failures;
-use layouts::BAD_ARGUMENT;
-use layouts::KEYS_SIZE;
-use layouts::RECORD_HEAD_SIZE;
-use layouts::decode_head;
-use layouts::fill;
-use layouts::is_encoded_record;
-use layouts::is_record;
-use layouts::put_record;
-use layouts::put_record_head;
-use numbers::are_record_arguments;
-use numbers::flags_of;
-use numbers::record_from;
-use packets::CHALLENGE_SIZE;
-use packets::HASH_SIZE;
-use refusals::both;
 ghost use mathlib.Core.Path.{_≡_};
-ghost use mathlib.Core.Bool.{cond};
-ghost use Rattle.mschap.specs.Records.{MakeRecordCall, readRecordArguments};
-ghost use Rattle.mschap.specs.Records.{ReadRecordCall, recordFailures};
-ghost use Rattle.mschap.specs.Records.{setFailuresArguments, SetFailuresCall};
-ghost use Rattle.mschap.specs.Records.{isOneHash, responseArgumentsAs, namedHash};
-ghost use Rattle.mschap.specs.Records.{namedAt, RecordResponseCall};
-
-const FAILURES_END: u32 = 256;
-
-// The flags of the two hashes.
-const NT: u32 = 2;
-
-const LM: u32 = 4;
+ghost use Rattle.account_records.specs.Calls.{MakeRecordCall, ReadRecordCall, recordFailures};
+ghost use Rattle.account_records.specs.Calls.{SetFailuresCall, RecordResponseCall};
 
 // Makes a record of flags and hashes.
 #[no_mangle]
@@ -39,22 +9,7 @@ pub extern "C" fn mschap_make_record(flags: u32, nt: &[u8], lm: &[u8], out: &mut
     ensures { λ r. ⌜ MakeRecordCall flags (now (nt .entry)) (now (lm .entry))
         (now (out .entry)) r (now (out .exit)) ⌝ }
 {
-    if !are_record_arguments(flags, nt, lm) {
-        return BAD_ARGUMENT;
-    }
-    put_record(0, record_from(flags, nt, lm), out)
-}
-
-// ---- read
-
-fn are_read_record_arguments(account: &[u8], nt: &[u8], lm: &[u8]) -> bool
-    ensures { λ r. ⌜ r
-        ≡ readRecordArguments (now (account .entry)) (now (nt .entry)) (now (lm .entry)) ⌝ }
-{
-    both(
-        is_encoded_record(account),
-        both(nt.len() == HASH_SIZE, lm.len() == HASH_SIZE),
-    )
+    account_records::make_record(flags, nt, lm, out)
 }
 
 // The flags and the hashes of a record.
@@ -68,108 +23,23 @@ pub extern "C" fn mschap_read_record(
     ensures { λ r. ⌜ ReadRecordCall (now (account .entry)) (now (flags .entry)) (now (nt .entry))
         (now (lm .entry)) r (now (flags .exit)) (now (nt .exit)) (now (lm .exit)) ⌝ }
 {
-    if !are_read_record_arguments(account, nt, lm) {
-        return BAD_ARGUMENT;
-    }
-    let lookup = decode_head(account);
-    let entry = lookup.entry;
-    let nt_hash = entry.nt.octets;
-    let lm_hash = entry.lm.octets;
-    *flags = flags_of(lookup);
-    octets::copy(nt, &nt_hash);
-    octets::copy(lm, &lm_hash);
-    0
+    account_records::read_record(account, flags, nt, lm)
 }
-
-// ---- its count
 
 // How many Responses in a row were judged invalid.
 #[no_mangle]
 pub extern "C" fn mschap_record_failures(account: &[u8]) -> u32
     ensures { λ r. ⌜ r ≡ recordFailures (now (account .entry)) ⌝ }
 {
-    if !is_encoded_record(account) {
-        return INVALID;
-    }
-    decode_head(account).entry.failures as u32
+    account_records::record_failures(account)
 }
 
-fn are_set_failures_arguments(account: &[u8], failures: u32) -> bool
-    ensures { λ r. ⌜ r ≡ setFailuresArguments (now (account .entry)) failures ⌝ }
-{
-    both(is_encoded_record(account), failures < FAILURES_END)
-}
-
-// Sets the count of a record, at most 255. With 0 the account is unlocked. Its round keys stay where
-// they are.
+// Sets the count of a record, at most 255. With 0 the account is unlocked.
 #[no_mangle]
 pub extern "C" fn mschap_set_failures(account: &mut [u8], failures: u32) -> u32
     ensures { λ r. ⌜ SetFailuresCall (now (account .entry)) failures r (now (account .exit)) ⌝ }
 {
-    if !are_set_failures_arguments(account, failures) {
-        return BAD_ARGUMENT;
-    }
-    let lookup = decode_head(account);
-    let before = lookup.entry;
-    let entry = entry_failures(before, failures as u8);
-    let after = EntryLookup {
-        found: lookup.found,
-        entry,
-    };
-    put_record_head(after, account);
-    0
-}
-
-// ---- its response
-
-fn is_one_hash(hash: u32) -> bool
-    ensures { λ r. ⌜ r ≡ isOneHash hash ⌝ }
-{
-    hash == NT || hash == LM
-}
-
-fn are_record_response_arguments(
-    head: EntryLookup,
-    account: &[u8],
-    hash: u32,
-    challenge: &[u8],
-) -> bool
-    ensures { λ r. ⌜ r ≡ responseArgumentsAs head (now (account .entry)) hash
-        (now (challenge .entry)) ⌝ }
-{
-    both(
-        is_record(head, account),
-        both(is_one_hash(hash), challenge.len() == CHALLENGE_SIZE),
-    )
-}
-
-fn named_hash(head: EntryLookup, hash: u32) -> Hash
-    ensures { λ r. ⌜ r ≡ namedHash head hash ⌝ }
-{
-    let entry = head.entry;
-    let nt = entry.nt;
-    let lm = entry.lm;
-    if hash == NT {
-        return nt;
-    }
-    lm
-}
-
-// Where its round keys begin.
-fn named_at(hash: u32) -> usize
-    ensures { λ r. ⌜ r ≡ namedAt hash ⌝ }
-{
-    if hash == NT {
-        RECORD_HEAD_SIZE
-    } else {
-        RECORD_HEAD_SIZE + KEYS_SIZE
-    }
-}
-
-fn no_hash_refusal(hash: Hash) -> u8
-    ensures { λ r. ⌜ r ≡ cond (hash .present) 0 102 ⌝ }
-{
-    if hash.present { 0 } else { 102 }
+    account_records::set_failures(account, failures)
 }
 
 // The response of the NT hash or of the LM hash of a record to a challenge, by the round keys that
@@ -184,11 +54,5 @@ pub extern "C" fn mschap_record_response(
     ensures { λ r. ⌜ RecordResponseCall (now (account .entry)) hash (now (challenge .entry))
         (now (out .entry)) r (now (out .exit)) ⌝ }
 {
-    let head = decode_head(account);
-    if !are_record_response_arguments(head, account, hash, challenge) {
-        return BAD_ARGUMENT;
-    }
-    let keys = octets::part_of(account, named_at(hash), KEYS_SIZE);
-    let response = credentials::scheduled_response(keys, octets::eight_at(challenge, 0));
-    fill(no_hash_refusal(named_hash(head, hash)), &response, out)
+    account_records::record_response(account, hash, challenge, out)
 }

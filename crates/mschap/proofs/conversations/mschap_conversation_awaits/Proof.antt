@@ -6,8 +6,8 @@ use borrow.Author.Tests.{not-true, not-false}
 use Rattle.authenticator.specs.Conversation.{awaitedCode}
 use Rattle.authenticator.specs.declared.Conversation.{Conversation}
 use Rattle.layouts.specs.Conversations.{decodeConversation}
-use Rattle.mschap.specs.Sizes.{valueOr}
-use Rattle.mschap.specs.Step.{conversationAwaits}
+use Rattle.layouts.specs.Call.{valueOr}
+use Rattle.step_calls.specs.Calls.{conversationAwaits}
 use Rattle.mschap.proofs.conversations.mschap_conversation_awaits.Statement.{statement}
 use Rattle.mschap.proofs.conversations.mschap_conversation_awaits.Tie as tie
 use borrow.Author.Needs.{needs}

@@ -4,7 +4,7 @@ use mathlib.Core.Path.{sym, ap, _∙_}
 use mathlib.Core.Bool.{Bool}
 use borrow.Author.Tests.{not-true, not-false}
 use Rattle.layouts.specs.Lists.{usedIn}
-use Rattle.mschap.specs.Sizes.{valueOr}
+use Rattle.layouts.specs.Call.{valueOr}
 use Rattle.mschap.proofs.lists.mschap_list_used.Statement.{statement}
 use Rattle.mschap.proofs.lists.mschap_list_used.Tie as tie
 use borrow.Author.Needs.{needs}

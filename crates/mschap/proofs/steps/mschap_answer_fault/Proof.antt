@@ -6,8 +6,8 @@ use borrow.Author.Tests.{not-true, not-false}
 use Rattle.verify.specs.Faults.{faultNumber}
 use Rattle.layouts.specs.Answers.{decodeAnswer}
 use Rattle.layouts.specs.declared.StepResult.{StepResult}
-use Rattle.mschap.specs.Sizes.{valueOr}
-use Rattle.mschap.specs.Step.{answerFault}
+use Rattle.layouts.specs.Call.{valueOr}
+use Rattle.step_calls.specs.Calls.{answerFault}
 use Rattle.mschap.proofs.steps.mschap_answer_fault.Statement.{statement}
 use Rattle.mschap.proofs.steps.mschap_answer_fault.Tie as tie
 use borrow.Author.Needs.{needs}

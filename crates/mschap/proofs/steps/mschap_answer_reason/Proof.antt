@@ -5,8 +5,8 @@ use mathlib.Core.Bool.{Bool}
 use borrow.Author.Tests.{not-true, not-false}
 use Rattle.layouts.specs.Answers.{decodeAnswer}
 use Rattle.layouts.specs.declared.StepResult.{StepResult}
-use Rattle.mschap.specs.Sizes.{valueOr}
-use Rattle.mschap.specs.Step.{answerReason}
+use Rattle.layouts.specs.Call.{valueOr}
+use Rattle.step_calls.specs.Calls.{answerReason}
 use Rattle.mschap.proofs.steps.mschap_answer_reason.Statement.{statement}
 use Rattle.mschap.proofs.steps.mschap_answer_reason.Tie as tie
 use borrow.Author.Needs.{needs}

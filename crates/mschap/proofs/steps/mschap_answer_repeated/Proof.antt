@@ -7,8 +7,8 @@ use Rattle.layouts.specs.Records.{flag}
 use Rattle.layouts.specs.Answers.{decodeAnswer}
 use Rattle.layouts.specs.declared.StepResult.{StepResult}
 use Rattle.layouts.proofs.RecordLaws.{flag-cast}
-use Rattle.mschap.specs.Sizes.{valueOr}
-use Rattle.mschap.specs.Step.{answerRepeated}
+use Rattle.layouts.specs.Call.{valueOr}
+use Rattle.step_calls.specs.Calls.{answerRepeated}
 use Rattle.mschap.proofs.steps.mschap_answer_repeated.Statement.{statement}
 use Rattle.mschap.proofs.steps.mschap_answer_repeated.Tie as tie
 use borrow.Author.Needs.{needs}

@@ -1,0 +1,4 @@
+pub mod Laying
+pub mod KeyBounds
+pub mod Decoding
+pub mod Fitting
