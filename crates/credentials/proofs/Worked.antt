@@ -26,8 +26,8 @@ under = refl
 abbrev challenge : List ℕ
 challenge = 0x10 ∷ 0x2d ∷ 0xb5 ∷ 0xdf ∷ 0x08 ∷ 0x5d ∷ 0x30 ∷ 0x41 ∷ []
 
--- slip 13: both halves are under its first seven octets, and not the second under the next ones as
--- in A.17
+-- both halves are under its first seven octets, and not the second under the next ones as in A.17
+-- (document 02, request 2026-07)
 under-challenge : hashUnderChallenge old challenge ≡ 0x9e ∷ 0x05 ∷ 0x21 ∷ 0xf3 ∷ 0xf7 ∷ 0xea ∷ 0xee ∷ 0x39 ∷ 0x55 ∷ 0xf6 ∷ 0x1e ∷ 0x38 ∷ 0xbe ∷ 0x9a ∷ 0x8e ∷ 0xf3 ∷ []
 unfolding hashUnderChallenge desEncrypt scheduleOf expandKey roundKeys crypt cipherF ip fp expansion permutation boxes s1 s2 s3 s4 s5 s6 s7 s8 pc1 pc2 shifts
 under-challenge = refl
