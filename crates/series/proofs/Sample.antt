@@ -24,8 +24,10 @@ use Rattle.authenticator.specs.Steps.{Box}
 use Rattle.accounts.specs.declared.Account.{Account}
 use Rattle.authenticator.specs.declared.Retries.{Retries}
 use Rattle.authenticator.specs.declared.Retries.the-variants.{Default, Count}
+use Rattle.authenticator.specs.declared.ChangeChoice.{ChangeChoice}
 use Rattle.authenticator.specs.declared.ChangeChoice.the-variants.{Unspecified}
-use Rattle.verify.specs.declared.ChangeVersion.the-variants.{Two}
+use Rattle.verify.specs.declared.ChangeVersion.{ChangeVersion}
+use Rattle.verify.specs.declared.ChangeVersion.the-variants.{One, Two}
 use Rattle.authenticator.specs.declared.LmChoice.the-variants.{Disallowed}
 use Rattle.authenticator.proofs.Openings.{may-open-empty}
 use Rattle.series.specs.Series.{
@@ -54,18 +56,21 @@ use Rattle.series.specs.Writers.{Writer}
 abbrev pub challenge : List ℕ
 challenge = 0xE9 ∷ 2 ∷ 3 ∷ 4 ∷ 5 ∷ 6 ∷ 7 ∷ 8 ∷ []
 
-abbrev pub openingOf : Retries → ℕ → Opening
-openingOf r limit =
+abbrev pub openingFor : ChangeChoice → Retries → ℕ → Opening
+openingFor x r limit =
     record {
       id = 255;
       challenge = challenge;
       retries = r;
       lm = Disallowed;
-      change = Unspecified;
+      change = x;
       limit = limit;
       issued = emptyList 8 3;
       buffer = replicate 17 0;
     }
+
+abbrev pub openingOf : Retries → ℕ → Opening
+openingOf = openingFor Unspecified
 
 abbrev pub opening : Retries → Opening
 opening r = openingOf r 5
@@ -83,9 +88,13 @@ pub opens-limited : (limit : ℕ) → 0 < limit → opened (openingOf (Count 0) 
 opens-limited limit pos = may-open-empty (openingOf (Count 0) limit) pos (omega arith) (omega arith)
     three-places refl refl (omega arith)
 
+-- whatever change it chooses
+pub opens-for : (x : ChangeChoice) → opened (openingFor x (Count 1) 5) .refusal ≡ 0
+opens-for x = may-open-empty (openingFor x (Count 1) 5) (omega arith) (omega arith) (omega arith)
+    three-places refl refl (omega arith)
+
 pub opens-once : opened (opening (Count 1)) .refusal ≡ 0
-opens-once = may-open-empty (opening (Count 1)) (omega arith) (omega arith) (omega arith) three-places refl refl
-    (omega arith)
+opens-once = opens-for Unspecified
 
 -- "MyPw", "bad" and "MyNewPw"
 abbrev pub old : List ℕ
@@ -130,11 +139,18 @@ badTry l = ours (invalid bad user) (line 60 l)
 abbrev pub rightTry : Step
 rightTry = ours (right old user) (line 55 own)
 
+-- the change, of either version
+abbrev pub newPasswordBy : ChangeVersion → Packet
+newPasswordBy v = passwordChange v old new (replicate 512 7)
+
+abbrev pub changeBy : ChangeVersion → Passed → Step
+changeBy v l = ours (newPasswordBy v) (line 1118 l)
+
 abbrev pub newPassword : Packet
-newPassword = passwordChange Two old new (replicate 512 7)
+newPassword = newPasswordBy Two
 
 abbrev pub change : Passed → Step
-change l = ours newPassword (line 1118 l)
+change = changeBy Two
 
 -- ---- the premises
 
@@ -144,15 +160,21 @@ pub try-within : (password : List ℕ) (l : ExchangeInput) → badNtPassword pas
     → TryWithin password user l
 try-within password l good out room = record { not8 = good; not10 = refl; not9 = out; not2 = room }
 
-change-within : (l : ExchangeInput) → 1118 ≤ length (l .out) → 17 ≤ length (l .buffer)
-    → ChangeWithin Two old new (replicate 512 7) l
-change-within l out room = record {
+change-within : (v : ChangeVersion) (l : ExchangeInput) → 1118 ≤ length (l .out)
+    → 17 ≤ length (l .buffer) → ChangeWithin v old new (replicate 512 7) l
+change-within One l out room = record {
+  oldNot8 = refl;
+  newNot8 = refl;
+  not12 = refl;
+  not9 = omega (arith, out);
+  not2 = room;
+}
+change-within Two l out room = record {
   oldNot8 = refl;
   newNot8 = refl;
   not12 = refl;
   not9 = out;
-  not2 =
-      room;
+  not2 = room;
 }
 
 pub new-within : (l : Passed) → TryWithin new user (line 55 l)
@@ -173,6 +195,11 @@ module _ (box : Box) (writer : Writer) (p : SeriesState) where
     (refl, refl),
   )
 
+  pub change-by-allowed : (v : ChangeVersion) (expired : Bool) (l : Passed)
+      → Allowed box writer (account expired) p (changeBy v l)
+  change-by-allowed v expired l =
+      (change-within v (line 1118 l) (omega arith) (omega arith), refl)
+
   pub change-allowed : (expired : Bool) (l : Passed)
       → Allowed box writer (account expired) p (change l)
-  change-allowed expired l = (change-within (line 1118 l) (omega arith) (omega arith), refl)
+  change-allowed = change-by-allowed Two
