@@ -26,5 +26,6 @@ pub mod Guesses
 pub mod SampleGuesses
 pub mod WrongCounts
 pub mod WrongSchedules
+pub mod WrongChanges
 pub mod GuessRuns
 pub mod WrongGuesses

@@ -1,13 +1,13 @@
 -- Our box, and wrong ones: one that refuses everything, and boxes that are ours but for one slip
 -- each. Demand 3 holds of ours (proofs/Demand3) and of none of the others (proofs/Wrong,
--- WrongRefusals, WrongRepeats, WrongCounts, WrongSchedules).
+-- WrongRefusals, WrongRepeats, WrongCounts, WrongSchedules, WrongChanges).
 -- Assumes nothing: these are definitions.
-use mathlib.Core.Bool.{Bool, true, cond, not, _&&_}
+use mathlib.Core.Bool.{Bool, true, false, cond, not, _&&_}
 use mathlib.Core.List.{List}
 use Prim.Native.Nat.{ℕ, suc, _%_}
 use lib.Dec.{eqb, ltb}
-use Rattle.message.specs.Reasons.{noReason}
-use Rattle.packets.specs.Codes.{responseCode, changeCode}
+use Rattle.message.specs.Reasons.{noReason, changingPassword}
+use Rattle.packets.specs.Codes.{responseCode, changeCode, changeOneCode}
 use Rattle.packets.specs.Frame.{octet, writtenOver}
 use Rattle.packets.specs.Response.{readResponse}
 use Rattle.authenticator.specs.Admit.{refusalFor}
@@ -17,13 +17,15 @@ use Rattle.accounts.specs.Account.{withFailures}
 use Rattle.accounts.specs.declared.Lookup.{Lookup}
 use Rattle.verify.specs.Lockout.{isLocked, oneMore}
 use Rattle.verify.specs.Response.{foundValid}
-use Rattle.verify.specs.declared.ChangeFault.the-variants.{NoFault}
+use Rattle.verify.specs.declared.ChangeFault.the-variants.{NoFault, HashWrong}
+use Rattle.verify.specs.declared.ChangeVersion.{ChangeVersion}
 use Rattle.authenticator.specs.Conversation.{isEnded, ended}
 use Rattle.authenticator.specs.Judge.{Judgement}
 use Rattle.authenticator.specs.Judge.{validIn, judgementFor, judge}
 use Rattle.authenticator.specs.Step.{Outcome, isRepeated, judgedAs, repeatedAs, refusedAs}
 use Rattle.authenticator.specs.Steps.{StepInput, Box, stepOn, refusalAt}
 use Rattle.authenticator.specs.declared.Conversation.{Conversation}
+use Rattle.authenticator.specs.declared.Reply.the-variants.{Failure}
 use Rattle.authenticator.specs.declared.Kind.{Kind}
 use Rattle.authenticator.specs.declared.Kind.the-variants.{Refused, Repeated, Judged}
 
@@ -394,3 +396,47 @@ callsRepeats box c s = withKind (calledRepeated (box c s .answer .kind)) (box c 
 -- our box: what the promise of the authenticator's `step` says
 abbrev pub ourBox : Box
 ourBox = stepOn
+
+-- ---- boxes that get the version 1 change wrong
+
+-- a conversation that was opened for a version's change
+abbrev pub withChange : ChangeVersion → Conversation → Conversation
+withChange v c =
+    record {
+      terms = record { lm = c .terms .lm; limit = c .terms .limit; change = v };
+      id = c .id;
+      challenge = c .challenge;
+      retries = c .retries;
+      phase = c .phase;
+      kept = c .kept;
+      last = c .last;
+    }
+
+-- takes every conversation for one of that version, whatever it was opened for: it writes that V
+-- and awaits that code. The terms are given back as they were.
+abbrev pub forgetsChange : ChangeVersion → Box
+forgetsChange v c s =
+    let o = stepOn (withChange v c) s in
+    record {
+      answer = record {
+        kind = o .answer .kind;
+        fault = o .answer .fault;
+        next = withChange (c .terms .change) (o .answer .next);
+        written = o .answer .written;
+        updated = o .answer .updated;
+      };
+      buffer = o .buffer;
+    }
+
+-- turns every version 1 change away, as one does that keys the second half of a hash by other
+-- octets, asks for an LM hash too, or for a length of at most 14
+abbrev pub turnsOneAway : Judge
+turnsOneAway c s =
+    cond (eqb (octet 0 (s .packet)) changeOneCode)
+    (record {
+      reply = Failure changingPassword false;
+      fault = HashWrong;
+      next = ended c;
+      updated = notFound;
+    })
+    (judge c (s .packet) (s .account))

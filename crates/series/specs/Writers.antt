@@ -50,3 +50,11 @@ asksForLm =
 -- what the promises of the peer's writers say
 abbrev pub ourWriter : Writer
 ourWriter = record { response = writeResponse; change = ourChange }
+
+-- writes version 2's change, whatever V calls for
+abbrev pub alwaysTwo : Writer
+alwaysTwo =
+    record {
+      response = writeResponse;
+      change = λ version turn old new filler out. writeChange turn old new filler out;
+    }
