@@ -15,6 +15,7 @@ pub mod Wrong
 pub mod WrongRefusals
 pub mod WrongRepeats
 pub mod WrongWriters
+pub mod Recorded
 pub mod OneList
 pub mod Shared
 pub mod WrongOpeners

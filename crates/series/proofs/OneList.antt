@@ -1,12 +1,14 @@
 -- Many boxes on one list: an opening that needs nothing more is not refused, no challenge is put in
--- force by two openings, and no recorded answer or change is right in two conversations.
+-- force by two openings, no recorded answer or version 2 change is right in two conversations, and
+-- nothing that was recorded opens a second box.
 -- Assumes nothing.
 use mathlib.Core.Bool.{Bool, true, false, cond, _&&_, false≢true}
 use mathlib.Core.List.{List, [], _∷_, _++_}
-use mathlib.Core.Logic.{_≢_}
+use mathlib.Core.Logic.{_≢_, inl, inr}
 use mathlib.Core.Option.{Option, none, some}
 use mathlib.Core.Path.{_≡_, refl, sym, ap, _∙_, subst}
 use Prim.Native.Nat.{ℕ}
+use native.Mathlib.Omega.{arith}
 use borrow.Author.Tests.{eqb-true, eqb-false}
 use lib.Dec.{eqb}
 use lib.ListN.{length}
@@ -25,6 +27,9 @@ use Rattle.credentials.specs.Credentials.{
   passwordIn,
 }
 use Rattle.credentials.proofs.Laws.{response-under, response-under-tells}
+use Rattle.packets.specs.Codes.{responseCode}
+use Rattle.packets.specs.Frame.{octet}
+use Rattle.packets.specs.Response.{readResponse}
 use Rattle.packets.specs.declared.Change.{Change}
 use Rattle.packets.specs.declared.Response.{Response}
 use Rattle.verify.specs.Response.{answers, valid}
@@ -44,7 +49,9 @@ use Rattle.authenticator.proofs.InForce.{CanBeInForce, now-in-force, step-adds-
 use Rattle.series.specs.Course.{end, Along}
 use Rattle.series.specs.Openers.{spendsAll, ourOpener}
 use Rattle.series.specs.OneList.{PassedOn, leftBy, OnOneList, Opens, Two, reached, NoneTwice, NoneAnsweredTwice, NoneValidTwice, NoneChangedTwice, MayOpen, OneList}
+use Rattle.series.specs.OneList.{Recorded, NoneOpened}
 use Rattle.series.proofs.Invariant.{along-behind}
+use Rattle.series.proofs.Recorded.{Shut, shut-along}
 
 -- ---- an opening that hands out a conversation that goes on was not refused
 
@@ -191,6 +198,44 @@ none-valid-twice i first second two ss ts a f p = refuted (validIn (reached ourO
 pub none-changed-twice : NoneChangedTwice ourOpener
 none-changed-twice i first second two ss ts f h p = (changed-both i first second two ss ts f h p, unchanged i first second two ss ts f h p)
 
+-- ---- what was recorded
+
+-- an opening that was not refused has accepted nothing yet
+opened-shut : (o : Opening) → opened o .refusal ≡ 0 → Shut (opened o .conversation)
+opened-shut o ok =
+    subst Shut (sym (opened-first o ok)) (record {
+      phase = λ e. absurd (let z : _≡_ {A = ℕ} 0 1 = cc in omega arith);
+      last = λ there. absurd (false≢true there);
+    })
+
+pub none-opened : NoneOpened ourOpener
+none-opened i first second two = (
+  shut-along (opened second .conversation) (Recorded ourOpener first) forth
+      (opened-shut second (second-opens i first second two)),
+  shut-along (opened first .conversation) (Recorded ourOpener second) back
+      (opened-shut first (first-opens i first second two)),
+)
+  where
+    forth : (before : List StepInput) (s : StepInput) → Recorded ourOpener first s
+        → octet 0 (s .packet) ≡ responseCode
+        → validIn (reached ourOpener second before) (s .account .account)
+        (readResponse (s .packet)) ≡ false
+    forth before s (inl other) code = absurd (other code)
+    forth before s (inr r) code =
+        none-valid-twice i first second two (r .steps) before (s .account .account)
+        (readResponse (s .packet)) (r .valid)
+
+    back : (before : List StepInput) (s : StepInput) → Recorded ourOpener second s
+        → octet 0 (s .packet) ≡ responseCode
+        → validIn (reached ourOpener first before) (s .account .account)
+        (readResponse (s .packet)) ≡ false
+    back before s (inl other) code = absurd (other code)
+    back before s (inr r) code =
+        refuted (validIn (reached ourOpener first before) (s .account .account)
+        (readResponse (s .packet)))
+        (λ p. valid-both i first second two before (r .steps) (s .account .account)
+        (readResponse (s .packet)) p (r .valid))
+
 pub opens-where-it-may : MayOpen ourOpener
 opens-where-it-may o h =
     let ok = may-open o (h .not18) (h .not13) (h .not2) (h .buffer24) (h .counts24) (h .not16) (h .not17) in
@@ -204,4 +249,5 @@ one-list =
       noneAnsweredTwice = none-answered-twice;
       noneValidTwice = none-valid-twice;
       noneChangedTwice = none-changed-twice;
+      noneOpened = none-opened;
     }

@@ -4,20 +4,24 @@
 -- Assumes nothing: these are definitions.
 use mathlib.Core.Bool.{true, false}
 use mathlib.Core.List.{List, _∷_, _++_}
-use mathlib.Core.Logic.{_≢_}
+use mathlib.Core.Logic.{_≢_, _⊎_}
 use mathlib.Core.Option.{none, some}
 use mathlib.Core.Path.{_≡_}
 use Prim.Native.Nat.{ℕ, suc, _+_, _≤_, _<_}
 use lib.ListN.{length, getD, take}
 use Rattle.issued.specs.Issued.{Issued, places, listed, contains, containsAny, countsOf, badBuffer}
+use Rattle.packets.specs.Codes.{responseCode, successCode}
+use Rattle.packets.specs.Frame.{octet}
 use Rattle.packets.specs.Reply.{longestReply}
+use Rattle.packets.specs.Response.{readResponse}
 use Rattle.packets.specs.declared.Change.{Change}
 use Rattle.packets.specs.declared.Response.{Response}
 use Rattle.verify.specs.Response.{answers}
 use Rattle.authenticator.specs.Judge.{validIn, newHashIn}
 use Rattle.authenticator.specs.Conversation.{isEnded}
 use Rattle.authenticator.specs.Opening.{Opening, retriesOf, spends, firstConversation, openingPacket}
-use Rattle.authenticator.specs.Steps.{StepInput, nextAfter}
+use Rattle.authenticator.specs.Steps.{StepInput, replyOf, nextAfter}
+use Rattle.authenticator.specs.declared.Phase.the-variants as phases
 use Rattle.accounts.specs.declared.Account.{Account}
 use Rattle.accounts.specs.declared.Hash.{Hash}
 use Rattle.accounts.specs.declared.Schedules.{Schedules}
@@ -44,6 +48,11 @@ pub record Openable (o : Opening) : Type 0 where
   pub counts24 : o .issued .counts ≡ countsOf (listed 8 (o .issued))
   pub not16 : containsAny (spends o) (listed 8 (o .issued)) ≡ false
   pub not17 : o .issued .used + suc (retriesOf (o .retries)) ≤ places 8 (o .issued .buffer)
+
+-- a packet draws no Success, and no change is awaited behind it
+abbrev pub StaysShut : Conversation → StepInput → Type 0
+StaysShut c s =
+    (octet 0 (replyOf (ourBox c s)) ≢ successCode) × (nextAfter ourBox c s .phase ≢ phases.Change)
 
 module _ (opener : Opener) where
   abbrev pub leftBy : Issued → Opening → Issued
@@ -96,7 +105,7 @@ module _ (opener : Opener) where
       → (ss ts : List StepInput) (a : Account) (f : Response)
       → validIn (reached first ss) a f ≡ true → validIn (reached second ts) a f ≡ false
 
-  -- Nor does a recorded change: one that is accepted in one conversation gives that new hash in no
+  -- Nor does a recorded version 2 change: one that is accepted in one conversation gives that new hash in no
   -- other, whatever record was kept there, and is not accepted in another whose kept record has the
   -- same NT hash.
   abbrev pub NoneChangedTwice : Type 0
@@ -107,6 +116,33 @@ module _ (opener : Opener) where
       → (newHashIn (reached second ts) f ≢ some h)
       × (reached second ts .kept .nt .octets ≡ reached first ss .kept .nt .octets
       → newHashIn (reached second ts) f ≡ none)
+
+  -- A packet that was recorded: a Response that is valid, for the record that is passed with it
+  -- now, in a conversation that an opening led to; or any packet of another code, changes of either
+  -- version among them, whoever wrote it.
+  pub record RecordedResponse (o : Opening) (s : StepInput) : Type 0 where
+    pub steps : List StepInput
+    pub valid : validIn (reached o steps) (s .account .account) (readResponse (s .packet)) ≡ true
+
+  abbrev pub Recorded : Opening → StepInput → Type 0
+  Recorded o s = (octet 0 (s .packet) ≢ responseCode) ⊎ RecordedResponse o s
+
+  abbrev pub ShutTo : Opening → Opening → Type 0
+  ShutTo o p =
+      (ts : List StepInput)
+      → Along (nextAfter ourBox) (λ (c : Conversation) (s : StepInput). Recorded o s)
+      (opener .answer p .conversation) ts
+      → Along (nextAfter ourBox) StaysShut (opener .answer p .conversation) ts
+
+  -- So what was recorded at one box opens no other, in whatever order and however often it is sent.
+  -- This is what holds of a version 1 change too (document 02, request 2026-07): its fields are
+  -- under the challenge's first seven octets alone and may be right under another challenge
+  -- (`verify` FirstFaultOne `seven-checked`), but a change is awaited only behind a valid Response
+  -- to the box's own challenge.
+  abbrev pub NoneOpened : Type 0
+  NoneOpened =
+      (i : Issued) (first second : Opening) → Two i first second
+      → ShutTo first second × ShutTo second first
 
   -- An opening that needs nothing more is not refused: it hands out the conversation, and writes
   -- the Challenge. Without it an opener that refuses everything would meet the rest.
@@ -123,3 +159,4 @@ module _ (opener : Opener) where
     pub noneAnsweredTwice : NoneAnsweredTwice
     pub noneValidTwice : NoneValidTwice
     pub noneChangedTwice : NoneChangedTwice
+    pub noneOpened : NoneOpened

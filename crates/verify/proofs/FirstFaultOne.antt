@@ -10,7 +10,7 @@ use native.Mathlib.Omega.{arith}
 use borrow.Author.Tests.{eq-eqb, ne-eqb, eqb-true, eqb-false, le-ltb, ltb-true, ltb-false}
 use lib.Dec.{eqb, ltb}
 use Rattle.octets.proofs.Parts.{agrees-equal}
-use Rattle.credentials.specs.Credentials.{hashUnderChallenge}
+use Rattle.credentials.specs.Credentials.{challengeKey, hashUnderChallenge, hashFromChallenge}
 use Rattle.accounts.specs.Account.{noHash}
 use Rattle.accounts.specs.declared.Entry.{Entry}
 use Rattle.accounts.specs.declared.Hash.{Hash}
@@ -263,3 +263,14 @@ module _ (t : Terms) (kept : Entry) (challenge : List ℕ) (f : ChangeOne) where
   no-fault-one e =
       subst H (same-number (changeOneFault t kept challenge f) NoFault (eqb-true _ 0 e))
       (first-fault-one .holds)
+
+-- ---- what the challenge decides
+
+-- Its first seven octets alone: a change that is accepted under one challenge is accepted under any
+-- other that begins so, by the same record. What keeps a recorded one from opening a second box is
+-- the Response before it (`series` OneList `NoneOpened`).
+pub seven-checked : (t : Terms) (kept : Entry) (c d : List ℕ) (f : ChangeOne)
+    → challengeKey c ≡ challengeKey d
+    → checkedChangeOne t kept c f ≡ checkedChangeOne t kept d f
+unfolding checkedChangeOne hashUnderChallenge hashFromChallenge
+seven-checked t kept c d f e = rw e
