@@ -4,6 +4,7 @@ use super::lists;
 use super::records;
 use accounts::Lookup;
 use authenticator::Answer;
+use authenticator::ChangeChoice;
 use authenticator::Conversation;
 use authenticator::Kind;
 use authenticator::LmChoice;
@@ -12,11 +13,12 @@ use authenticator::Retries;
 use lists::List;
 use verify::ChangeFault;
 
-// The current conversation, the limit and the list that are passed with an opening, the record that
-// is passed with a step, and the one that the last step handed out.
+// The current conversation, the limit, the change and the list that are passed with an opening, the
+// record that is passed with a step, and the one that the last step handed out.
 pub struct ScriptState {
     conversation: Conversation,
     limit: u8,
+    change: ChangeChoice,
     list: List,
     record: Lookup,
     updated: Lookup,
@@ -32,6 +34,7 @@ fn refused_conversation() -> Conversation {
         [0; 8],
         Retries::Default,
         LmChoice::Silent,
+        ChangeChoice::Unspecified,
         0,
         &mut list,
         0,
@@ -41,8 +44,8 @@ fn refused_conversation() -> Conversation {
     opened.conversation
 }
 
-// At the start: the conversation of a refused opening, a limit of 255, eight empty places, and no
-// records.
+// At the start: the conversation of a refused opening, a limit of 255, silence about the change,
+// eight empty places, and no records.
 pub fn new_state() -> ScriptState {
     let conversation = refused_conversation();
     let list = lists::empty(8);
@@ -50,6 +53,7 @@ pub fn new_state() -> ScriptState {
     ScriptState {
         conversation,
         limit: 255,
+        change: ChangeChoice::Unspecified,
         list,
         record: none,
         updated: none,
@@ -86,11 +90,26 @@ pub(crate) fn schedules(state: ScriptState) -> ScriptState {
     state
 }
 
-// ---- limit
+// ---- limit and changeversion
 
 // limit N
 pub(crate) fn limit(line: &[u8], mut state: ScriptState) -> ScriptState {
     state.limit = script::octet(line, 1);
+    state
+}
+
+// The choice of word 1.
+fn change_choice(line: &[u8]) -> ChangeChoice {
+    match script::which(b"1 2", script::word(line, 1)) {
+        0 => ChangeChoice::VersionOne,
+        1 => ChangeChoice::VersionTwo,
+        _ => ChangeChoice::Unspecified,
+    }
+}
+
+// changeversion V
+pub(crate) fn change_version(line: &[u8], mut state: ScriptState) -> ScriptState {
+    state.change = change_choice(line);
     state
 }
 
@@ -150,8 +169,14 @@ struct OpeningLine {
     list: List,
 }
 
-// Opens a conversation with the limit and the list.
-fn open_with(line: &[u8], limit: u8, list: List, reply: &mut [u8]) -> OpeningLine {
+// Opens a conversation with the change, the limit and the list.
+fn open_with(
+    line: &[u8],
+    change: ChangeChoice,
+    limit: u8,
+    list: List,
+    reply: &mut [u8],
+) -> OpeningLine {
     let mut octets = list.octets;
     let mut counts = list.counts;
     let size = lists::within(list.size, 1024);
@@ -161,6 +186,7 @@ fn open_with(line: &[u8], limit: u8, list: List, reply: &mut [u8]) -> OpeningLin
         script::eight(line, 2),
         retries(line),
         lm_choice(line),
+        change,
         limit,
         &mut octets[..size],
         list.used,
@@ -192,8 +218,9 @@ fn after_opening(opening: OpeningLine, mut state: ScriptState) -> ScriptState {
 
 // Opens into the reply, and writes the result.
 fn open_into(line: &[u8], reply: &mut [u8], state: ScriptState) -> ScriptState {
+    let change = state.change;
     let before = state.list;
-    let opening = open_with(line, state.limit, before, reply);
+    let opening = open_with(line, change, state.limit, before, reply);
     put_opened(opening, reply);
     after_opening(opening, state)
 }
