@@ -2,8 +2,8 @@
 //! made from the password that the line behind it names, each retry answers the right challenge,
 //! each repeat draws the last reply again, LM is judged only where the box was asked for it, each
 //! Failure has the V of the change that its box was opened for, each change draws what it should,
-//! beside each 709 stands what is wrong with it, and `docs/SLIPS.md` shows no octets that no program
-//! has written.
+//! beside each 709 stands what is wrong with it, and `docs/SLIPS.md` shows no octets that no
+//! program has written.
 
 use reference::authenticator::{
     open, step, Account, Answer, Change, Conversation, Entry, Fault, Phase, Terms,

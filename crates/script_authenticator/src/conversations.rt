@@ -109,7 +109,8 @@ fn change_choice(line: &[u8]) -> ChangeChoice {
 
 // changeversion V
 pub(crate) fn change_version(line: &[u8], mut state: ScriptState) -> ScriptState {
-    state.change = change_choice(line);
+    let change = change_choice(line);
+    state.change = change;
     state
 }
 
