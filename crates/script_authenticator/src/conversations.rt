@@ -13,12 +13,13 @@ use authenticator::Retries;
 use lists::List;
 use verify::ChangeFault;
 
-// The current conversation, the limit, the change and the list that are passed with an opening, the
-// record that is passed with a step, and the one that the last step handed out.
+// The current conversation, the limit, the version of the change (0 is silence about it) and the
+// list that are passed with an opening, the record that is passed with a step, and the one that the
+// last step handed out.
 pub struct ScriptState {
     conversation: Conversation,
     limit: u8,
-    change: ChangeChoice,
+    version: u8,
     list: List,
     record: Lookup,
     updated: Lookup,
@@ -53,7 +54,7 @@ pub fn new_state() -> ScriptState {
     ScriptState {
         conversation,
         limit: 255,
-        change: ChangeChoice::Unspecified,
+        version: 0,
         list,
         record: none,
         updated: none,
@@ -98,19 +99,18 @@ pub(crate) fn limit(line: &[u8], mut state: ScriptState) -> ScriptState {
     state
 }
 
-// The choice of word 1.
-fn change_choice(line: &[u8]) -> ChangeChoice {
+// The version of word 1.
+fn named_version(line: &[u8]) -> u8 {
     match script::which(b"1 2", script::word(line, 1)) {
-        0 => ChangeChoice::VersionOne,
-        1 => ChangeChoice::VersionTwo,
-        _ => ChangeChoice::Unspecified,
+        0 => 1,
+        1 => 2,
+        _ => 0,
     }
 }
 
 // changeversion V
 pub(crate) fn change_version(line: &[u8], mut state: ScriptState) -> ScriptState {
-    let change = change_choice(line);
-    state.change = change;
+    state.version = named_version(line);
     state
 }
 
@@ -151,6 +151,15 @@ fn lm_choice(line: &[u8]) -> LmChoice {
     }
 }
 
+// The choice of a version.
+fn change_choice(version: u8) -> ChangeChoice {
+    match version {
+        1 => ChangeChoice::VersionOne,
+        2 => ChangeChoice::VersionTwo,
+        _ => ChangeChoice::Unspecified,
+    }
+}
+
 // REFUSAL WRITTEN BUFFER CONVERSATION LIST
 fn put_opened(opening: OpeningLine, reply: &[u8]) {
     let opened = opening.opened;
@@ -170,14 +179,8 @@ struct OpeningLine {
     list: List,
 }
 
-// Opens a conversation with the change, the limit and the list.
-fn open_with(
-    line: &[u8],
-    change: ChangeChoice,
-    limit: u8,
-    list: List,
-    reply: &mut [u8],
-) -> OpeningLine {
+// Opens a conversation with the version of the change, the limit and the list.
+fn open_with(line: &[u8], version: u8, limit: u8, list: List, reply: &mut [u8]) -> OpeningLine {
     let mut octets = list.octets;
     let mut counts = list.counts;
     let size = lists::within(list.size, 1024);
@@ -187,7 +190,7 @@ fn open_with(
         script::eight(line, 2),
         retries(line),
         lm_choice(line),
-        change,
+        change_choice(version),
         limit,
         &mut octets[..size],
         list.used,
@@ -219,9 +222,8 @@ fn after_opening(opening: OpeningLine, mut state: ScriptState) -> ScriptState {
 
 // Opens into the reply, and writes the result.
 fn open_into(line: &[u8], reply: &mut [u8], state: ScriptState) -> ScriptState {
-    let change = state.change;
     let before = state.list;
-    let opening = open_with(line, change, state.limit, before, reply);
+    let opening = open_with(line, state.version, state.limit, before, reply);
     put_opened(opening, reply);
     after_opening(opening, state)
 }
