@@ -332,6 +332,13 @@ extern "C" {
 #define MSCHAP_FAULT_OLD_HASH_WRONG 5  /* the old hash under the new one is not the one sent: not a
                                           mistyped old password, since the block could be opened */
 #define MSCHAP_FAULT_RESPONSE_WRONG 6  /* the response to the challenge is not the new password's */
+                                       /* of a version 1 change: */
+#define MSCHAP_FAULT_LM_NOT_ALLOWED 7  /* bit 0 of its flags is clear: it asks for LM alone, and this
+                                          box was not opened for LM */
+#define MSCHAP_FAULT_LENGTH_OVER_LM 8  /* bit 0 is clear, and the length is over 14 */
+#define MSCHAP_FAULT_HASH_ABSENT 9     /* the account has not the hash that bit 0 asks for */
+#define MSCHAP_FAULT_HASH_WRONG 10     /* the old hash under the challenge is not the one sent: mostly
+                                          the old password is mistyped */
 
 /* ---- what a conversation awaits */
 
@@ -852,6 +859,14 @@ static inline const char *mschap_fault_text(uint32_t fault)
         return "the password block opened, but the old hash under the new one is not the one sent";
     case MSCHAP_FAULT_RESPONSE_WRONG:
         return "the response to the challenge is not the new password's";
+    case MSCHAP_FAULT_LM_NOT_ALLOWED:
+        return "the packet asks for LM alone (flag bit 0 is clear), and LM is not allowed";
+    case MSCHAP_FAULT_LENGTH_OVER_LM:
+        return "the packet asks for LM alone, and the password's length is over 14";
+    case MSCHAP_FAULT_HASH_ABSENT:
+        return "the account has not the hash that the packet asks for";
+    case MSCHAP_FAULT_HASH_WRONG:
+        return "the old hash under the challenge is not the one sent (mostly a wrong old password)";
     default:
         return "unknown fault";
     }

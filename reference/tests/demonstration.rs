@@ -1,15 +1,16 @@
 //! The printed demonstration, `crates/demo/stdout`, by the independent program: each Response is
 //! made from the password that the line behind it names, each retry answers the right challenge,
-//! each repeat draws the last reply again, LM is judged only where the box was asked for it, beside
-//! each 709 stands what is wrong with the change, and `docs/SLIPS.md` shows no octets that no
+//! each repeat draws the last reply again, LM is judged only where the box was asked for it, each
+//! Failure has the V of the change that its box was opened for, each change draws what it should,
+//! beside each 709 stands what is wrong with it, and `docs/SLIPS.md` shows no octets that no
 //! program has written.
 
 use reference::authenticator::{
     open, step, Account, Answer, Change, Conversation, Entry, Fault, Phase, Terms,
 };
-use reference::hashes::{challenge_response, lm_hash, nt_hash};
+use reference::hashes::{challenge_response, lm_hash, nt_hash, old_under_new, under_challenge};
 use reference::issued::Issued;
-use reference::peer::{write_change, Turn};
+use reference::peer::{write_change, write_change_1, Turn};
 use std::fs;
 use std::path::Path;
 
@@ -126,7 +127,7 @@ fn every_response_is_from_the_password_that_is_named() {
             compared += 1;
         }
     }
-    assert_eq!(compared, 40);
+    assert_eq!(compared, 45);
 }
 
 #[test]
@@ -289,8 +290,28 @@ fn the_count_goes_from_call_to_call() {
 
 const COUNTED: &str = "      Invalid Responses in a row, by the record that is handed out: ";
 
+/// The change for which the box above a line was opened, as the line behind its Challenge says.
+fn opened_for(lines: &[&str], place: usize) -> Change {
+    let challenges = |line: &&str| line.starts_with("   <- Challenge ");
+    let opened = lines[..place].iter().rposition(challenges).unwrap();
+    match lines[opened + 2].contains("This box was opened for version 1's change") {
+        true => Change::One,
+        false => Change::Two,
+    }
+}
+
+/// The new password's length that the line behind a version 1 change names, and with it that the
+/// handset sends LM hashes too.
+fn named_length(sentence: &str) -> Option<Vec<u8>> {
+    let digits = sentence
+        .split_once("LM and NT hashes, and the length as ")?
+        .1;
+    Some(octets(digits.trim_end_matches('.')))
+}
+
 /// The change that a line shows the first octets of: the one that our peer writes, from the old
-/// password that the line behind it names, with the slip's octets where it has some.
+/// password that the line behind it names, with the LM hashes and the length or the slip's octets
+/// where it has some.
 fn shown_change(lines: &[&str], place: usize, challenge: [u8; 8]) -> Vec<u8> {
     let wrong_old = lines[place + 1].contains("under a wrong one's hash");
     let old = if wrong_old { "bad" } else { "MyPw" };
@@ -299,12 +320,26 @@ fn shown_change(lines: &[&str], place: usize, challenge: [u8; 8]) -> Vec<u8> {
         id: shown[1],
         challenge,
     };
-    let mut packet = vec![0; 1118];
     let (old, new) = (characters(old), characters("MyNewPw"));
-    assert_eq!(
-        write_change(&turn, &old, &new, &[0x5A; 512], &mut packet).refusal,
-        0
-    );
+    let mut packet;
+    let written = match opened_for(lines, place) {
+        Change::One => {
+            packet = vec![0; 72];
+            write_change_1(&turn, &old, &new, &mut packet)
+        }
+        Change::Two => {
+            packet = vec![0; 1118];
+            write_change(&turn, &old, &new, &[0x5A; 512], &mut packet)
+        }
+    };
+    assert_eq!(written.refusal, 0);
+    if let Some(length) = named_length(lines[place + 1]) {
+        for (at, password) in [(4, "MyPw"), (20, "MyNewPw")] {
+            let hash = lm_hash(password.as_bytes()).unwrap();
+            packet[at..at + 16].copy_from_slice(&under_challenge(&hash, &challenge));
+        }
+        packet[68..70].copy_from_slice(&length);
+    }
     if lines[place + 1].contains("but for the slip's octets") {
         let said = |line: &str, whose: &str| {
             let rest = line.trim_start().strip_prefix(whose).unwrap();
@@ -317,12 +352,13 @@ fn shown_change(lines: &[&str], place: usize, challenge: [u8; 8]) -> Vec<u8> {
         assert_eq!((slip_at, slip.len()), (at, right.len()));
         packet[at..at + slip.len()].copy_from_slice(&slip);
     }
-    assert_eq!(packet[..64], shown);
+    assert_eq!(packet[..72], shown);
     packet
 }
 
-/// What the independent program answers to it, where the account's password is `MyPw` and expired.
-fn answered(packet: &[u8], challenge: [u8; 8]) -> Answer {
+/// What the independent program answers to it, and sends, where the account's password is `MyPw`
+/// and expired.
+fn answered(packet: &[u8], challenge: [u8; 8], change: Change) -> (Answer, Vec<u8>) {
     let kept = Entry {
         nt: Some(hash("MyPw")),
         expired: true,
@@ -334,11 +370,14 @@ fn answered(packet: &[u8], challenge: [u8; 8]) -> Answer {
         retries: 2,
         lm: false,
         limit: 255,
-        change: Change::Two,
+        change,
         phase: Phase::Change(kept),
         last: None,
     };
-    step(&conversation, packet, None, &mut [0; 17])
+    let mut reply = vec![0; 17];
+    let answer = step(&conversation, packet, None, &mut reply);
+    reply.truncate(answer.written);
+    (answer, reply)
 }
 
 /// The words of a fault as C has them, by its number.
@@ -370,13 +409,16 @@ fn the_support_desk_reads_what_is_wrong_with_a_change() {
             challenge[0] = challenge[0].wrapping_add(23);
         } else if line.starts_with("   -> Change Password ") {
             let packet = shown_change(&lines, place, challenge);
-            let fault = answered(&packet, challenge).fault;
+            let change = opened_for(&lines, place);
+            let (answer, sent) = answered(&packet, challenge, change);
             let repeat = repeats.contains(&place);
             let reply = place + 2 + usize::from(repeat);
+            assert_eq!(last_octets(lines[reply]), sent);
             let success = lines[reply].starts_with("   <- Success ");
-            assert_eq!(success, fault.is_none(), "{}", lines[reply]);
-            let Some(fault) = fault else { continue };
-            assert_eq!(lines[reply + 1], "      E=709 R=0 V=2");
+            assert_eq!(success, answer.fault.is_none(), "{}", lines[reply]);
+            let Some(fault) = answer.fault else { continue };
+            let message = format!("      E=709 R=0 V={}", change.version());
+            assert_eq!(lines[reply + 1], message);
             let expected = format!("      The support desk reads: {}.", words(fault));
             assert_eq!(lines[reply + 3] == expected, !repeat, "{expected}");
             if !repeat {
@@ -388,8 +430,83 @@ fn the_support_desk_reads_what_is_wrong_with_a_change() {
         .iter()
         .filter(|l| l.contains("The support desk reads"));
     assert_eq!(said.count(), told.len());
-    // a wrong old password; the slips: response, second key, RC4 anew, characters, challenge
-    assert_eq!(told, [3, 6, 5, 3, 4, 6]);
+    // a wrong old password; the slips: response, second key, RC4 anew, characters, challenge; of
+    // version 1: the next seven octets, new before old
+    assert_eq!(told, [3, 6, 5, 3, 4, 6, 10, 10]);
+}
+
+/// The version 1 changes: our peer's, and what the slips make of it. The NT hashes under the
+/// challenge are made here for each, and the record that the independent program hands out has the
+/// hashes that are told or tried.
+#[test]
+fn a_version_1_change_is_as_it_is_said_to_be() {
+    let text = read("crates/demo/stdout");
+    let lines: Vec<&str> = text.lines().collect();
+    let challenge = [0x10, 0x2D, 0xB5, 0xDF, 0x08, 0x5D, 0x30, 0x41];
+    let (old, new) = (hash("MyPw"), hash("MyNewPw"));
+    let field = |hash: &[u8; 16]| under_challenge(hash, &challenge);
+    let right = [field(&old), field(&new)].concat();
+    let mut keys = [0; 16];
+    keys[..8].copy_from_slice(&challenge);
+    let next_seven = [&old, &new].map(|hash| old_under_new(hash, &keys)).concat();
+    let turned = [field(&new), field(&old)].concat();
+    let mut seen = Vec::new();
+    let mut titled = "";
+    for (place, line) in lines.iter().enumerate() {
+        if place > 0 && lines[place - 1].is_empty() {
+            titled = line;
+        }
+        let begins = line.starts_with("   -> Change Password ");
+        if !begins || opened_for(&lines, place) == Change::Two {
+            continue;
+        }
+        let packet = shown_change(&lines, place, challenge);
+        let fields = match titled {
+            _ if titled.contains("next seven octets, as in A.17") => &next_seven,
+            _ if titled.contains("the new hash before the old one") => &turned,
+            _ => &right,
+        };
+        assert_eq!(packet[36..68], **fields, "{titled}");
+        let (answer, _) = answered(&packet, challenge, Change::One);
+        let record = answer.record.map(|record| (record.nt, record.lm));
+        let told = lines[place + 4].strip_prefix("      The record that is handed out has ");
+        let lm = match told {
+            None | Some("no LM hash.") => None,
+            Some(words) => Some(last_octets(words).try_into().unwrap()),
+        };
+        let expected = answer.fault.is_none().then_some((Some(new), lm));
+        assert_eq!(record, expected, "{titled}");
+        seen.push((packet[68..72].to_vec(), told.is_some(), lm.is_some()));
+    }
+    let none = vec![0xFF, 0xFF, 0, 1];
+    let expected = [
+        (none.clone(), false, false),
+        (none.clone(), false, false),
+        (vec![0, 7, 0, 1], true, true),
+        (vec![7, 0, 0, 1], true, false),
+        (none, false, false),
+    ];
+    assert_eq!(seen, expected);
+}
+
+/// V in each Failure is the version of the change that its box was opened for.
+#[test]
+fn every_failure_has_the_version_of_the_boxs_change() {
+    let text = read("crates/demo/stdout");
+    let lines: Vec<&str> = text.lines().collect();
+    let mut compared = [0, 0];
+    for (place, line) in lines.iter().enumerate() {
+        if line.starts_with("   <- Failure ") {
+            let version = opened_for(&lines, place).version();
+            let packet = last_octets(line);
+            assert_eq!(packet[15..], [b'=', b'0' + version], "{line}");
+            assert_eq!(packet[4..], *lines[place + 1].trim_start().as_bytes());
+            compared[usize::from(version) - 1] += 1;
+        }
+    }
+    // a 648 in each of the four version 1 scenes, and two 709
+    assert_eq!(compared[0], 6);
+    assert!(compared[1] > 20);
 }
 
 /// Runs of at least eight hexadecimal digits in upper case, one of them at least no letter.

@@ -1,5 +1,5 @@
-// The six exchanges of RFC 2433, B.1, a Success that did not arrive, and a change that is not
-// accepted.
+// The six exchanges of RFC 2433, B.1, a Success that did not arrive, a change that is not accepted,
+// and a version 1 change.
 use accounts::Lookup;
 use authenticator::Retries;
 use loopback::Loopback;
@@ -8,8 +8,10 @@ use loopback::another_challenge;
 use loopback::challenge;
 use loopback::change;
 use loopback::change_of;
+use loopback::change_one;
 use loopback::new_one;
 use loopback::opening;
+use loopback::opening_for_one;
 use loopback::response;
 use loopback::rightly;
 use loopback::say;
@@ -51,13 +53,18 @@ fn with_new_password(record: Lookup) {
     response(loopback, &new, made, record);
 }
 
+// The same with the record of these two ends.
+fn later(loopback: Loopback) {
+    say(b"   The box hands out a record with the new password's hash. In a later conversation:");
+    let record = loopback.updated;
+    with_new_password(record);
+}
+
 fn changed() {
     title(b"B.1.5 Successful authentication with password change");
     let mut loopback = rightly(usual_opening(), true);
     loopback = change(loopback);
-    say(b"   The box hands out a record with the new password's hash. In a later conversation:");
-    let record = loopback.updated;
-    with_new_password(record);
+    later(loopback);
 }
 
 fn retried_and_changed() {
@@ -96,6 +103,14 @@ fn refused_change() {
     wrongly_changed(loopback);
 }
 
+// As B.1.5, at a box for handsets that know no other change.
+fn changed_by_one() {
+    title(b"A version 1 change: for handsets that know no other");
+    let mut loopback = rightly(opening_for_one(), true);
+    loopback = change_one(loopback);
+    later(loopback);
+}
+
 pub(crate) fn all() {
     successful();
     failed();
@@ -105,4 +120,5 @@ pub(crate) fn all() {
     retried_and_changed();
     missed();
     refused_change();
+    changed_by_one();
 }

@@ -1,6 +1,7 @@
 // Both ends of a conversation, and what passes between them: each step prints its packets.
 use super::lines;
 use accounts::Lookup;
+use authenticator::ChangeChoice;
 use authenticator::Conversation;
 use authenticator::LmChoice;
 use authenticator::Opened;
@@ -75,13 +76,16 @@ pub fn empty_list() -> IssuedList {
     }
 }
 
-// Prints the Challenge, and whether the box judges LM; or that it refuses to open.
+// Prints the Challenge, whether the box judges LM and whether it awaits version 1's change; or that
+// it refuses to open.
 fn say_opening(opened: Opened, challenge: [u8; 8], sent: &[u8]) {
     let conversation = opened.conversation;
     let terms = conversation.terms;
+    let change = terms.change;
     if opened.refusal == 0 {
         lines::from_box(sent);
         lines::judges_lm(terms.lm);
+        lines::awaits(change);
     } else {
         lines::refused_opening(opened.refusal, challenge);
     }
@@ -95,6 +99,7 @@ fn opening_with(
     challenge: [u8; 8],
     retries: Retries,
     lm: LmChoice,
+    change: ChangeChoice,
     limit: u8,
 ) -> Loopback {
     let mut octets = list.octets;
@@ -105,6 +110,7 @@ fn opening_with(
         challenge,
         retries,
         lm,
+        change,
         limit,
         &mut octets,
         list.used,
@@ -128,7 +134,8 @@ fn opening_with(
     }
 }
 
-// The same of a box that was told nothing of LM, so that it does not judge it.
+// The same of a box that was told nothing of LM and of the change: it does not judge LM, and awaits
+// version 2's change.
 pub fn opening_limited(
     list: IssuedList,
     id: u8,
@@ -136,7 +143,15 @@ pub fn opening_limited(
     retries: Retries,
     limit: u8,
 ) -> Loopback {
-    opening_with(list, id, challenge, retries, LmChoice::Silent, limit)
+    opening_with(
+        list,
+        id,
+        challenge,
+        retries,
+        LmChoice::Silent,
+        ChangeChoice::Unspecified,
+        limit,
+    )
 }
 
 // The same with a limit that no scene reaches.
@@ -152,6 +167,20 @@ pub fn opening_for_lm(id: u8, challenge: [u8; 8], retries: Retries) -> Loopback 
         challenge,
         retries,
         LmChoice::Allowed,
+        ChangeChoice::Unspecified,
+        LIMIT,
+    )
+}
+
+// The same of a box that was opened for version 1's change, with the usual challenge.
+pub fn opening_for_one() -> Loopback {
+    opening_with(
+        empty_list(),
+        7,
+        challenge(),
+        Retries::Default,
+        LmChoice::Silent,
+        ChangeChoice::VersionOne,
         LIMIT,
     )
 }
@@ -262,7 +291,7 @@ pub fn again(mut loopback: Loopback, peer: Peer) -> Loopback {
     rightly(loopback, false)
 }
 
-// ---- the change
+// ---- the change, version 2's
 
 // Writes the change of a password to the new one.
 fn write_change_of(loopback: Loopback, old: &[u8], out: &mut [u8]) -> PacketWritten {
@@ -291,4 +320,22 @@ pub fn change(loopback: Loopback) -> Loopback {
     let old = right();
     let made = b"The peer sends the new password sealed under the old one's hash: it knows both.";
     change_of(loopback, &old, made)
+}
+
+// ---- the change, version 1's
+
+// Writes the version 1 change of the right password to the new one.
+pub fn write_change_one(loopback: Loopback, out: &mut [u8]) -> PacketWritten {
+    let old = right();
+    let new = new_one();
+    let peer = loopback.peer;
+    peer.write_change_one(&old, &new, out)
+}
+
+// The change itself.
+pub fn change_one(loopback: Loopback) -> Loopback {
+    let mut out = [0u8; 72];
+    let wrote = write_change_one(loopback, &mut out);
+    let made = b"The peer sends the old and the new password's hash, under the challenge.";
+    answered(loopback, wrote, &out, made, accounts::not_found())
 }

@@ -1,10 +1,12 @@
 // What is printed: text, and packets.
+use accounts::Lookup;
 use authenticator::Kind;
 use libc::STDOUT_FILENO;
 use message::Call;
 use message::Failed;
 use message::Verdict;
 use verify::ChangeFault;
+use verify::ChangeVersion;
 
 fn put(text: &[u8]) {
     io::write_all(STDOUT_FILENO, text);
@@ -26,15 +28,15 @@ fn say_octet(x: u8) {
     put(&pair);
 }
 
-// Octets as digits, 64 of them at most, and dots for the rest.
+// Octets as digits, 72 of them at most, as many as a version 1 change has, and dots for the rest.
 fn say_octets(octets: &[u8]) {
-    let shown = octets::part_of(octets, 0, 64);
+    let shown = octets::part_of(octets, 0, 72);
     let mut i = 0;
     while i < shown.len() {
         say_octet(shown[i]);
         i += 1;
     }
-    if 64 < octets.len() {
+    if 72 < octets.len() {
         put(b"..");
     }
     put(b"\n");
@@ -90,7 +92,7 @@ fn kind(code: u8) -> [u8; 15] {
         2 => *b"Response       ",
         3 => *b"Success        ",
         4 => *b"Failure        ",
-        6 => *b"Change Password",
+        5 | 6 => *b"Change Password",
         _ => *b"other          ",
     }
 }
@@ -133,6 +135,16 @@ pub(crate) fn judges_lm(lm: bool) {
     }
 }
 
+// That the box awaits version 1's change, where it does.
+pub(crate) fn awaits(change: ChangeVersion) {
+    match change {
+        ChangeVersion::One => say(
+            b"      This box was opened for version 1's change: its messages say V=1.",
+        ),
+        ChangeVersion::Two => {}
+    }
+}
+
 // A packet of the peer, and what it was made from.
 pub(crate) fn from_peer(octets: &[u8], made: &[u8]) {
     packet(b"   -> ", octets);
@@ -159,6 +171,18 @@ pub(crate) fn failures(count: u8, limit: u8) {
     say(b" the account is locked.");
 }
 
+// The LM hash of a record that the box handed out.
+pub fn lm_of(record: Lookup) {
+    let account = record.account;
+    let lm = account.lm;
+    if !lm.present {
+        return say(b"      The record that is handed out has no LM hash.");
+    }
+    let octets = lm.octets;
+    put(b"      The record that is handed out has the LM hash: ");
+    say_octets(&octets);
+}
+
 fn desk(text: &[u8]) {
     put(b"      The support desk reads: ");
     say(text);
@@ -183,6 +207,16 @@ pub(crate) fn support(fault: ChangeFault) {
         ChangeFault::ResponseWrong => desk(
             b"the response to the challenge is not the new password's.",
         ),
+        ChangeFault::LmNotAllowed => desk(
+            b"the packet asks for LM alone (flag bit 0 is clear), and LM is not allowed.",
+        ),
+        ChangeFault::LengthOverLm => desk(
+            b"the packet asks for LM alone, and the password's length is over 14.",
+        ),
+        ChangeFault::HashAbsent => desk(b"the account has not the hash that the packet asks for."),
+        ChangeFault::HashWrong => desk(
+            b"the old hash under the challenge is not the one sent (mostly a wrong old password).",
+        ),
     }
 }
 
@@ -205,7 +239,9 @@ fn call(c: Call) {
             b"; try again, to the challenge incremented by 23, under the next identifier.",
         ),
         Call::ChangeTwo => say(b"; change it, to the same challenge, under the next identifier."),
-        Call::ChangeOne => say(b"; a version 1 change is wanted, and nothing is sent."),
+        Call::ChangeOne => say(
+            b"; change it by version 1's packet, to the same challenge, under the next identifier.",
+        ),
         Call::End => say(b"; this is the end."),
     }
 }

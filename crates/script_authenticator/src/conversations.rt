@@ -4,6 +4,7 @@ use super::lists;
 use super::records;
 use accounts::Lookup;
 use authenticator::Answer;
+use authenticator::ChangeChoice;
 use authenticator::Conversation;
 use authenticator::Kind;
 use authenticator::LmChoice;
@@ -12,11 +13,13 @@ use authenticator::Retries;
 use lists::List;
 use verify::ChangeFault;
 
-// The current conversation, the limit and the list that are passed with an opening, the record that
-// is passed with a step, and the one that the last step handed out.
+// The current conversation, the limit, the version of the change (0 is silence about it) and the
+// list that are passed with an opening, the record that is passed with a step, and the one that the
+// last step handed out.
 pub struct ScriptState {
     conversation: Conversation,
     limit: u8,
+    version: u8,
     list: List,
     record: Lookup,
     updated: Lookup,
@@ -32,6 +35,7 @@ fn refused_conversation() -> Conversation {
         [0; 8],
         Retries::Default,
         LmChoice::Silent,
+        ChangeChoice::Unspecified,
         0,
         &mut list,
         0,
@@ -41,8 +45,8 @@ fn refused_conversation() -> Conversation {
     opened.conversation
 }
 
-// At the start: the conversation of a refused opening, a limit of 255, eight empty places, and no
-// records.
+// At the start: the conversation of a refused opening, a limit of 255, silence about the change,
+// eight empty places, and no records.
 pub fn new_state() -> ScriptState {
     let conversation = refused_conversation();
     let list = lists::empty(8);
@@ -50,6 +54,7 @@ pub fn new_state() -> ScriptState {
     ScriptState {
         conversation,
         limit: 255,
+        version: 0,
         list,
         record: none,
         updated: none,
@@ -86,11 +91,26 @@ pub(crate) fn schedules(state: ScriptState) -> ScriptState {
     state
 }
 
-// ---- limit
+// ---- limit and changeversion
 
 // limit N
 pub(crate) fn limit(line: &[u8], mut state: ScriptState) -> ScriptState {
     state.limit = script::octet(line, 1);
+    state
+}
+
+// The version of word 1.
+fn named_version(line: &[u8]) -> u8 {
+    match script::which(b"1 2", script::word(line, 1)) {
+        0 => 1,
+        1 => 2,
+        _ => 0,
+    }
+}
+
+// changeversion V
+pub(crate) fn change_version(line: &[u8], mut state: ScriptState) -> ScriptState {
+    state.version = named_version(line);
     state
 }
 
@@ -131,6 +151,15 @@ fn lm_choice(line: &[u8]) -> LmChoice {
     }
 }
 
+// The choice of a version.
+fn change_choice(version: u8) -> ChangeChoice {
+    match version {
+        1 => ChangeChoice::VersionOne,
+        2 => ChangeChoice::VersionTwo,
+        _ => ChangeChoice::Unspecified,
+    }
+}
+
 // REFUSAL WRITTEN BUFFER CONVERSATION LIST
 fn put_opened(opening: OpeningLine, reply: &[u8]) {
     let opened = opening.opened;
@@ -150,8 +179,8 @@ struct OpeningLine {
     list: List,
 }
 
-// Opens a conversation with the limit and the list.
-fn open_with(line: &[u8], limit: u8, list: List, reply: &mut [u8]) -> OpeningLine {
+// Opens a conversation with the version of the change, the limit and the list.
+fn open_with(line: &[u8], version: u8, limit: u8, list: List, reply: &mut [u8]) -> OpeningLine {
     let mut octets = list.octets;
     let mut counts = list.counts;
     let size = lists::within(list.size, 1024);
@@ -161,6 +190,7 @@ fn open_with(line: &[u8], limit: u8, list: List, reply: &mut [u8]) -> OpeningLin
         script::eight(line, 2),
         retries(line),
         lm_choice(line),
+        change_choice(version),
         limit,
         &mut octets[..size],
         list.used,
@@ -193,7 +223,7 @@ fn after_opening(opening: OpeningLine, mut state: ScriptState) -> ScriptState {
 // Opens into the reply, and writes the result.
 fn open_into(line: &[u8], reply: &mut [u8], state: ScriptState) -> ScriptState {
     let before = state.list;
-    let opening = open_with(line, state.limit, before, reply);
+    let opening = open_with(line, state.version, state.limit, before, reply);
     put_opened(opening, reply);
     after_opening(opening, state)
 }

@@ -1,5 +1,6 @@
-// The commands of the box (the authenticator): the name in a Response, the record, the limit and
-// the list that are passed, an opening, a step, and the schedules of the record handed out.
+// The commands of the box (the authenticator): the name in a Response, the record, the limit, the
+// change and the list that are passed, an opening, a step, and the schedules of the record handed
+// out.
 mod conversations;
 mod lists;
 mod names;
@@ -14,7 +15,7 @@ pub use lists::List;
 fn command(line: &[u8]) -> usize {
     script::command(
         line,
-        b"name account relend list places open step limit schedules",
+        b"name account relend list places open step limit schedules changeversion",
     )
 }
 
@@ -34,6 +35,7 @@ pub fn run(line: &[u8], state: ScriptState) -> ScriptState {
         6 => conversations::step(line, state),
         7 => conversations::limit(line, state),
         8 => conversations::schedules(state),
+        9 => conversations::change_version(line, state),
         _ => state,
     }
 }

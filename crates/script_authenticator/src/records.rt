@@ -8,6 +8,7 @@ use authenticator::Conversation;
 use authenticator::LastAnswer;
 use authenticator::Phase;
 use authenticator::Reply;
+use verify::ChangeVersion;
 use verify::Terms;
 
 // ---- reading
@@ -137,14 +138,25 @@ pub(crate) fn put_schedules(lookup: Lookup) {
     put_keys(lm_keys)
 }
 
+// What stands behind LIMIT: the version of the change, where it is 1.
+fn put_version(change: ChangeVersion) {
+    match change {
+        ChangeVersion::One => script::put(b"/1"),
+        ChangeVersion::Two => {}
+    }
+}
+
 // LM LIMIT
 fn put_terms(terms: Terms) {
+    let change = terms.change;
     if terms.lm {
         script::put(b" yes ")
     } else {
         script::put(b" no ")
     }
-    script::put_field(terms.limit as u64)
+    script::put_number(terms.limit as u64);
+    put_version(change);
+    script::put_space()
 }
 
 // PHASE KEPT

@@ -1,5 +1,5 @@
-// The commands of the password hashes, the challenge response and the sealed password. Each writes
-// its result.
+// The commands of the password hashes, the challenge response, the sealed password, and a hash
+// under another or under the challenge. Each writes its result.
 use credentials::Content;
 
 // nthash PASSWORD
@@ -67,15 +67,32 @@ fn old_new(line: &[u8]) {
     script::put_result(0, &hash)
 }
 
+// underchallenge HASH CHALLENGE
+fn under_challenge(line: &[u8]) {
+    let field = credentials::hash_under_challenge(script::sixteen(line, 1), script::eight(line, 2));
+    script::put_result(0, &field)
+}
+
+// fromchallenge FIELD CHALLENGE
+fn from_challenge(line: &[u8]) {
+    let hash = credentials::hash_from_challenge(script::sixteen(line, 1), script::eight(line, 2));
+    script::put_result(0, &hash)
+}
+
 // Runs a line whose command is one of these.
 pub(crate) fn run(line: &[u8]) {
-    match script::command(line, b"nthash lmhash response seal unseal oldnew") {
+    match script::command(
+        line,
+        b"nthash lmhash response seal unseal oldnew underchallenge fromchallenge",
+    ) {
         0 => nt_hash(line),
         1 => lm_hash(line),
         2 => response(line),
         3 => seal(line),
         4 => unseal(line),
         5 => old_new(line),
+        6 => under_challenge(line),
+        7 => from_challenge(line),
         _ => {}
     }
 }

@@ -1,5 +1,5 @@
-// The commands of MD4, RC4 and DES, and those of the password hashes, the challenge response and
-// the sealed password; and the lines of published vectors.
+// The commands of MD4, RC4 and DES, and those of the password hashes, the challenge response, the
+// sealed password and an encrypted hash; and the lines of published vectors.
 mod ciphers;
 mod hashes;
 mod published;

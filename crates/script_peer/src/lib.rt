@@ -6,7 +6,7 @@ mod peers;
 pub fn run(line: &[u8]) {
     match script::command(
         line,
-        b"failure challenge reply turn writeresponse writechange",
+        b"failure challenge reply turn writeresponse writechange writechange1",
     ) {
         0 => failures::failure(line),
         1 => peers::challenge(line),
@@ -14,6 +14,7 @@ pub fn run(line: &[u8]) {
         3 => peers::turn(line),
         4 => peers::response(line),
         5 => peers::change(line),
+        6 => peers::change_one(line),
         _ => {}
     }
 }

@@ -112,7 +112,7 @@ pub(crate) fn response(line: &[u8]) {
     put_response(line, &mut packet[..n])
 }
 
-// The change of the peer's turn, into the packet.
+// The version 2 change of the peer's turn, into the packet.
 fn renew(line: &[u8], packet: &mut [u8]) -> PacketWritten {
     let mut old = [0u8; 1024];
     let n = script::octets(line, 3, &mut old);
@@ -133,4 +133,25 @@ pub(crate) fn change(line: &[u8]) {
     let mut packet = [0u8; 2048];
     let n = script::octets(line, 6, &mut packet);
     put_change(line, &mut packet[..n])
+}
+
+// The version 1 change of the peer's turn, into the packet.
+fn renew_one(line: &[u8], packet: &mut [u8]) -> PacketWritten {
+    let mut old = [0u8; 1024];
+    let n = script::octets(line, 3, &mut old);
+    let mut new = [0u8; 1024];
+    let k = script::octets(line, 4, &mut new);
+    peer_in(line).write_change_one(&old[..n], &new[..k], packet)
+}
+
+fn put_change_one(line: &[u8], packet: &mut [u8]) {
+    let wrote = renew_one(line, packet);
+    put_packet(wrote, packet)
+}
+
+// writechange1 ID CHALLENGE OLD NEW BUFFER
+pub(crate) fn change_one(line: &[u8]) {
+    let mut packet = [0u8; 2048];
+    let n = script::octets(line, 5, &mut packet);
+    put_change_one(line, &mut packet[..n])
 }

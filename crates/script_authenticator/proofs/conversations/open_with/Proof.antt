@@ -18,8 +18,8 @@ array-borrow-prefix-octets : tie.Need-array-borrow-prefix-octets
 array-borrow-prefix-octets c =
     omega (
       arith,
-      c .before .before .before .before .before .within .ensures,
-      octets-length (c .before .before .before .before .before .before .before .before .before .before),
+      c .before .before .before .before .before .before .within .ensures,
+      octets-length (c .before .before .before .before .before .before .before .before .before .before .before),
     )
 
 slice-aggregate-open : tie.Need-slice-aggregate-open
@@ -29,8 +29,8 @@ array-borrow-prefix-counts : tie.Need-array-borrow-prefix-counts
 array-borrow-prefix-counts c =
     omega (
       arith,
-      c .before .before .before .before .before .within2 .ensures,
-      counts-length (c .before .before .before .before .before .before .before .before .before .before .before),
+      c .before .before .before .before .before .before .within2 .ensures,
+      counts-length (c .before .before .before .before .before .before .before .before .before .before .before .before),
     )
 
 slice-aggregate-open-2 : tie.Need-slice-aggregate-open-2
@@ -41,6 +41,6 @@ open-with-spec =
     tie.close
     (tie.spec
     (λ c κs. search needs) (λ c κs. search needs) (λ c κs. search needs) (λ c κs. search needs)
-    (λ c κs. search needs) (λ c κs. search needs) array-borrow-prefix-octets slice-aggregate-open
+    (λ c κs. search needs) (λ c κs. search needs) (λ c κs. search needs) array-borrow-prefix-octets slice-aggregate-open
     array-borrow-prefix-counts slice-aggregate-open-2 (λ c κs. search needs) (λ c. search needs)
     (λ c. search needs))

@@ -1,12 +1,12 @@
--- `vectors::run::run_lines` meets its contract. The loop's invariant says nothing: each turn goes
+-- `script_run::lines::run_lines` meets its contract. The loop's invariant says nothing: each turn goes
 -- on by a line, as find answers no place before the one that it is given.
 -- Assumes nothing.
 use borrow.Author.Needs.{needs}
 use Prim.Native.Nat.{_-_}
 use native.Mathlib.Omega.{arith}
 use lib.ListN.{length}
-use Rattle.vectors.proofs.run.run_lines.Statement.{statement}
-use Rattle.vectors.proofs.run.run_lines.Tie as tie
+use Rattle.script_run.proofs.lines.run_lines.Statement.{statement}
+use Rattle.script_run.proofs.lines.run_lines.Tie as tie
 
 abbrev Inv-loop : tie.InvT-loop
 Inv-loop script session₀ at₀ session at = Unit {0}

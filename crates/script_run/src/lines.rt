@@ -17,7 +17,7 @@ pub struct Session {
 }
 
 // At the start.
-pub(crate) fn new_session() -> Session {
+pub fn new_session() -> Session {
     let state = script_authenticator::new_state();
     Session {
         section: Section::Cases,
