@@ -15,7 +15,7 @@ pub fn octet(packet: &[u8], i: usize) -> u8
 }
 
 // The number of two octets from the place i on, the most significant first.
-pub fn number_at(packet: &[u8], i: usize) -> u16
+pub(crate) fn number_at(packet: &[u8], i: usize) -> u16
     requires { ⌜ i < changeSize ⌝ }
     ensures { λ r. ⌜ r ≡ numberAt i (now (packet .entry)) ⌝ }
 {
@@ -53,7 +53,7 @@ pub fn behind(packet: &[u8], front: usize) -> usize
 }
 
 // There is too little room for n octets.
-pub fn is_short(out: &[u8], n: usize) -> bool
+pub(crate) fn is_short(out: &[u8], n: usize) -> bool
     ensures { λ r. ⌜ r ≡ shortFor n (now (out .entry)) ⌝ }
 {
     out.len() < n

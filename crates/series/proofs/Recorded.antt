@@ -7,6 +7,8 @@ use mathlib.Core.Logic.{_≢_}
 use mathlib.Core.Path.{_≡_, refl, sym, ap, _∙_, subst}
 use Prim.Native.Nat.{ℕ}
 use native.Mathlib.Omega.{arith}
+use lib.Dec.{eqb}
+use Rattle.message.specs.Message.{textOf}
 use Rattle.message.specs.Reasons.{authenticationFailure}
 use Rattle.packets.specs.Codes.{responseCode, successCode}
 use Rattle.packets.specs.Frame.{octet}
@@ -20,7 +22,7 @@ use Rattle.verify.specs.declared.Terms.{Terms}
 use Rattle.verify.proofs.Reasons.{reason-invalid}
 use Rattle.authenticator.specs.Admit.{isRepeat}
 use Rattle.authenticator.specs.Conversation.{awaitedCode, isEnded, retried, ended}
-use Rattle.authenticator.specs.Encode.{replyPacket}
+use Rattle.authenticator.specs.Encode.{version, retryDigit, replyPacket}
 use Rattle.authenticator.specs.Judge.{Judgement, mayRetry, afterReason, judgementFor, validIn}
 use Rattle.authenticator.specs.Step.{Outcome, judgedAs}
 use Rattle.authenticator.specs.Steps.{StepInput, stepOn, replyOf, nextAfter}
@@ -48,7 +50,9 @@ pub record Shut (c : Conversation) : Type 0 where
 -- a Failure is no Success
 failed : (t : Terms) (id : ℕ) (retry : Bool)
     → octet 0 (replyPacket t id (Failure authenticationFailure retry)) ≢ successCode
-failed t id retry e = omega (arith, failure-code id _, e)
+failed t id retry e =
+    omega (arith, failure-code id (textOf authenticationFailure (retryDigit retry)
+    (version (t .change))), e)
 
 -- what an invalid Response leads to
 after-shut : (c : Conversation) → c .phase ≢ Change → (kept : Entry)
@@ -91,10 +95,10 @@ module _ (c : Conversation) (h : Shut c) (s : StepInput)
   -- what leaves the conversation as it was
   same : {o : Outcome} → stepOn c s ≡ o → o .answer .next ≡ c
       → octet 0 (replyOf o) ≢ successCode → StaysShut c s × Shut (nextAfter stepOn c s)
-  same e n no =
+  same e n none =
       let back = ap (λ (o : Outcome). o .answer .next) e ∙ n in (
         (
-          λ z. no (sym (ap (λ (o : Outcome). octet 0 (replyOf o)) e) ∙ z),
+          λ z. none (sym (ap (λ (o : Outcome). octet 0 (replyOf o)) e) ∙ z),
           λ z. h .phase (sym (ap (λ (d : Conversation). d .phase) back) ∙ z),
         ),
         subst Shut (sym back) h,
@@ -128,7 +132,8 @@ module _ (c : Conversation) (h : Shut c) (s : StepInput)
           → StaysShut c s × Shut (nextAfter stepOn c s)
       which (refused n e) = same e refl (λ z. omega (arith, z))
       which (repeated z r e) =
-          let a = all-three (c .last .present) _ _ r in
+          let a = all-three (c .last .present) (eqb (octet 0 (s .packet)) (c .last .code))
+          (eqb (octet 1 (s .packet)) (c .last .id)) r in
           let b = readable-by c (s .packet) (s .buffer) (isRepeat (c .last) (s .packet)) z in
           same e refl (λ y. h .last (a .0) (sym (ap (octet 0)
           (repeated-reply c (s .buffer) (b .room))) ∙ y))
