@@ -25,8 +25,9 @@ returns-2 c =
     let valid = sym (passed .before .is-encoded-conversation .ensures) ∙ not-false _
     (passed .if1 .left) in
     c .awaited-code .ensures
-    ∙ ap (λ (v : Conversation). awaitedCode (v .phase)) (decoded .decode-conversation .ensures)
-    ∙ ap (λ (t : Bool). valueOr t (awaitedCode (decodeConversation bytes .phase))) (sym valid)
+    ∙ ap (λ (v : Conversation). awaitedCode (v .terms .change) (v .phase)) (decoded .decode-conversation .ensures)
+    ∙ ap (λ (t : Bool). valueOr t (awaitedCode (decodeConversation bytes .terms .change)
+    (decodeConversation bytes .phase))) (sym valid)
 
 pub mschap-conversation-awaits-spec : {M : Type 1} → statement M
 mschap-conversation-awaits-spec =
