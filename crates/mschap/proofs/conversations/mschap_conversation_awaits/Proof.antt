@@ -19,7 +19,7 @@ returns c = simp (sym (c .before .is-encoded-conversation .ensures) ∙ not-true
 returns-2 : tie.Need-returns-2
 unfolding conversationAwaits
 returns-2 c =
-    let decoded = c .before in
+    let decoded = c .before .before in
     let passed = decoded .before in
     let bytes = passed .before .before .before .args .conversation .now in
     let valid = sym (passed .before .is-encoded-conversation .ensures) ∙ not-false _

@@ -37,11 +37,11 @@ opening c =
 made : (c : tie.After-open)
     → OpenedAs (opening c) (c .«open» .result)
     (record {
-      buffer = c .«open» .last .1 .1 .1 .1 .1 .0;
+      buffer = c .«open» .last .1 .1 .1 .1 .1 .1 .0;
       used = c .«open» .result .used;
-      counts = c .«open» .last .1 .1 .1 .1 .1 .1 .1 .0;
+      counts = c .«open» .last .1 .1 .1 .1 .1 .1 .1 .1 .0;
     })
-    (c .«open» .last .1 .1 .1 .1 .1 .1 .1 .1 .0)
+    (c .«open» .last .1 .1 .1 .1 .1 .1 .1 .1 .1 .0)
 made c =
     let sent = from c in
     let counted = c .before .before .before .before .before in
@@ -63,11 +63,11 @@ made c =
     subst
     (λ (o : Opening). OpenedAs o (c .«open» .result)
     (record {
-      buffer = c .«open» .last .1 .1 .1 .1 .1 .0;
+      buffer = c .«open» .last .1 .1 .1 .1 .1 .1 .0;
       used = c .«open» .result .used;
-      counts = c .«open» .last .1 .1 .1 .1 .1 .1 .1 .0;
+      counts = c .«open» .last .1 .1 .1 .1 .1 .1 .1 .1 .0;
     })
-    (c .«open» .last .1 .1 .1 .1 .1 .1 .1 .1 .0))
+    (c .«open» .last .1 .1 .1 .1 .1 .1 .1 .1 .1 .0))
     same (c .«open» .ensures)
 
 returns : tie.Need-returns
