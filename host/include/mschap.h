@@ -642,7 +642,7 @@ uint32_t mschap_list_used(const uint8_t *list, size_t list_size);
    identifier or other terms, for a challenge or a conversation of another size, or if list is no
    list; MSCHAP_NO_LIMIT; MSCHAP_RETRIES_RANGE; MSCHAP_REPLY_ROOM; MSCHAP_LIST; MSCHAP_SPENT;
    MSCHAP_LIST_FULL.
-   Stack: 1,520 bytes. */
+   Stack: 1,536 bytes. */
 uint32_t mschap_open(uint32_t identifier, uint32_t terms,
                      const uint8_t *challenge, size_t challenge_size,
                      uint8_t *list, size_t list_size,
@@ -727,18 +727,18 @@ uint32_t mschap_answer_record(const mschap_answer *answer, size_t answer_size,
 /* Returns what a conversation awaits, by the code of the packet: MSCHAP_AWAITS_RESPONSE,
    MSCHAP_AWAITS_CHANGE, MSCHAP_AWAITS_CHANGE_1 or MSCHAP_AWAITS_NOTHING; MSCHAP_INVALID for an
    invalid conversation.
-   Stack: 512 bytes. */
+   Stack: 320 bytes. */
 uint32_t mschap_conversation_awaits(const mschap_conversation *conversation,
                                     size_t conversation_size);
 
 /* Returns the identifier of the packet that is awaited, 0 to 255 (of the last one, if none is);
    MSCHAP_INVALID for an invalid conversation.
-   Stack: 512 bytes. */
+   Stack: 320 bytes. */
 uint32_t mschap_conversation_identifier(const mschap_conversation *conversation,
                                         size_t conversation_size);
 
 /* Returns how many retries are left; MSCHAP_INVALID for an invalid conversation.
-   Stack: 512 bytes. */
+   Stack: 320 bytes. */
 uint32_t mschap_conversation_retries(const mschap_conversation *conversation,
                                      size_t conversation_size);
 
@@ -838,7 +838,7 @@ uint32_t mschap_write_change(mschap_peer *peer, size_t peer_size,
    give up takes MSCHAP_CALL_CHANGE_1 for MSCHAP_CALL_END.
    Returns MSCHAP_OK; MSCHAP_BAD_ARGUMENT for an invalid peer or password; MSCHAP_ROOM if out is too
    small.
-   Stack: 3,232 bytes. */
+   Stack: 2,480 bytes. */
 uint32_t mschap_write_change_1(mschap_peer *peer, size_t peer_size,
                                const mschap_password *old_password, size_t old_password_size,
                                const mschap_new_password *new_password, size_t new_password_size,
@@ -869,7 +869,7 @@ uint32_t mschap_des_encrypt(const uint8_t *key, size_t key_size,
 
 /* The inverse of mschap_des_encrypt.
    Returns MSCHAP_OK; MSCHAP_BAD_ARGUMENT for another size.
-   Stack: 2,368 bytes. */
+   Stack: 2,400 bytes. */
 uint32_t mschap_des_decrypt(const uint8_t *key, size_t key_size,
                             uint8_t *block, size_t block_size);
 
