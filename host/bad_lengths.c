@@ -161,6 +161,29 @@ static size_t opening_terms(struct argument *r)
     return mschap_open(7, MSCHAP_LIMIT(5) | MSCHAP_RETRIES(2), BUFFER(0), BUFFER(1), BUFFER(2),
                        BUFFER(3));
 }
+/* Both changes, or a bit that says nothing: each of these is refused. */
+static size_t opening_changes(struct argument *r)
+{
+    static const uint32_t others[] = {
+        MSCHAP_CHANGE_1 | MSCHAP_CHANGE_2, MSCHAP_LM_ALLOWED | MSCHAP_LM_REFUSED | MSCHAP_CHANGE_1,
+        0x1000, 0x2000, 0x4000, 0x8000, MSCHAP_CHANGE_1 | 0x1000, MSCHAP_CHANGE_2 | 0x8000,
+    };
+    size_t i;
+    for (i = 0; i < sizeof others / sizeof *others; i++)
+        if (mschap_open(7, LIMITED | others[i], BUFFER(0), BUFFER(1), BUFFER(2), BUFFER(3))
+            != MSCHAP_BAD_ARGUMENT)
+            return WRONG;
+    return MSCHAP_BAD_ARGUMENT;
+}
+static size_t opening_change_1(struct argument *r)
+{
+    return mschap_open(7, LIMITED | MSCHAP_CHANGE_1, BUFFER(0), BUFFER(1), BUFFER(2), BUFFER(3));
+}
+static size_t opening_change_2(struct argument *r)
+{
+    return mschap_open(7, LIMITED | MSCHAP_LM_REFUSED | MSCHAP_CHANGE_2, BUFFER(0), BUFFER(1),
+                       BUFFER(2), BUFFER(3));
+}
 static size_t opening_identifier(struct argument *r)
 {
     return mschap_open(256, LIMITED, BUFFER(0), BUFFER(1), BUFFER(2), BUFFER(3));
@@ -210,6 +233,10 @@ static size_t write_change(struct argument *r)
 {
     return mschap_write_change(BUFFER(0), BUFFER(1), BUFFER(2), BUFFER(3), BUFFER(4));
 }
+static size_t write_change_1(struct argument *r)
+{
+    return mschap_write_change_1(BUFFER(0), BUFFER(1), BUFFER(2), BUFFER(3));
+}
 static size_t md4(struct argument *r) { return mschap_md4(BUFFER(0), BUFFER(1)); }
 static size_t rc4(struct argument *r) { return mschap_rc4(BUFFER(0), BUFFER(1)); }
 static size_t des_encrypt(struct argument *r) { return mschap_des_encrypt(BUFFER(0), BUFFER(1)); }
@@ -237,15 +264,27 @@ static const uint8_t name[2] = {'b', 'x'};
 static const uint8_t none_used[29] = {'L', 1, 0, 0};
 static const uint8_t one_used[37] = {'L', 1, 0, 1}; /* by the challenge of bytes 0 */
 /* it awaits a Response, identifier 7, and its limit is 5 */
-static const uint8_t opened[61] = {'C', 3, 2, 1, 5, 7, 2};
+static const uint8_t opened[62] = {'C', 4, 2, 1, 5, 2, 7, 2};
+/* it awaits a version 1 change; and one that awaits it by the terms of version 2, or the other way
+   round, or by terms of no version, which no conversation does */
+static const uint8_t awaiting[62] = {'C', 4, 5, 1, 5, 1, 7, 2};
+static const uint8_t crossed[62] = {'C', 4, 5, 1, 5, 2, 7, 2};
+static const uint8_t crossed_back[62] = {'C', 4, 6, 1, 5, 1, 7, 2};
+static const uint8_t unversioned[62] = {'C', 4, 2, 1, 5, 3, 7, 2};
+/* as 0.8.0 stored it, and with that version but the size of now */
+static const uint8_t outdated_talk[61] = {'C', 3, 2, 1, 5, 7, 2};
+static const uint8_t half_way_talk[62] = {'C', 3, 2, 1, 5, 2, 7, 2};
 /* it has ended, and answered a Response, identifier 7, with a Failure, R=0 */
-static const uint8_t ended[61] = {'C', 3, 0, 1, 5, 7, [54] = 1, 2, 7, 1, 691 >> 8, 691 & 255};
+static const uint8_t ended[62] = {'C', 4, 0, 1, 5, 2, 7, [55] = 1, 2, 7, 1, 691 >> 8, 691 & 255};
 static const uint8_t failed[815] = {'A', 5, 0, 691 >> 8, 691 & 255};
 static const uint8_t counted[815] = {'A', 5, 0, 691 >> 8, 691 & 255, 0, 1, [45] = 4};
 static const uint8_t repeated[815] = {'A', 5, 1, 691 >> 8, 691 & 255};
 static const uint8_t changed[815] = {'A', 5, 0, 0, 0, 0, 1};
 /* a change with another old hash under its new one */
 static const uint8_t spoiled[815] = {'A', 5, 0, 709 >> 8, 709 & 255, 5};
+/* a version 1 change with another old hash, and the number of no fault */
+static const uint8_t spoiled_1[815] = {'A', 5, 0, 709 >> 8, 709 & 255, 10};
+static const uint8_t faultless[815] = {'A', 5, 0, 709 >> 8, 709 & 255, 11};
 static const uint8_t peer[22] = {'P', 1, 1, 7, [12] = 8}; /* it sent a packet, identifier 7 */
 static const uint8_t response[63] = {2, 7, 0, 62, 49, [53] = 1, 'D', 'O', 'M', '\\', 'U', 's', 'e',
                                      'r'};
@@ -315,7 +354,7 @@ static const struct function {
     {"record_response, of 0.7.0", record_response, BAD, BAD,
      {{outdated, 42, FIXED}, {zeros, 8, FIXED}, {NULL, 24, FIXED}}},
     {"step, of 0.7.0", step, BAD, BAD,
-     {{opened, 60, FIXED}, {response, 62, FIXED}, {outdated, 42, FIXED}, {NULL, 17, FIXED},
+     {{opened, 61, FIXED}, {response, 62, FIXED}, {outdated, 42, FIXED}, {NULL, 17, FIXED},
      {NULL, 814, FIXED}}},
     /* a byte less is the colon behind the sixth field of the last line */
     {"find_account", find_account, 0, BAD,
@@ -333,31 +372,40 @@ static const struct function {
     {"list_used", list_used, 1, NOT, {{one_used, 36, TOLD}}},
     /* no place used, and three to be used */
     {"open", opening, 0, BAD,
-     {{zeros, 8, FIXED}, {none_used, 28, BAD, 24, 24}, {NULL, 60, FIXED}, {NULL, 17, 2, 2, 0}}},
+     {{zeros, 8, FIXED}, {none_used, 28, BAD, 24, 24}, {NULL, 61, FIXED}, {NULL, 17, 2, 2, 0}}},
+    {"open, version 1 changes", opening_change_1, 0, BAD,
+     {{zeros, 8, FIXED}, {none_used, 28, BAD, 24, 24}, {NULL, 61, FIXED}, {NULL, 17, 2, 2, 0}}},
+    {"open, version 2 changes", opening_change_2, 0, BAD,
+     {{zeros, 8, FIXED}, {none_used, 28, BAD, 24, 24}, {NULL, 61, FIXED}, {NULL, 17, 2, 2, 0}}},
     /* one place used, by the same challenge */
     {"open, spent", opening, 16, BAD,
-     {{zeros, 8, FIXED}, {one_used, 36, BAD, 24, 24}, {NULL, 60, FIXED}, {NULL, 17, 2, 2, 16}}},
+     {{zeros, 8, FIXED}, {one_used, 36, BAD, 24, 24}, {NULL, 61, FIXED}, {NULL, 17, 2, 2, 16}}},
     {"open, 8 retries", opening_retries, 13, BAD,
-     {{zeros, 8, FIXED}, {none_used, 28, BAD, 13, 13}, {NULL, 60, FIXED}, {NULL, 17, 13, 13, 13}}},
+     {{zeros, 8, FIXED}, {none_used, 28, BAD, 13, 13}, {NULL, 61, FIXED}, {NULL, 17, 13, 13, 13}}},
     {"open, no limit", opening_unlimited, 18, BAD,
-     {{zeros, 8, FIXED}, {none_used, 28, BAD, 18, 18}, {NULL, 60, FIXED}, {NULL, 17, 18, 18, 18}}},
+     {{zeros, 8, FIXED}, {none_used, 28, BAD, 18, 18}, {NULL, 61, FIXED}, {NULL, 17, 18, 18, 18}}},
     {"open, no terms", opening_terms, BAD, BAD,
-     {{zeros, 8, FIXED}, {none_used, 28, FIXED}, {NULL, 60, FIXED}, {NULL, 17, FIXED}}},
+     {{zeros, 8, FIXED}, {none_used, 28, FIXED}, {NULL, 61, FIXED}, {NULL, 17, FIXED}}},
+    {"open, other changes", opening_changes, BAD, BAD,
+     {{zeros, 8, FIXED}, {none_used, 28, FIXED}, {NULL, 61, FIXED}, {NULL, 17, FIXED}}},
     {"open, identifier 256", opening_identifier, BAD, BAD,
-     {{zeros, 8, FIXED}, {none_used, 28, FIXED}, {NULL, 60, FIXED}, {NULL, 17, FIXED}}},
+     {{zeros, 8, FIXED}, {none_used, 28, FIXED}, {NULL, 61, FIXED}, {NULL, 17, FIXED}}},
     {"step", step, 0, BAD,
-     {{opened, 60, FIXED}, {response, 62, 3, 3, 0}, {nobody, 810, FIXED}, {NULL, 17, 2, 2, 0},
+     {{opened, 61, FIXED}, {response, 62, 3, 3, 0}, {nobody, 810, FIXED}, {NULL, 17, 2, 2, 0},
      {NULL, 814, FIXED}}},
     {"step, a repeat", step, 0, BAD,
-     {{ended, 60, FIXED}, {response, 62, 3, 3, 0}, {nobody, 810, FIXED}, {NULL, 17, 2, 2, 0},
+     {{ended, 61, FIXED}, {response, 62, 3, 3, 0}, {nobody, 810, FIXED}, {NULL, 17, 2, 2, 0},
      {NULL, 814, FIXED}}},
     {"step, ended", step, 1, BAD,
-     {{ended, 60, FIXED}, {challenge, 13, 3, 3, 1}, {nobody, 810, FIXED}, {NULL, 17, 2, 2, 1},
+     {{ended, 61, FIXED}, {challenge, 13, 3, 3, 1}, {nobody, 810, FIXED}, {NULL, 17, 2, 2, 1},
      {NULL, 814, FIXED}}},
     {"answer_reason", answer_reason, 691, NOT, {{failed, 814, TOLD}}},
     {"answer_repeated", answer_repeated, 1, NOT, {{repeated, 814, TOLD}}},
     {"answer_repeated, judged", answer_repeated, 0, NOT, {{failed, 814, TOLD}}},
     {"answer_fault", answer_fault, MSCHAP_FAULT_OLD_HASH_WRONG, NOT, {{spoiled, 814, TOLD}}},
+    {"answer_fault, version 1", answer_fault, MSCHAP_FAULT_HASH_WRONG, NOT,
+     {{spoiled_1, 814, TOLD}}},
+    {"answer_fault, 11", answer_fault, NOT, NOT, {{faultless, 814, TOLD}}},
     {"answer_fault, none", answer_fault, 0, NOT, {{changed, 814, TOLD}}},
     {"answer_record", answer_record, 0, BAD, {{changed, 814, FIXED}, {NULL, 810, FIXED}}},
     {"answer_record, counted", answer_record, 0, BAD,
@@ -365,10 +413,19 @@ static const struct function {
     {"answer_record, none", answer_record, 102, BAD, {{failed, 814, FIXED}, {NULL, 810, FIXED}}},
     {"answer_record, a repeat", answer_record, 102, BAD,
      {{repeated, 814, FIXED}, {NULL, 810, FIXED}}},
-    {"conversation_awaits", awaits, 2, NOT, {{opened, 60, TOLD}}},
-    {"conversation_awaits, ended", awaits, 0, NOT, {{ended, 60, TOLD}}},
-    {"conversation_identifier", identifier, 7, NOT, {{opened, 60, TOLD}}},
-    {"conversation_retries", retries, 2, NOT, {{opened, 60, TOLD}}},
+    {"conversation_awaits", awaits, 2, NOT, {{opened, 61, TOLD}}},
+    {"conversation_awaits, ended", awaits, 0, NOT, {{ended, 61, TOLD}}},
+    {"conversation_awaits, version 1", awaits, MSCHAP_AWAITS_CHANGE_1, NOT, {{awaiting, 61, TOLD}}},
+    {"conversation_awaits, code 5 by version 2", awaits, NOT, NOT, {{crossed, 61, TOLD}}},
+    {"conversation_awaits, code 6 by version 1", awaits, NOT, NOT, {{crossed_back, 61, TOLD}}},
+    {"conversation_awaits, version 3", awaits, NOT, NOT, {{unversioned, 61, TOLD}}},
+    {"conversation_awaits, of 0.8.0", awaits, NOT, NOT, {{outdated_talk, 60, TOLD}}},
+    {"conversation_awaits, half way", awaits, NOT, NOT, {{half_way_talk, 61, TOLD}}},
+    {"step, a conversation of 0.8.0", step, BAD, BAD,
+     {{outdated_talk, 60, FIXED}, {response, 62, FIXED}, {nobody, 810, FIXED}, {NULL, 17, FIXED},
+     {NULL, 814, FIXED}}},
+    {"conversation_identifier", identifier, 7, NOT, {{opened, 61, TOLD}}},
+    {"conversation_retries", retries, 2, NOT, {{opened, 61, TOLD}}},
     {"packet_length", packet_length, 62, 0, {{response, 62, 0, 0, 62}}},
     {"account_offset", account_offset, 58, 0, {{response, 62, 0, 0, 58}}},
     {"account_length", account_length, 4, 0, {{response, 62, 0, 0, 4}}},
@@ -382,6 +439,8 @@ static const struct function {
     {"write_change", write_change, 0, BAD,
      {{peer, 21, FIXED}, {password, 516, FIXED}, {unpaired, 516, FIXED}, {zeros, 512, 12, 12, 12},
      {NULL, 1118, 9, 9, 0}}},
+    {"write_change_1", write_change_1, 0, BAD,
+     {{peer, 21, FIXED}, {password, 516, FIXED}, {unpaired, 516, FIXED}, {NULL, 72, 9, 9, 0}}},
     {"md4", md4, 0, BAD, {{zeros, 3, 0, 0, 0}, {NULL, 16, FIXED}}},
     {"rc4", rc4, 0, 8, {{zeros, 5, 8, 0, 0}, {NULL, 3, 0, 0, 0}}},
     {"des_encrypt", des_encrypt, 0, BAD, {{zeros, 7, FIXED}, {NULL, 8, FIXED}}},

@@ -125,7 +125,7 @@ static int give_all(int turn)
     static const uint32_t identifiers[] = {0, 7, 255};
     static const uint32_t terms[] = {
         MSCHAP_TERMS | MSCHAP_LIMIT(1), MSCHAP_TERMS | MSCHAP_LIMIT(255) | MSCHAP_RETRIES(7),
-        MSCHAP_TERMS | MSCHAP_LIMIT(5) | MSCHAP_RETRIES(0) | MSCHAP_LM_REFUSED,
+        MSCHAP_TERMS | MSCHAP_LIMIT(5) | MSCHAP_RETRIES(0) | MSCHAP_LM_REFUSED | MSCHAP_CHANGE_1,
     };
     static const uint32_t failures[] = {0, 42, 255};
     const size_t hash = MSCHAP_HASH_SIZE;
@@ -212,6 +212,11 @@ static int give_all(int turn)
         give_password(2, "another");
         give(3, MSCHAP_FILLER_SIZE);
         give_out(4, turn < 3 ? MSCHAP_CHANGE_PACKET : LARGE, turn);
+    } else if (named("mschap_write_change_1")) {
+        put(0, &made.asked, sizeof made.asked);
+        give_password(1, "password");
+        give_password(2, "another");
+        give_out(3, turn < 3 ? MSCHAP_CHANGE_1_PACKET : LARGE, turn);
     } else if (named("mschap_rc4")) {
         give(0, hash);
         give_out(1, 516, turn); /* a block as in a change */

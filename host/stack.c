@@ -648,31 +648,34 @@ static mschap_lmhash lan;
 static mschap_record made; /* of both, with their round keys */
 static uint8_t challenge[MSCHAP_CHALLENGE_SIZE];
 
-/* A conversation, behind its kind and version: the awaited code, LM, limit, identifier, retries,
-   the challenge, the account that is kept, which is as in a record from NT on but without its round
-   keys, and the last answer: whether there is one, code, identifier, which reply (0: Success, 1:
-   Failure, 2: with a retry) and the reason in two bytes. */
+/* A conversation, behind its kind and version: the awaited code, LM, limit, the version of its
+   change, identifier, retries, the challenge, the account that is kept, which is as in a record
+   from NT on but without its round keys, and the last answer: whether there is one, code,
+   identifier, which reply (0: Success, 1: Failure, 2: with a retry) and the reason in two bytes. */
 #define AWAITED 2
 #define LM_ALLOWED 3
 #define LIMIT 4
-#define RETRIES 6
-#define CHALLENGE 7
-#define KEPT 15
-#define ANSWERED 54
-#define REPLY 57
+#define CHANGE 5
+#define RETRIES 7
+#define CHALLENGE 8
+#define KEPT 16
+#define KEPT_LM (KEPT + LM - NT)
+#define ANSWERED 55
+#define REPLY 58
 
 /* A conversation that awaits a packet of that code with identifier 7, LM allowed, the limit 5 and 2
    retries left, and a record with both hashes, no flag and no failure. */
 static void give_step(uint8_t code)
 {
-    const uint8_t front[] = {'C', MSCHAP_CONVERSATION_LAYOUT, code, 1, 5, 7, 2};
+    const uint8_t version = code == MSCHAP_AWAITS_CHANGE_1 ? 1 : 2;
+    const uint8_t front[] = {'C', MSCHAP_CONVERSATION_LAYOUT, code, 1, 5, version, 7, 2};
     uint8_t *conversation = give(0, MSCHAP_CONVERSATION_SIZE);
     uint8_t *record = give(2, MSCHAP_RECORD_SIZE);
     memcpy(record, &made, sizeof made);
     memset(conversation, 0, MSCHAP_CONVERSATION_SIZE);
     memcpy(conversation, front, sizeof front);
     memcpy(conversation + CHALLENGE, challenge, sizeof challenge);
-    if (code == MSCHAP_AWAITS_CHANGE)
+    if (code == MSCHAP_AWAITS_CHANGE || code == MSCHAP_AWAITS_CHANGE_1)
         memcpy(conversation + KEPT, record + NT, ACCOUNT_SIZE);
     give(3, MSCHAP_REPLY_SIZE);
     give(4, MSCHAP_ANSWER_SIZE);
@@ -737,6 +740,48 @@ static uint8_t *give_change(size_t size, size_t told)
     return packet;
 }
 
+/* A hash under the challenge, 16 bytes at a place: two blocks under its first seven bytes. */
+static void put_under_challenge(const uint8_t *hash, uint8_t *to)
+{
+    memcpy(to, hash, MSCHAP_HASH_SIZE);
+    mschap_des_encrypt(challenge, MSCHAP_KEY_SIZE, to, MSCHAP_BLOCK_SIZE);
+    mschap_des_encrypt(challenge, MSCHAP_KEY_SIZE, to + 8, MSCHAP_BLOCK_SIZE);
+}
+
+/* A version 1 change by the right old hashes to drawn ones, with a length and bit 0 of the flags. */
+static uint8_t *give_change_1(size_t size, uint8_t bit)
+{
+    uint8_t *packet = give_packet(1, 5, MSCHAP_CHANGE_1_PACKET);
+    put_under_challenge(lan.bytes, packet + 4);
+    put_under_challenge(nt.bytes, packet + 36);
+    packet[68] = (uint8_t)(size >> 8);
+    packet[69] = (uint8_t)size;
+    packet[70] = 0;
+    packet[71] = bit;
+    return packet;
+}
+
+/* Each version 1 change that is accepted, and each fault: the bit, the length, what LM allows, and
+   what is wrong or missing. */
+static void try_judged_1(size_t size)
+{
+    for (uint8_t bit = 0; bit < 2; bit++) {
+        give_step(5);
+        give_change_1(size, bit);
+        try_step(bit || size <= 14 ? 3 : 4);
+        given[1].octets[bit ? 36 : 4] ^= 1; /* the old hash is wrong */
+        try_step(4);
+        given[0].octets[bit ? KEPT : KEPT_LM] = 0; /* the kept record has no such hash */
+        try_step(4);
+        give_step(5);
+        give_change_1(size, bit);
+        given[0].octets[LM_ALLOWED] = 0;
+        try_step(bit ? 3 : 4);
+        given[0].octets[bit ? KEPT_LM : KEPT] = 0; /* the other hash is missing */
+        try_step(bit ? 3 : 4);
+    }
+}
+
 static void try_judged(void)
 {
     for (size_t n = 1; n <= 256; n++) {
@@ -786,11 +831,16 @@ static void try_judged(void)
         given[0].octets[KEPT] = 0; /* the kept record has no NT hash */
         try_step(4);
     }
-    for (int k = 0; k < DRAWN; k++) { /* with a few other bytes, and other flags */
+    for (size_t n = 0; n <= 32; n++)
+        try_judged_1(n);
+    for (size_t n = 256; n <= 65535; n += 257)
+        try_judged_1(n);
+    for (int k = 0; k < 2 * DRAWN; k++) { /* with a few other bytes, and other flags */
         size_t n = draw();
         uint8_t *packet;
-        give_step(k % 2 ? 2 : 6);
-        packet = k % 2 ? give_response(1, n + 1, draw()) : give_change(2 * n, 2 * n);
+        give_step(k % 2 ? 2 : k % 4 ? 6 : 5);
+        packet = k % 2 ? give_response(1, n + 1, draw()) : k % 4 ? give_change(2 * n, 2 * n)
+            : give_change_1(n % 30, k % 8 == 0);
         for (int others = draw() % 4; others > 0; others--)
             packet[(draw() * 256u + draw()) % given[1].size] = draw();
         for (int flag = FLAGS; flag < FAILURES; flag++)
@@ -811,11 +861,12 @@ static void try_repeated(void)
     };
     static const uint8_t awaited[] = {
         MSCHAP_AWAITS_NOTHING, MSCHAP_AWAITS_RESPONSE, MSCHAP_AWAITS_CHANGE,
+        MSCHAP_AWAITS_CHANGE_1,
     };
     for (size_t r = 0; r < LENGTH(replies); r++)
         for (size_t a = 0; a < LENGTH(awaited); a++)
             for (size_t n = 4; n <= MSCHAP_CHANGE_PACKET; n++) {
-                const uint8_t last[] = {1, (uint8_t)(n % 2 ? 2 : 6), 7};
+                const uint8_t last[] = {1, (uint8_t)(n % 2 ? 2 : n % 4 ? 6 : 5), 7};
                 give_step(awaited[a]);
                 memcpy(given[0].octets + ANSWERED, last, sizeof last);
                 memcpy(given[0].octets + REPLY, replies[r], sizeof replies[r]);
@@ -845,27 +896,40 @@ static void try_told(const struct buffer *value, int valid)
     TRY(mschap_conversation_retries, valid ? ANY : MSCHAP_INVALID);
 }
 
-/* The answers of a judged Response and of an accepted change, with each fault, and both
-   conversations; and these with a byte that no value has: another fault, the version of another
-   layout. */
+/* The answers of a judged Response and of an accepted change of either version, with each fault,
+   and their conversations, before and after; and these with a byte that no value has: another
+   fault, the version of another layout. */
 static void try_values(void)
 {
-    static struct buffer values[4];
-    for (int change = 0; change < 2; change++) {
-        give_step(change ? MSCHAP_AWAITS_CHANGE : MSCHAP_AWAITS_RESPONSE);
-        if (change)
+    static struct buffer values[9];
+    for (int kind = 0; kind < 3; kind++) {
+        static const uint8_t awaited[] = {
+            MSCHAP_AWAITS_RESPONSE, MSCHAP_AWAITS_CHANGE, MSCHAP_AWAITS_CHANGE_1,
+        };
+        give_step(awaited[kind]);
+        if (kind == 0)
+            give_response(1, 8, 3);
+        else if (kind == 1)
             give_change(12, 12);
         else
-            give_response(1, 8, 3);
+            give_change_1(12, 1);
         TRY(mschap_step, MSCHAP_OK);
-        values[2 * change] = passed[0];
-        values[2 * change + 1] = passed[4];
+        values[3 * kind] = passed[0];
+        values[3 * kind + 1] = passed[4];
+        values[3 * kind + 2] = given[0];
     }
     for (size_t v = 0; v < LENGTH(values); v++) {
         try_told(&values[v], 1);
-        for (uint8_t fault = 0; fault < 8 && values[v].octets[0] == 'A'; fault++) {
+        for (uint8_t fault = 0; fault < 12 && values[v].octets[0] == 'A'; fault++) {
             values[v].octets[FAULT] = fault;
-            try_told(&values[v], fault <= MSCHAP_FAULT_RESPONSE_WRONG);
+            try_told(&values[v], fault <= MSCHAP_FAULT_HASH_WRONG);
+        }
+        for (uint8_t n = 0; n < 4 && values[v].octets[0] == 'C'; n++) {
+            const uint8_t version = values[v].octets[CHANGE], code = values[v].octets[AWAITED];
+            const int ends = code == MSCHAP_AWAITS_NOTHING || code == MSCHAP_AWAITS_RESPONSE;
+            values[v].octets[CHANGE] = n; /* 1 and 2 alone, and while a change is awaited its own */
+            try_told(&values[v], n == version || (ends && (n == 1 || n == 2)));
+            values[v].octets[CHANGE] = version;
         }
         if (values[v].octets[0] == 'A')
             values[v].octets[FAULT] = MSCHAP_FAULT_NONE;
@@ -880,6 +944,19 @@ static void try_values(void)
 
 static void try_refused(void)
 {
+    for (uint16_t flags_told = 2; flags_told != 0; flags_told = (uint16_t)(flags_told << 1)) {
+        give_step(5);
+        give_change_1(14, 1)[70] |= (uint8_t)(flags_told >> 8);
+        given[1].octets[71] |= (uint8_t)flags_told;
+        TRY(mschap_step, MSCHAP_FLAGS);
+    }
+    given[1].octets[3] = 71;
+    TRY(mschap_step, MSCHAP_SIZE);
+    given[1].octets[0] = 6;
+    TRY(mschap_step, MSCHAP_CODE);
+    give_step(6);
+    give_change_1(14, 1);
+    TRY(mschap_step, MSCHAP_CODE);
     give_step(2);
     give_response(1, 256, 0)[53] = 2;
     TRY(mschap_step, MSCHAP_FLAGS);
@@ -936,6 +1013,7 @@ CALL(mschap_read_challenge, BUFFER(0), BUFFER(1))
 CALL(mschap_read_reply, BUFFER(2), BUFFER(0), &call, &reason)
 CALL(mschap_write_response, BUFFER(0), BUFFER(1), BUFFER(2), BUFFER(3))
 CALL(mschap_write_change, BUFFER(0), BUFFER(1), BUFFER(2), BUFFER(3), BUFFER(4))
+CALL(mschap_write_change_1, BUFFER(0), BUFFER(1), BUFFER(2), BUFFER(3))
 
 /* It sent a packet with the identifier 7. */
 static void give_peer(size_t i)
@@ -977,6 +1055,15 @@ static void try_write_change(size_t old_size, size_t new_size, size_t room, size
     TRY(mschap_write_change, expected);
 }
 
+static void try_write_change_1(size_t old_size, size_t new_size, size_t room, size_t expected)
+{
+    give_peer(0);
+    give_drawn_password(1, old_size);
+    give_drawn_password(2, new_size);
+    give(3, room);
+    TRY(mschap_write_change_1, expected);
+}
+
 static void try_peer(void)
 {
     for (size_t n = 1; n <= 256; n++)
@@ -991,11 +1078,17 @@ static void try_peer(void)
         try_write_change(512, 2 * n, MSCHAP_CHANGE_PACKET - 1, MSCHAP_ROOM);
         given[2].octets[1] = 0;
         TRY(mschap_write_change, MSCHAP_BAD_ARGUMENT);
+        try_write_change_1(2 * n, 512 - 2 * n, MSCHAP_CHANGE_1_PACKET, MSCHAP_OK);
+        try_write_change_1(512, 2 * n, MSCHAP_CHANGE_1_PACKET - 1, MSCHAP_ROOM);
+        given[2].octets[1] = 0;
+        TRY(mschap_write_change_1, MSCHAP_BAD_ARGUMENT);
     }
     for (size_t n = 1; n < 512; n += 2) { /* an odd number of bytes, which no password has */
         try_write_response(n, 256, MSCHAP_BAD_ARGUMENT);
         try_write_change(n, 512, MSCHAP_CHANGE_PACKET, MSCHAP_BAD_ARGUMENT);
         try_write_change(512, n, MSCHAP_CHANGE_PACKET, MSCHAP_BAD_ARGUMENT);
+        try_write_change_1(n, 512, MSCHAP_CHANGE_1_PACKET, MSCHAP_BAD_ARGUMENT);
+        try_write_change_1(512, n, MSCHAP_CHANGE_1_PACKET, MSCHAP_BAD_ARGUMENT);
     }
 }
 

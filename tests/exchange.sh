@@ -170,7 +170,7 @@ all() {
             return 1
         fi
     done < "$work/pairs"
-    [ "$functions" -ge 39 ] && [ "$pairs" -gt "$functions" ] && [ "$sizes" -gt "$same" ] || {
+    [ "$functions" -ge 40 ] && [ "$pairs" -gt "$functions" ] && [ "$sizes" -gt "$same" ] || {
         echo "exchange: only $functions functions and $pairs pairs were found"
         return 1
     }

@@ -56,7 +56,7 @@ awk -v provided="$provided" '
             if (said[f] + 0 > most)
                 most = said[f] + 0
         }
-        if (n < 39)
+        if (n < 40)
             fail("only " n + 0 " functions were found in the header")
         if (provided < most + 4096)
             fail("MSCHAP_STACK_SIZE is " provided ", and " most " and 4 KiB are needed")

@@ -31,7 +31,7 @@
  *                              reply, sizeof reply, &answer, sizeof answer);
  *         if (number == MSCHAP_OK
  *             && mschap_answer_record(&answer, sizeof answer, &after, sizeof after) == MSCHAP_OK) {
- *             if (awaited == MSCHAP_AWAITS_CHANGE         // accepted: a new password is written,
+ *             if (awaited != MSCHAP_AWAITS_RESPONSE       // a change: the new password is written,
  *                 && (mschap_find_account(file, file_size, name, name_size, time(NULL), max_age,
  *                                         &again, sizeof again, &offset) != MSCHAP_OK
  *                     || memcmp(&again, &record, sizeof again) != 0   // if nobody wrote since
@@ -63,11 +63,29 @@
  *   A phone that answers by LM alone is let in only by a conversation that asks for LM:
  *       mschap_open(1, MSCHAP_TERMS | MSCHAP_LIMIT(10) | MSCHAP_LM_ALLOWED, challenge, ..
  *   So is any phone whose account has an LM hash and no NT hash. Either way the account needs an LM
- *   hash, which a change of the password removes. LM is off in every other conversation.
+ *   hash, which a version 2 change of the password removes. LM is off in every other conversation.
  *   Up to 0.4.0 MSCHAP_TERMS alone allowed LM: an upgrade without MSCHAP_LM_ALLOWED locks those
  *   phones out, and their right password draws MSCHAP_E_AUTHENTICATION_FAILURE, as a wrong one
  *   does. Ask for it on the benches that have such phones and nowhere else: RFC 2433 (section 6)
  *   deprecates LM, and where it is allowed an account with both hashes is as weak as its LM hash.
+ *
+ * VERSION 1 CHANGES
+ *   A handset that knows only the older Change Password packet, code 5, changes an expired password
+ *   in a conversation that is opened for it:
+ *       mschap_open(1, MSCHAP_TERMS | MSCHAP_LIMIT(10) | MSCHAP_CHANGE_1, challenge, ..
+ *   Every Failure of that conversation says V=1, which calls for the packet, and after
+ *   MSCHAP_E_PASSWD_EXPIRED it awaits MSCHAP_AWAITS_CHANGE_1: code 6 is then refused with
+ *   MSCHAP_CODE, as code 5 is in every other conversation, whose Failures say V=2. So have a line
+ *   of their own for such handsets: one that knows code 6 alone cannot change its password there.
+ *   The packet has the old and the new NT and LM hash, each encrypted under the challenge, and the
+ *   length of the new password. Where bit 0 of its flags is set, the old NT hash is compared, and
+ *   the record gets the new NT hash and, if the length is at most 14, the new LM hash too, whether
+ *   LM is allowed or not; else none. Where it is clear, which needs MSCHAP_LM_ALLOWED and such a
+ *   length, the old LM hash is compared, and the record gets the new LM hash and no NT hash.
+ *   RFC 2433 (section 9) deprecates the packet: peers SHOULD NOT send it. The challenge is sent in
+ *   the clear, so whoever listens on the line decrypts the old and the new hash, which is as good
+ *   as the password. Ask for it on the benches that have such handsets, where nobody else listens,
+ *   and nowhere else. Our peer writes it by mschap_write_change_1, only where a reply calls for it.
  *
  * LOCKOUT
  *   The retries of a conversation stop no guesser: to hang up and call back gives fresh ones. So a
@@ -109,6 +127,7 @@
  *   tells which one it is:
  *       MSCHAP_AWAITS_RESPONSE  the record that was passed, with its new count and no other change
  *       MSCHAP_AWAITS_CHANGE    the record of an accepted change: the new hash, and the count 0
+ *       MSCHAP_AWAITS_CHANGE_1  the same, with one new hash or both
  *   Only the second is for mschap_write_account, which sets the time of the last change too: with
  *   the first, a password would be as new as the last Response, and never expire.
  *
@@ -214,11 +233,11 @@
  *   library makes and reads. They hold no pointer, so they may be copied, stored and read again.
  *   Each begins with its kind and the version of that kind's layout, MSCHAP_RECORD_LAYOUT and so
  *   on; one of another kind or version, of another size or with bytes that no value has is refused
- *   with MSCHAP_BAD_ARGUMENT. Records and answers have a new layout and size since 0.8.0, and
- *   conversations a new layout since 0.7.0: those that were stored before are refused. Make such a
- *   record again of what is known of the account (the library that stored it tells what is in it:
- *   mschap_read_record and mschap_record_failures), and open such a conversation again; one that
- *   0.7.0 stored goes on. The others are as 0.2.0 stored them.
+ *   with MSCHAP_BAD_ARGUMENT. Conversations have a new layout and size since 0.9.0, and records and
+ *   answers since 0.8.0: those that were stored before are refused. Open such a conversation again,
+ *   and make such a record again of what is known of the account (the library that stored it tells
+ *   what is in it: mschap_read_record and mschap_record_failures). The others are as 0.2.0 stored
+ *   them.
  *   Bytes are not signed: store values where nobody else writes (for records see ROUND KEYS too).
  *   Records, answers, passwords and a conversation that awaits a change, which keeps hashes and no
  *   round keys, hold secrets: store these where nobody else reads, too.
@@ -264,12 +283,12 @@ extern "C" {
 
 /* ---- versions */
 
-#define MSCHAP_VERSION 0x000800      /* of this interface: major, minor, patch, a byte each */
-#define MSCHAP_VERSION_TEXT "0.8.0"
+#define MSCHAP_VERSION 0x000900      /* of this interface: major, minor, patch, a byte each */
+#define MSCHAP_VERSION_TEXT "0.9.0"
 
 /* of the layout of each kind of value */
 #define MSCHAP_RECORD_LAYOUT 3       /* since 0.8.0, with the round keys of both hashes */
-#define MSCHAP_CONVERSATION_LAYOUT 3 /* since 0.7.0, with the limit */
+#define MSCHAP_CONVERSATION_LAYOUT 4 /* since 0.9.0, with the version of its change */
 #define MSCHAP_ANSWER_LAYOUT 5       /* since 0.8.0, with the record's round keys */
 #define MSCHAP_PEER_LAYOUT 1
 #define MSCHAP_PASSWORD_LAYOUT 1
@@ -319,7 +338,8 @@ extern "C" {
 #define MSCHAP_E_CHANGING_PASSWORD 709
 
 /* ---- what is wrong with a change of the password that drew MSCHAP_E_CHANGING_PASSWORD: the first
-        that holds, in this order. For the log, and never for the peer (see mschap_answer_fault).
+        that holds, in this order, of a version 2 change 1 to 6 and of a version 1 change 7 to 10.
+        For the log, and never for the peer (see mschap_answer_fault).
         Later versions may have further numbers: take one that is not here for an unknown fault. */
 
 #define MSCHAP_FAULT_NONE 0            /* with every other answer, a repeat of that Failure too */
@@ -332,26 +352,30 @@ extern "C" {
 #define MSCHAP_FAULT_OLD_HASH_WRONG 5  /* the old hash under the new one is not the one sent: not a
                                           mistyped old password, since the block could be opened */
 #define MSCHAP_FAULT_RESPONSE_WRONG 6  /* the response to the challenge is not the new password's */
-                                       /* of a version 1 change: */
-#define MSCHAP_FAULT_LM_NOT_ALLOWED 7  /* bit 0 of its flags is clear: it asks for LM alone, and this
-                                          box was not opened for LM */
-#define MSCHAP_FAULT_LENGTH_OVER_LM 8  /* bit 0 is clear, and the length is over 14 */
-#define MSCHAP_FAULT_HASH_ABSENT 9     /* the account has not the hash that bit 0 asks for */
-#define MSCHAP_FAULT_HASH_WRONG 10     /* the old hash under the challenge is not the one sent: mostly
+#define MSCHAP_FAULT_LM_NOT_ALLOWED 7  /* bit 0 of the packet's flags is clear, so that it is a
+                                          change by LM, and the conversation has no
+                                          MSCHAP_LM_ALLOWED */
+#define MSCHAP_FAULT_LENGTH_OVER_LM 8  /* bit 0 is clear, and the packet says that the new password
+                                          has over 14 bytes: no LM hash is made of such a one */
+#define MSCHAP_FAULT_HASH_ABSENT 9     /* the account has no NT hash, or no LM hash where bit 0 is
+                                          clear */
+#define MSCHAP_FAULT_HASH_WRONG 10     /* that hash under the challenge is not the one sent: mostly
                                           the old password is mistyped */
 
 /* ---- what a conversation awaits */
 
 #define MSCHAP_AWAITS_NOTHING 0  /* it has ended */
 #define MSCHAP_AWAITS_RESPONSE 2
-#define MSCHAP_AWAITS_CHANGE 6
+#define MSCHAP_AWAITS_CHANGE 6    /* a version 2 change of the password */
+#define MSCHAP_AWAITS_CHANGE_1 5  /* a version 1 change (see VERSION 1 CHANGES) */
 
 /* ---- what a reply calls for */
 
 #define MSCHAP_CALL_NONE 0       /* Success: the peer is in */
 #define MSCHAP_CALL_RESPONSE 1   /* another Response: mschap_write_response */
 #define MSCHAP_CALL_CHANGE 2     /* a new password: mschap_write_change */
-#define MSCHAP_CALL_CHANGE_1 3   /* a version 1 change of the password, which is not written here */
+#define MSCHAP_CALL_CHANGE_1 3   /* a new password, by a version 1 change, which whoever listens
+                                    can decrypt: mschap_write_change_1 */
 #define MSCHAP_CALL_END 4        /* hang up */
 
 /* ---- the flags of a record */
@@ -365,8 +389,8 @@ extern "C" {
 #define MSCHAP_EXPIRED 0x40        /* the password has expired: it must be changed */
 
 /* ---- the terms of a conversation: MSCHAP_TERMS joined by | with MSCHAP_LIMIT(n) and, where a
-        default is not what is wanted, with MSCHAP_RETRIES(n) and one of the two choices about LM;
-        each at most once */
+        default is not what is wanted, with MSCHAP_RETRIES(n), one of the two choices about LM and
+        one of the two changes; each at most once */
 
 #define MSCHAP_TERMS 0x10000u
 /* how many invalid Responses in a row lock an account, 1 to 255; no default (see LOCKOUT) */
@@ -375,6 +399,9 @@ extern "C" {
 #define MSCHAP_RETRIES(n) ((uint32_t)(n) < 254u ? (uint32_t)(n) + 1u : 255u)
 #define MSCHAP_LM_ALLOWED 0x100u  /* a response by LM is judged (see OLD PHONES) */
 #define MSCHAP_LM_REFUSED 0x200u  /* it is never valid; the default since 0.5.0 */
+#define MSCHAP_CHANGE_1 0x400u    /* a version 1 change is awaited after an expired password: for
+                                     handsets that know only code 5 (see VERSION 1 CHANGES) */
+#define MSCHAP_CHANGE_2 0x800u    /* a version 2 change is; the default */
 
 /* ---- sizes, in bytes */
 
@@ -386,7 +413,7 @@ extern "C" {
 #define MSCHAP_RESPONSE_SIZE 24
 #define MSCHAP_FILLER_SIZE 512
 #define MSCHAP_RECORD_SIZE 810
-#define MSCHAP_CONVERSATION_SIZE 60
+#define MSCHAP_CONVERSATION_SIZE 61
 #define MSCHAP_ANSWER_SIZE 814
 #define MSCHAP_PEER_SIZE 21
 #define MSCHAP_PASSWORD_SIZE 516
@@ -394,7 +421,8 @@ extern "C" {
 #define MSCHAP_LIST_SIZE(places) (4 + 8 * (places))    /* a list of so many places */
 #define MSCHAP_REPLY_SIZE 17                           /* the longest packet of the authenticator */
 #define MSCHAP_RESPONSE_PACKET 310                     /* the longest Response */
-#define MSCHAP_CHANGE_PACKET 1118                      /* every change */
+#define MSCHAP_CHANGE_PACKET 1118                      /* every version 2 change */
+#define MSCHAP_CHANGE_1_PACKET 72                      /* every version 1 change */
 
 /* ---- the longest inputs, in bytes */
 
@@ -599,7 +627,8 @@ uint32_t mschap_list_used(const uint8_t *list, size_t list_size);
    else is joined to them) and a challenge of MSCHAP_CHALLENGE_SIZE bytes, which must be
    unpredictable: from a CSPRNG. Writes the conversation and, at the front of reply, the Challenge
    to send; the bytes behind it are unchanged. The terms hold to the end of the conversation: no
-   packet allows LM in one that was opened without MSCHAP_LM_ALLOWED, and none moves the limit.
+   packet allows LM in one that was opened without MSCHAP_LM_ALLOWED, none moves the limit, and
+   none makes it take the other change.
 
    The list of issued challenges keeps a Response that was recorded at one authenticator from being
    accepted by another: pass the same list for all that know the same accounts, one opening at a
@@ -613,7 +642,7 @@ uint32_t mschap_list_used(const uint8_t *list, size_t list_size);
    identifier or other terms, for a challenge or a conversation of another size, or if list is no
    list; MSCHAP_NO_LIMIT; MSCHAP_RETRIES_RANGE; MSCHAP_REPLY_ROOM; MSCHAP_LIST; MSCHAP_SPENT;
    MSCHAP_LIST_FULL.
-   Stack: 1,520 bytes. */
+   Stack: 1,536 bytes. */
 uint32_t mschap_open(uint32_t identifier, uint32_t terms,
                      const uint8_t *challenge, size_t challenge_size,
                      uint8_t *list, size_t list_size,
@@ -685,7 +714,7 @@ uint32_t mschap_answer_fault(const mschap_answer *answer, size_t answer_size);
 /* The record that a step gives, to be stored in the place of the account's: after every judged
    Response for which there was an account, the record that was passed with its new count of
    failures, and its round keys as they were; after an accepted change of the password, the new one,
-   with those of its new hash. LOCKOUT says what is done with each: of the first an account file
+   with those of each new hash. LOCKOUT says what is done with each: of the first an account file
    gets nothing, and the second is for mschap_write_account.
    Returns MSCHAP_OK, with the record; MSCHAP_NO_RECORD if there is none, after a Response for which
    there was no account, a change that was not accepted, and a repeat, whose record was given when
@@ -695,20 +724,21 @@ uint32_t mschap_answer_fault(const mschap_answer *answer, size_t answer_size);
 uint32_t mschap_answer_record(const mschap_answer *answer, size_t answer_size,
                               mschap_record *record, size_t record_size);
 
-/* Returns what a conversation awaits: MSCHAP_AWAITS_RESPONSE, MSCHAP_AWAITS_CHANGE or
-   MSCHAP_AWAITS_NOTHING; MSCHAP_INVALID for an invalid conversation.
-   Stack: 512 bytes. */
+/* Returns what a conversation awaits, by the code of the packet: MSCHAP_AWAITS_RESPONSE,
+   MSCHAP_AWAITS_CHANGE, MSCHAP_AWAITS_CHANGE_1 or MSCHAP_AWAITS_NOTHING; MSCHAP_INVALID for an
+   invalid conversation.
+   Stack: 320 bytes. */
 uint32_t mschap_conversation_awaits(const mschap_conversation *conversation,
                                     size_t conversation_size);
 
 /* Returns the identifier of the packet that is awaited, 0 to 255 (of the last one, if none is);
    MSCHAP_INVALID for an invalid conversation.
-   Stack: 512 bytes. */
+   Stack: 320 bytes. */
 uint32_t mschap_conversation_identifier(const mschap_conversation *conversation,
                                         size_t conversation_size);
 
 /* Returns how many retries are left; MSCHAP_INVALID for an invalid conversation.
-   Stack: 512 bytes. */
+   Stack: 320 bytes. */
 uint32_t mschap_conversation_retries(const mschap_conversation *conversation,
                                      size_t conversation_size);
 
@@ -764,10 +794,10 @@ uint32_t mschap_read_challenge(const uint8_t *packet, size_t packet_size,
 /* Reads the reply to the packet that the peer wrote last: a Success or a Failure. Writes what it
    calls for, MSCHAP_CALL_NONE and so on, into *call, and the reason, MSCHAP_SUCCESS or the
    Failure's (any number; the known ones are MSCHAP_E_..), into *reason, and readies the peer for
-   its next packet, which is written only if *call is MSCHAP_CALL_RESPONSE or MSCHAP_CALL_CHANGE. A
-   reply that comes twice may be read twice: it says the same, and gives the same peer. A packet
-   that is refused changes nothing; so an old reply, which is refused by MSCHAP_IDENTIFIER, does no
-   harm.
+   its next packet, which is written only if *call is MSCHAP_CALL_RESPONSE, MSCHAP_CALL_CHANGE or
+   MSCHAP_CALL_CHANGE_1. A reply that comes twice may be read twice: it says the same, and gives the
+   same peer. A packet that is refused changes nothing; so an old reply, which is refused by
+   MSCHAP_IDENTIFIER, does no harm.
    Returns MSCHAP_OK; MSCHAP_BAD_ARGUMENT for an invalid peer; MSCHAP_FRAME; MSCHAP_IDENTIFIER for
    another identifier than that of the packet that was written last, or if none was written;
    MSCHAP_READING for another kind of packet, or a message that cannot be read.
@@ -800,6 +830,20 @@ uint32_t mschap_write_change(mschap_peer *peer, size_t peer_size,
                              const uint8_t *filler, size_t filler_size,
                              uint8_t *out, size_t out_size);
 
+/* Writes the peer's version 1 change from an old to a new password, at the front of out:
+   MSCHAP_CHANGE_1_PACKET bytes; those behind it are unchanged. It has both NT hashes, each
+   encrypted under the challenge, bit 0 of the flags set, zeros for the LM hashes and 65535 for the
+   password's length, so that no LM hash is taken from it. No filler hides anything: whoever has
+   heard the Challenge decrypts both hashes (see VERSION 1 CHANGES). A program that would rather
+   give up takes MSCHAP_CALL_CHANGE_1 for MSCHAP_CALL_END.
+   Returns MSCHAP_OK; MSCHAP_BAD_ARGUMENT for an invalid peer or password; MSCHAP_ROOM if out is too
+   small.
+   Stack: 2,480 bytes. */
+uint32_t mschap_write_change_1(mschap_peer *peer, size_t peer_size,
+                               const mschap_password *old_password, size_t old_password_size,
+                               const mschap_new_password *new_password, size_t new_password_size,
+                               uint8_t *out, size_t out_size);
+
 /* ---- ciphers, hashes and the challenge response, for those who need the parts */
 
 /* The MD4 digest (RFC 1320) of at most MSCHAP_MD4_INPUT_MAX bytes.
@@ -825,7 +869,7 @@ uint32_t mschap_des_encrypt(const uint8_t *key, size_t key_size,
 
 /* The inverse of mschap_des_encrypt.
    Returns MSCHAP_OK; MSCHAP_BAD_ARGUMENT for another size.
-   Stack: 2,368 bytes. */
+   Stack: 2,400 bytes. */
 uint32_t mschap_des_decrypt(const uint8_t *key, size_t key_size,
                             uint8_t *block, size_t block_size);
 

@@ -8,8 +8,8 @@ use message::reasons;
 use verify::ChangeVersion;
 use verify::Terms;
 
-// V of our Failures.
-fn version(change: ChangeVersion) -> u8
+// The number of a version: V of our Failures.
+pub fn version(change: ChangeVersion) -> u8
     ensures { λ r. ⌜ r ≡ version change ⌝ }
 {
     match change {

@@ -34,6 +34,7 @@ pub use admit::awaited_code;
 use admit::awaits_response;
 use admit::is_repeat;
 pub use encode::reason_of;
+pub use encode::version;
 use encode::write_reply;
 use verify::ChangeFault;
 use verify::Terms;

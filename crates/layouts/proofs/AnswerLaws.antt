@@ -112,12 +112,12 @@ length-encoded-answer bytes e =
 
 -- ---- the byte of the fault
 
--- what is taken for an answer has the number of a fault there: 7 to 255 are none
+-- what is taken for an answer has the number of a fault there: 11 to 255 are none
 pub fault-byte : (bytes : List ℕ) → layout.isEncodedAnswer bytes ≡ true
-    → octet (tagSize + layout.faultAt) bytes < 7
+    → octet (tagSize + layout.faultAt) bytes < 11
 unfolding layout.encodeResult
 fault-byte bytes e =
-    subst (λ (n : ℕ). n < 7)
+    subst (λ (n : ℕ). n < 11)
     (ap (octet 5) (answer-head bytes e)
     ∙ getD-take layout.answerHeadSize bytes 5 0 (omega arith))
     (fault-small (layout.decodeAnswer bytes .fault))

@@ -11,7 +11,10 @@ use lib.Seq.{take-all}
 use Rattle.octets.specs.Parts.{part, fixed}
 use Rattle.octets.proofs.Parts.{fixed-same, length-fixed}
 use Rattle.packets.proofs.Framing.{field}
+use Rattle.verify.specs.declared.ChangeVersion.{ChangeVersion}
+use Rattle.verify.specs.declared.ChangeVersion.the-variants.{One, Two}
 use Rattle.authenticator.specs.Conversation.{awaitedCode, withLast}
+use Rattle.authenticator.specs.Encode.{version}
 use Rattle.authenticator.specs.Judge.{reasonOf}
 use Rattle.accounts.specs.declared.Entry.{Entry}
 use Rattle.authenticator.specs.declared.Conversation.{Conversation}
@@ -28,12 +31,12 @@ use Rattle.layouts.proofs.RecordLaws.{SizedEntry, decoded-entry-sized, 
 use Rattle.layouts.proofs.RecordLaws.{flag-back, entry-back}
 use Rattle.layouts.proofs.LastAnswerLaws.{length-last, decoded-reason, last-back}
 
-pub conversation-same : {t t' : Bool} {m m' i i' r r' : ℕ} {c c' : List ℕ} {p p' : Phase}
-    {k k' : Entry} {l l' : LastAnswer} → t ≡ t' → m ≡ m' → i ≡ i' → c ≡ c' → r ≡ r' → p ≡ p'
-    → k ≡ k' → l ≡ l'
+pub conversation-same : {t t' : Bool} {m m' i i' r r' : ℕ} {v v' : ChangeVersion} {c c' : List ℕ}
+    {p p' : Phase} {k k' : Entry} {l l' : LastAnswer} → t ≡ t' → m ≡ m' → v ≡ v' → i ≡ i' → c ≡ c'
+    → r ≡ r' → p ≡ p' → k ≡ k' → l ≡ l'
     → _≡_ {A = Conversation}
     (record {
-      terms = record { lm = t; limit = m };
+      terms = record { lm = t; limit = m; change = v };
       id = i;
       challenge = c;
       retries = r;
@@ -42,7 +45,7 @@ pub conversation-same : {t t' : Bool} {m m' i i' r r' : ℕ} {c c' : List ℕ} {
       last = l;
     })
     (record {
-      terms = record { lm = t'; limit = m' };
+      terms = record { lm = t'; limit = m'; change = v' };
       id = i';
       challenge = c';
       retries = r';
@@ -50,19 +53,20 @@ pub conversation-same : {t t' : Bool} {m m' i i' r r' : ℕ} {c c' : List ℕ} {
       kept = k';
       last = l';
     })
-conversation-same e₁ e₂ e₃ e₄ e₅ e₆ e₇ e₈ = cc
+conversation-same e₁ e₂ e₃ e₄ e₅ e₆ e₇ e₈ e₉ = cc
 
-pub state-pieces : (c : Conversation) {code : ℕ} → code ≡ awaitedCode (c .phase)
-    → (code ∷ records.flag (c .terms .lm) ∷ c .terms .limit ∷ c .id ∷ c .retries
+pub state-pieces : (c : Conversation) {code number : ℕ}
+    → code ≡ awaitedCode (c .terms .change) (c .phase) → number ≡ version (c .terms .change)
+    → (code ∷ records.flag (c .terms .lm) ∷ c .terms .limit ∷ number ∷ c .id ∷ c .retries
     ∷ (c .challenge ++ records.encodeEntry (c .kept)))
     ++ encodeLast (c .last)
     ≡ layout.encodeState c
 unfolding layout.encodeState
-state-pieces c e =
+state-pieces c e f =
     ap₂
-    (λ (code : ℕ) (l : List ℕ). code ∷ records.flag (c .terms .lm) ∷ c .terms .limit ∷ c .id
-    ∷ c .retries ∷ l) e
-    (append-assoc (c .challenge) (records.encodeEntry (c .kept)) (encodeLast (c .last)))
+    (λ (code : ℕ) (l : List ℕ). code ∷ records.flag (c .terms .lm) ∷ c .terms .limit ∷ l) e
+    (ap₂ (λ (number : ℕ) (l : List ℕ). number ∷ c .id ∷ c .retries ∷ l) f
+    (append-assoc (c .challenge) (records.encodeEntry (c .kept)) (encodeLast (c .last))))
 
 -- ---- the sizes of a value's arrays, which the code's types fix
 
@@ -94,16 +98,22 @@ pub length-encoded-conversation : (bytes : List ℕ) → layout.isEncodedConvers
     → length bytes ≡ layout.conversationSize
 unfolding layout.isEncodedConversation
 length-encoded-conversation =
-    encoding-length layout.encodeConversation layout.decodeConversation 60
+    encoding-length layout.encodeConversation layout.decodeConversation 61
     (λ (bytes : List ℕ). ap (λ (n : ℕ). suc (suc n))
     (length-state (layout.decodeConversation bytes) (decoded-conversation-sized bytes)))
 
 -- ---- round trip
 
-phase-back : (p : Phase) → layout.phaseOf (awaitedCode p) ≡ p
-phase-back Response = refl
-phase-back Change = refl
-phase-back Ended = refl
+version-back : (v : ChangeVersion) → layout.versionFrom (version v) ≡ v
+version-back One = refl
+version-back Two = refl
+
+phase-back : (v : ChangeVersion) (p : Phase) → layout.phaseOf v (awaitedCode v p) ≡ p
+phase-back v Response = refl
+phase-back One Change = refl
+phase-back Two Change = refl
+phase-back One Ended = refl
+phase-back Two Ended = refl
 
 module _ (c : Conversation) (s : SizedConversation c) where
   -- all but the last answer, whose reason may be of more than two bytes here
@@ -111,13 +121,20 @@ module _ (c : Conversation) (s : SizedConversation c) where
       ≡ withLast (decodeLast (encodeLast (c .last))) c
   unfolding layout.encodeState layout.decodeState
   state-again =
-      conversation-same (flag-back (c .terms .lm)) refl refl
+      conversation-same (flag-back (c .terms .lm)) refl change refl
       (ap (fixed 8) (challenge .0) ∙ fixed-same 8 (c .challenge) (s .challenge)) refl
-      (phase-back (c .phase))
+      (ap (λ (v : ChangeVersion). layout.phaseOf v code) change
+      ∙ phase-back (c .terms .change) (c .phase))
       (ap records.decodeEntry (account .0) ∙ entry-back (c .kept) (s .kept))
       (ap (λ (l : List ℕ). decodeLast (take 6 l)) (account .1)
       ∙ ap decodeLast (take-all 6 last (omega (arith, length-last (c .last)))))
     where
+      code : ℕ
+      code = awaitedCode (c .terms .change) (c .phase)
+
+      change : layout.versionFrom (version (c .terms .change)) ≡ c .terms .change
+      change = version-back (c .terms .change)
+
       kept : List ℕ
       kept = records.encodeEntry (c .kept)
 
@@ -126,22 +143,22 @@ module _ (c : Conversation) (s : SizedConversation c) where
 
       bytes : List ℕ
       bytes =
-          awaitedCode (c .phase) ∷ records.flag (c .terms .lm) ∷ c .terms .limit ∷ c .id
+          code ∷ records.flag (c .terms .lm) ∷ c .terms .limit ∷ version (c .terms .change) ∷ c .id
           ∷ c .retries
           ∷ (c .challenge ++ (kept ++ last))
 
-      challenge : (part 5 8 bytes ≡ c .challenge) × (drop 13 bytes ≡ kept ++ last)
-      challenge = field bytes 5 8 (c .challenge) (kept ++ last) refl (s .challenge)
+      challenge : (part 6 8 bytes ≡ c .challenge) × (drop 14 bytes ≡ kept ++ last)
+      challenge = field bytes 6 8 (c .challenge) (kept ++ last) refl (s .challenge)
 
-      account : (part 13 39 bytes ≡ kept) × (drop 52 bytes ≡ last)
+      account : (part 14 39 bytes ≡ kept) × (drop 53 bytes ≡ last)
       account =
-          field bytes 13 39 kept last (challenge .1) (length-entry (c .kept) (s .kept))
+          field bytes 14 39 kept last (challenge .1) (length-entry (c .kept) (s .kept))
 
   again : layout.decodeConversation (layout.encodeConversation c)
       ≡ withLast (decodeLast (encodeLast (c .last))) c
   again =
       ap layout.decodeState
-      (take-all 58 (layout.encodeState c) (omega (arith, length-state c s)))
+      (take-all 59 (layout.encodeState c) (omega (arith, length-state c s)))
       ∙ state-again
 
   pub conversation-back : reasonOf (c .last .reply) < 65536

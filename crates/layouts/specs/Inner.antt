@@ -6,7 +6,7 @@ use Rattle.octets.specs.Parts.{fixed}
 
 -- the bytes of room for any one body: the largest is a conversation's
 abbrev pub roomSize : ℕ
-roomSize = 58
+roomSize = 59
 
 -- room that holds a body, and bytes 0 behind it
 abbrev pub inRoom : List ℕ → List ℕ

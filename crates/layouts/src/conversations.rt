@@ -16,18 +16,21 @@ use crate::room::put_flag;
 use crate::room::put_value;
 use authenticator::Conversation;
 use authenticator::Phase;
+use authenticator::awaited_code;
+use verify::ChangeVersion;
 use verify::Terms;
 ghost use mathlib.Core.Path.{_≡_};
 ghost use Rattle.octets.specs.Parts.{agrees};
 ghost use Rattle.layouts.specs.Call.{Fills, sized};
-ghost use Rattle.layouts.specs.Conversations.{phaseOf, encodeState, decodeState};
+ghost use Rattle.layouts.specs.Conversations.{versionFrom, phaseOf};
+ghost use Rattle.layouts.specs.Conversations.{encodeState, decodeState};
 ghost use Rattle.layouts.specs.Conversations.{encodeConversation, decodeConversation};
 ghost use Rattle.layouts.specs.Conversations.{isEncodedConversation, conversationSize};
 ghost use Rattle.layouts.specs.Inner.{inRoom};
 
-const STATE_SIZE: usize = 58;
+const STATE_SIZE: usize = 59;
 
-pub const CONVERSATION_SIZE: usize = 60;
+pub const CONVERSATION_SIZE: usize = 61;
 
 // C
 pub(crate) const CONVERSATION_KIND: u8 = 67;
@@ -38,23 +41,34 @@ const LM_ALLOWED_AT: usize = 1;
 
 const LIMIT_AT: usize = 2;
 
-const IDENTIFIER_AT: usize = 3;
+const CHANGE_AT: usize = 3;
 
-const RETRIES_AT: usize = 4;
+const IDENTIFIER_AT: usize = 4;
 
-const CHALLENGE_AT: usize = 5;
+const RETRIES_AT: usize = 5;
 
-const KEPT_AT: usize = 13;
+const CHALLENGE_AT: usize = 6;
 
-const LAST_AT: usize = 52;
+const KEPT_AT: usize = 14;
 
-fn phase_of(code: u8) -> Phase
-    ensures { λ r. ⌜ r ≡ phaseOf code ⌝ }
+const LAST_AT: usize = 53;
+
+fn version_from(n: u8) -> ChangeVersion
+    ensures { λ r. ⌜ r ≡ versionFrom n ⌝ }
+{
+    if n == 1 {
+        return ChangeVersion::One;
+    }
+    ChangeVersion::Two
+}
+
+fn phase_of(change: ChangeVersion, code: u8) -> Phase
+    ensures { λ r. ⌜ r ≡ phaseOf change code ⌝ }
 {
     if code == packets::RESPONSE_CODE {
         return Phase::Response;
     }
-    if code == packets::CHANGE_CODE {
+    if code == awaited_code(change, Phase::Change) {
         return Phase::Change;
     }
     Phase::Ended
@@ -65,12 +79,14 @@ fn encode_state(conversation: Conversation) -> Room
 {
     let phase = conversation.phase;
     let terms = conversation.terms;
+    let change = terms.change;
     let challenge = conversation.challenge;
     let kept = conversation.kept;
     let last = conversation.last;
-    let mut room = put_byte(empty_room(), AWAITED_AT, authenticator::awaited_code(phase));
+    let mut room = put_byte(empty_room(), AWAITED_AT, awaited_code(change, phase));
     room = put_flag(room, LM_ALLOWED_AT, terms.lm);
     room = put_byte(room, LIMIT_AT, terms.limit);
+    room = put_byte(room, CHANGE_AT, authenticator::version(change));
     room = put_byte(room, IDENTIFIER_AT, conversation.id);
     room = put_byte(room, RETRIES_AT, conversation.retries);
     room = put_eight(room, CHALLENGE_AT, challenge);
@@ -81,16 +97,17 @@ fn encode_state(conversation: Conversation) -> Room
 fn decode_state(bytes: &[u8]) -> Conversation
     ensures { λ r. ⌜ r ≡ decodeState (now (bytes .entry)) ⌝ }
 {
-    let phase = phase_of(packets::octet(bytes, AWAITED_AT));
     let lm = is_flag(packets::octet(bytes, LM_ALLOWED_AT));
     let limit = packets::octet(bytes, LIMIT_AT);
+    let change = version_from(packets::octet(bytes, CHANGE_AT));
+    let phase = phase_of(change, packets::octet(bytes, AWAITED_AT));
     let id = packets::octet(bytes, IDENTIFIER_AT);
     let retries = packets::octet(bytes, RETRIES_AT);
     let challenge = octets::eight_at(bytes, CHALLENGE_AT);
     let kept = decode_entry(octets::part_of(bytes, KEPT_AT, ENTRY_SIZE));
     let last = decode_last(octets::part_of(bytes, LAST_AT, LAST_SIZE));
     Conversation {
-        terms: Terms { lm, limit },
+        terms: Terms { lm, limit, change },
         id,
         challenge,
         retries,

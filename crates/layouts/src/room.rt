@@ -14,11 +14,11 @@ ghost use Rattle.layouts.specs.Values.{layoutVersion, tagged};
 ghost use Rattle.layouts.specs.Records.{flag};
 ghost use Rattle.layouts.specs.Inner.{roomSize};
 
-const ROOM_SIZE: usize = 58;
+const ROOM_SIZE: usize = 59;
 
 pub(crate) const TAG_SIZE: usize = 2;
 
-const VALUE_SIZE: usize = 60;
+const VALUE_SIZE: usize = 61;
 
 pub(crate) struct Room {
     pub bytes: [u8; ROOM_SIZE],
@@ -84,7 +84,7 @@ pub(crate) fn layout_version(kind: u8) -> u8
         return 3;
     }
     if kind == CONVERSATION_KIND {
-        return 3;
+        return 4;
     }
     if kind == ANSWER_KIND {
         return 5;

@@ -17,6 +17,7 @@ use Rattle.authenticator.specs.Opening.{Opening, OpenedAs, opened, openedIssued
 use Rattle.authenticator.specs.Opening.{openRefusal}
 use Rattle.authenticator.specs.declared.Retries.{Retries}
 use Rattle.authenticator.specs.declared.LmChoice.{LmChoice}
+use Rattle.authenticator.specs.declared.ChangeChoice.{ChangeChoice}
 use Rattle.authenticator.specs.declared.Opened.{Opened}
 use Rattle.authenticator.proofs.Openings.{opened-number}
 use Rattle.layouts.specs.Call.{Fills, sized, numbered, afterCall}
@@ -52,12 +53,12 @@ passed id terms challenge list conversation e =
     let h₁ = both (ltb id 256) _ e in
     let h₂ = both (isTerms terms) _ (h₁ .1) in
     let h₃ = both (sized 8 challenge) _ (h₂ .1) in
-    let h₄ = both (isList list) (sized 60 conversation) (h₃ .1) in
+    let h₄ = both (isList list) (sized 61 conversation) (h₃ .1) in
     record {
       small = h₁ .0;
       eight = eqb-true (length challenge) 8 (h₃ .0);
       head = list-head list (h₄ .0);
-      room = eqb-true (length conversation) 60 (h₄ .1);
+      room = eqb-true (length conversation) 61 (h₄ .1);
     }
 
 -- ---- a refused opening leaves the reply buffer alone
@@ -84,20 +85,31 @@ no-limit-refused id terms challenge list reply h =
 
 -- ---- the opening on a list that is encoded
 
-pub opening-same : {c c' : List ℕ} {r r' : Retries} {l l' : LmChoice} {m m' : ℕ} {i i' : Issued}
-    (id : ℕ) (buffer : List ℕ) → c ≡ c' → r ≡ r' → l ≡ l' → m ≡ m' → i ≡ i'
+pub opening-same : {c c' : List ℕ} {r r' : Retries} {l l' : LmChoice}
+    {v v' : ChangeChoice} {m m' : ℕ} {i i' : Issued} (id : ℕ) (buffer : List ℕ) → c ≡ c' → r ≡ r'
+    → l ≡ l' → v ≡ v' → m ≡ m' → i ≡ i'
     → _≡_ {A = Opening}
-    (record { id = id; challenge = c; retries = r; lm = l; limit = m; issued = i; buffer = buffer })
+    (record {
+      id = id;
+      challenge = c;
+      retries = r;
+      lm = l;
+      change = v;
+      limit = m;
+      issued = i;
+      buffer = buffer;
+    })
     (record {
       id = id;
       challenge = c';
       retries = r';
       lm = l';
+      change = v';
       limit = m';
       issued = i';
       buffer = buffer;
     })
-opening-same id buffer e₁ e₂ e₃ e₄ e₅ = cc
+opening-same id buffer e₁ e₂ e₃ e₄ e₅ e₆ = cc
 
 -- the places are all that follows the head
 pub places-whole : (list : List ℕ) → take (length list - 4) (drop 4 list) ≡ drop 4 list

@@ -11,6 +11,7 @@ use Rattle.layouts.specs.Call.{sized, numbered, afterCall}
 use Rattle.layouts.specs.Lists.{encodeList, decodeList, isList}
 use Rattle.layouts.specs.Conversations.{conversationSize, encodeConversation}
 use Rattle.numbers.specs.Terms.{isTerms, retriesFor, retriesTerm, lmFor, lmTerm, limitTerm}
+use Rattle.numbers.specs.Terms.{changeFor, changeTerm}
 
 -- identifiers are below this
 abbrev pub identifiersEnd : ℕ
@@ -24,6 +25,7 @@ openingFor id terms challenge list reply =
       challenge = challenge;
       retries = retriesFor (retriesTerm terms);
       lm = lmFor (lmTerm terms);
+      change = changeFor (changeTerm terms);
       limit = limitTerm terms;
       issued = decodeList list;
       buffer = reply;

@@ -11,6 +11,6 @@ keySize = 7
 abbrev pub desBlockSize : ℕ
 desBlockSize = 8
 
--- 0.8.0: major, minor and patch, a byte each
+-- 0.9.0: major, minor and patch, a byte each
 abbrev pub interfaceVersion : ℕ
-interfaceVersion = 2048
+interfaceVersion = 2304

@@ -14,8 +14,11 @@ pub extern "C" fn mschap_conversation_awaits(conversation: &[u8]) -> u32
     if !is_encoded_conversation(conversation) {
         return INVALID;
     }
-    let phase = decode_conversation(conversation).phase;
-    authenticator::awaited_code(phase) as u32
+    let decoded = decode_conversation(conversation);
+    let terms = decoded.terms;
+    let change = terms.change;
+    let phase = decoded.phase;
+    authenticator::awaited_code(change, phase) as u32
 }
 
 // The identifier that it awaits.

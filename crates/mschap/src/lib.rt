@@ -14,8 +14,8 @@ mod steps;
 ghost use mathlib.Core.Path.{_≡_};
 ghost use Rattle.mschap.specs.Sizes.{interfaceVersion};
 
-// 0.8.0: major, minor and patch, a byte each.
-const INTERFACE_VERSION: u32 = 2048;
+// 0.9.0: major, minor and patch, a byte each.
+const INTERFACE_VERSION: u32 = 2304;
 
 // The version of the interface.
 #[no_mangle]

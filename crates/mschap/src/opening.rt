@@ -9,6 +9,7 @@ use layouts::places_in;
 use layouts::put_conversation;
 use layouts::put_list_head;
 use layouts::used_in;
+use numbers::change_in;
 use numbers::is_terms;
 use numbers::limit_in;
 use numbers::lm_in;
@@ -52,6 +53,7 @@ fn open_on(id: u8, terms: u32, challenge: &[u8], list: &mut [u8], reply: &mut [u
     let sent = octets::eight_at(challenge, 0);
     let tries = retries_in(terms);
     let choice = lm_in(terms);
+    let change = change_in(terms);
     let limit = limit_in(terms);
     let used = used_in(list) as usize;
     let mut counts = issued::true_counts(places_in(list), used, CHALLENGE_SIZE).counts;
@@ -60,6 +62,7 @@ fn open_on(id: u8, terms: u32, challenge: &[u8], list: &mut [u8], reply: &mut [u
         sent,
         tries,
         choice,
+        change,
         limit,
         &mut list[LIST_HEAD_SIZE..],
         used,

@@ -1,7 +1,7 @@
-// The peer: what it reads, and its two packets. The caller keeps its encoding between the calls.
+// The peer: what it reads, and its three packets. The caller keeps its encoding between the calls.
 ghost use Rattle.peer_calls.specs.Calls.{ChallengeCall, ReplyCall, WriteCall};
 ghost use Rattle.peer_calls.specs.Calls.{responseArguments, responseFrom};
-ghost use Rattle.peer_calls.specs.Calls.{changeArguments, changeFrom};
+ghost use Rattle.peer_calls.specs.Calls.{changeArguments, changeFrom, changeOneFrom};
 
 // Reads a Challenge, and writes the peer that is to answer it. 3: the frame. 11: another kind, cut
 // short, or of a size other than 8.
@@ -62,4 +62,21 @@ pub extern "C" fn mschap_write_change(
         (now (peer .entry)) (now (out .entry)) r (now (peer .exit)) (now (out .exit)) ⌝ }
 {
     peer_calls::write_change(peer, old, new, filler, out)
+}
+
+// Writes the version 1 change of the turn at the front of out; the peer has then sent it. 9: too
+// little room.
+#[no_mangle]
+pub extern "C" fn mschap_write_change_1(
+    peer: &mut [u8],
+    old: &[u8],
+    new: &[u8],
+    out: &mut [u8],
+) -> u32
+    ensures { λ r. ⌜ WriteCall
+        (changeArguments (now (peer .entry)) (now (old .entry)) (now (new .entry)))
+        (changeOneFrom (now (peer .entry)) (now (old .entry)) (now (new .entry)) (now (out .entry)))
+        (now (peer .entry)) (now (out .entry)) r (now (peer .exit)) (now (out .exit)) ⌝ }
+{
+    peer_calls::write_change_one(peer, old, new, out)
 }

@@ -13,6 +13,7 @@ pub use results::no_record_refusal;
 pub use results::number_of;
 pub use results::result_of;
 pub use results::verdict_number;
+pub use terms::change_in;
 pub use terms::is_terms;
 pub use terms::limit_in;
 pub use terms::lm_in;

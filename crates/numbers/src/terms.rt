@@ -1,15 +1,19 @@
 // The terms of an opening as C passes them.
+use authenticator::ChangeChoice;
 use authenticator::LmChoice;
 use authenticator::Retries;
 use refusals::both;
 ghost use mathlib.Core.Path.{_≡_};
-ghost use Rattle.numbers.specs.Terms.{isTerms, retriesFor, lmFor};
-ghost use Rattle.numbers.specs.Terms.{retriesTerm, lmTerm, limitTerm};
+ghost use Rattle.numbers.specs.Terms.{isTerms, retriesFor, lmFor, changeFor};
+ghost use Rattle.numbers.specs.Terms.{retriesTerm, lmTerm, changeTerm, limitTerm};
 
 pub fn is_terms(terms: u32) -> bool
     ensures { λ r. ⌜ r ≡ isTerms terms ⌝ }
 {
-    both(terms / 65536 % 256 == 1, terms / 256 % 256 < 3)
+    both(
+        terms / 65536 % 256 == 1,
+        both(terms / 256 % 4 < 3, terms / 1024 % 64 < 3),
+    )
 }
 
 fn retries_for(n: u8) -> Retries
@@ -33,6 +37,18 @@ fn lm_for(n: u8) -> LmChoice
     LmChoice::Disallowed
 }
 
+fn change_for(n: u8) -> ChangeChoice
+    ensures { λ r. ⌜ r ≡ changeFor n ⌝ }
+{
+    if n == 0 {
+        return ChangeChoice::Unspecified;
+    }
+    if n == 1 {
+        return ChangeChoice::VersionOne;
+    }
+    ChangeChoice::VersionTwo
+}
+
 pub fn retries_in(terms: u32) -> Retries
     ensures { λ r. ⌜ r ≡ retriesFor (retriesTerm terms) ⌝ }
 {
@@ -42,7 +58,13 @@ pub fn retries_in(terms: u32) -> Retries
 pub fn lm_in(terms: u32) -> LmChoice
     ensures { λ r. ⌜ r ≡ lmFor (lmTerm terms) ⌝ }
 {
-    lm_for((terms / 256 % 256) as u8)
+    lm_for((terms / 256 % 4) as u8)
+}
+
+pub fn change_in(terms: u32) -> ChangeChoice
+    ensures { λ r. ⌜ r ≡ changeFor (changeTerm terms) ⌝ }
+{
+    change_for((terms / 1024 % 64) as u8)
 }
 
 // How many invalid Responses in a row lock an account; 0 where the terms say nothing of it.

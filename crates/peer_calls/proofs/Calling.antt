@@ -10,16 +10,17 @@ use Rattle.message.specs.declared.Verdict.{Verdict}
 use Rattle.peer.specs.Peer as peers
 use Rattle.peer.specs.Write.{Wrote, wroteBy, writeResponse, writeResponseRefusal, responseFor}
 use Rattle.peer.specs.Write.{writeChange, writeChangeRefusal, changeFor}
+use Rattle.peer.specs.Write.{writeChangeOne, writeChangeOneRefusal, changeOneFor}
 use Rattle.peer.specs.declared.Peer.{Peer}
 use Rattle.peer.specs.declared.Turn.{Turn}
 use Rattle.peer.specs.declared.PacketWritten.{PacketWritten}
 use Rattle.peer.specs.declared.ReplyRead.{ReplyRead}
 use Rattle.layouts.specs.Call.{Fills, sized, numbered, afterCall}
 use Rattle.layouts.specs.Peers.{peerSize, encodePeer, decodePeer, isEncodedPeer}
-use Rattle.layouts.proofs.Filling.{fills-number}
+use Rattle.layouts.proofs.Filling.{both, fills-number}
 use Rattle.layouts.proofs.PeerLaws.{length-encoded-peer}
 use Rattle.numbers.specs.Results.{callIn, failureReason}
-use Rattle.peer_calls.specs.Calls.{ReplyCall, WriteCall}
+use Rattle.peer_calls.specs.Calls.{ReplyCall, changeArguments, WriteCall}
 
 -- ---- a reply
 
@@ -95,7 +96,19 @@ unfolding writeChange
 change-kept old new filler out t =
     wrote-kept (writeChangeRefusal old new filler out) (changeFor t old new filler) out
 
--- either of them, by what it writes for a turn
+pub change-one-kept : (old new out : List ℕ) (t : Turn)
+    → Kept out (writeChangeOne t old new out)
+unfolding writeChangeOne
+change-one-kept old new out t =
+    wrote-kept (writeChangeOneRefusal old new out) (changeOneFor t old new) out
+
+-- where the arguments of a change are valid, the peer is
+pub change-encoded : (peer old new : List ℕ) → changeArguments peer old new ≡ true
+    → isEncodedPeer peer ≡ true
+unfolding changeArguments
+change-encoded peer old new e = both (isEncodedPeer peer) _ e .0
+
+-- any of them, by what it writes for a turn
 module _ (writes : Turn → Wrote) (peer out : List ℕ) (valid : Bool) (good : valid ≡ true)
     (encoded : isEncodedPeer peer ≡ true) (kept : (t : Turn) → Kept out (writes t)) where
   abbrev wrote : Wrote

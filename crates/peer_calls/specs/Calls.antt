@@ -7,7 +7,7 @@ use Prim.Native.Nat.{ℕ}
 use Rattle.message.specs.Message.{verdictRefusal}
 use Rattle.packets.specs.Reply.{readChallenge}
 use Rattle.peer.specs.Peer.{afterChallenge, afterWriting, peerReads, afterReply}
-use Rattle.peer.specs.Write.{Wrote, writeResponse, writeChange}
+use Rattle.peer.specs.Write.{Wrote, writeResponse, writeChange, writeChangeOne}
 use Rattle.layouts.specs.Call.{Fills, sized, numbered, afterCall}
 use Rattle.layouts.specs.Passwords.{decodePassword, isEncodedPassword}
 use Rattle.layouts.specs.Peers.{peerSize, encodePeer, decodePeer, isEncodedPeer}
@@ -43,6 +43,10 @@ responseFrom peer password name out =
 abbrev pub changeFrom : List ℕ → List ℕ → List ℕ → List ℕ → List ℕ → Wrote
 changeFrom peer old new filler out =
     writeChange (decodePeer peer .turn) (decodePassword old) (decodePassword new) filler out
+
+abbrev pub changeOneFrom : List ℕ → List ℕ → List ℕ → List ℕ → Wrote
+changeOneFrom peer old new out =
+    writeChangeOne (decodePeer peer .turn) (decodePassword old) (decodePassword new) out
 
 unfoldable pub responseArguments : List ℕ → List ℕ → Bool
 responseArguments peer password = isEncodedPeer peer && isEncodedPassword password

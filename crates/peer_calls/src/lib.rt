@@ -1,5 +1,5 @@
-// The peer in a buffer of C's: what it reads, and its two packets. The caller keeps its encoding
-// between the calls. What a call returns and leaves is said here; `mschap` exports the four under
+// The peer in a buffer of C's: what it reads, and its three packets. The caller keeps its encoding
+// between the calls. What a call returns and leaves is said here; `mschap` exports the five under
 // their names in C. Every public function is total.
 use layouts::BAD_ARGUMENT;
 use layouts::decode_password;
@@ -16,7 +16,8 @@ use refusals::both;
 ghost use mathlib.Core.Path.{_≡_};
 ghost use Rattle.peer_calls.specs.Calls.{ChallengeCall};
 ghost use Rattle.peer_calls.specs.Calls.{ReplyCall, responseArguments, changeArguments};
-ghost use Rattle.peer_calls.specs.Calls.{responseFrom, changeFrom, WriteCall};
+ghost use Rattle.peer_calls.specs.Calls.{responseFrom, changeFrom, changeOneFrom};
+ghost use Rattle.peer_calls.specs.Calls.{WriteCall};
 
 // Reads a Challenge, and writes the peer that is to answer it. 3: the frame. 11: another kind, cut
 // short, or of a size other than 8.
@@ -104,6 +105,24 @@ pub fn write_change(peer: &mut [u8], old: &[u8], new: &[u8], filler: &[u8], out:
     }
     let before = decode_peer(peer);
     let wrote = before.write_change(decode_password(old), decode_password(new), filler, out);
+    let written = wrote.written;
+    let next = wrote.peer;
+    put_peer(written.refusal, next, peer)
+}
+
+// Writes the version 1 change of the turn at the front of out; the peer has then sent it. 9: too
+// little room.
+pub fn write_change_one(peer: &mut [u8], old: &[u8], new: &[u8], out: &mut [u8]) -> u32
+    ensures { λ r. ⌜ WriteCall
+        (changeArguments (now (peer .entry)) (now (old .entry)) (now (new .entry)))
+        (changeOneFrom (now (peer .entry)) (now (old .entry)) (now (new .entry)) (now (out .entry)))
+        (now (peer .entry)) (now (out .entry)) r (now (peer .exit)) (now (out .exit)) ⌝ }
+{
+    if !are_change_arguments(peer, old, new) {
+        return BAD_ARGUMENT;
+    }
+    let before = decode_peer(peer);
+    let wrote = before.write_change_one(decode_password(old), decode_password(new), out);
     let written = wrote.written;
     let next = wrote.peer;
     put_peer(written.refusal, next, peer)

@@ -12,12 +12,16 @@ use lib.Seq.{take-all, take-at, drop-at}
 use Rattle.octets.proofs.Parts.{length-part}
 use Rattle.credentials.specs.Credentials.{encodeKeys, unsealedAs, passwordIn}
 use Rattle.credentials.proofs.Laws.{length-nt}
+use Rattle.credentials.proofs.UnderChallenge.{length-from}
 use Rattle.message.specs.Reasons.{passwordExpired, changingPassword}
 use Rattle.packets.specs.Response.{readResponse}
 use Rattle.packets.specs.Change.{readChange}
-use Rattle.packets.specs.declared.Change as changes
+use Rattle.packets.specs.ChangeOne.{readChangeOne}
+use Rattle.packets.specs.declared.ChangeOne.{ChangeOne}
 use Rattle.authenticator.proofs.Spends.{length-incremented}
 use Rattle.accounts.specs.Account.{
+  noHash,
+  hashOf,
   blankEntry,
   notFound,
   found,
@@ -34,12 +38,17 @@ use Rattle.authenticator.specs.Conversation.{ended, retried}
 use Rattle.authenticator.proofs.Steps.{Case, refused, repeated, judged, case-of}
 use Rattle.authenticator.proofs.Steps as steps-laws
 use Rattle.authenticator.specs.Judge.{Judgement, reasonOf, mayRetry, replyFor, afterReason}
-use Rattle.authenticator.specs.Judge.{judgeResponse, changeJudgement, judgeChange}
+use Rattle.authenticator.specs.Judge.{judgeResponse, changeJudgement, checkedFor, judgeChange}
 use Rattle.authenticator.specs.Judge.{judgeIn, judge}
 use Rattle.verify.specs.Response.{counted, responseReason}
 use Rattle.verify.specs.Accepted.{lengthFor, hashFor}
 use Rattle.verify.specs.Faults.{faultNumber, isFaultless}
-use Rattle.verify.specs.Change.{changeFault, checkedChange}
+use Rattle.verify.specs.Change.{changeFault, checkedWith, checkedChange}
+use Rattle.verify.specs.ChangeOne.{ntAsked, overLm, newIn, ntFault, lmFault, checkedNt, checkedLm}
+use Rattle.verify.specs.ChangeOne.{checkedChangeOne}
+use Rattle.verify.specs.declared.ChangeFault.{ChangeFault}
+use Rattle.verify.specs.declared.ChangeVersion.{ChangeVersion}
+use Rattle.verify.specs.declared.ChangeVersion.the-variants.{One, Two}
 use Rattle.verify.specs.declared.CheckedChange.{CheckedChange}
 use Rattle.authenticator.specs.Step.{Outcome, step, refusalIn, reasonIn, stepFault}
 use Rattle.authenticator.specs.Step.{steppedOf, handsBack, handedOut}
@@ -49,6 +58,7 @@ use Rattle.authenticator.specs.declared.Reply.{Reply}
 use Rattle.authenticator.specs.declared.Reply.the-variants.{Success, Failure}
 use Rattle.verify.proofs.Reasons.{three-digits, response-reason}
 use Rattle.accounts.specs.declared.Entry.{Entry}
+use Rattle.accounts.specs.declared.Hash.{Hash}
 use Rattle.accounts.specs.declared.EntryLookup.{EntryLookup}
 use Rattle.accounts.specs.declared.Schedules.{Schedules}
 use Rattle.accounts.specs.declared.Lookup.{Lookup}
@@ -110,6 +120,21 @@ reason-small c e h = by (eqb e 0)
     by true = omega arith
     by false = omega (arith, h)
 
+-- the hashes of a checked change, of either version
+record SizedChange (v : CheckedChange) : Type 0 where
+  nt : length (v .nt .octets) ≡ 16
+  lm : length (v .lm .octets) ≡ 16
+
+with-sized : (fault : ChangeFault) (nt lm : Hash) → length (nt .octets) ≡ 16
+    → length (lm .octets) ≡ 16 → SizedChange (checkedWith fault nt lm)
+with-sized fault nt lm h k =
+    record { nt = by nt h (isFaultless fault); lm = by lm k (isFaultless fault) }
+  where
+    by : (x : Hash) → length (x .octets) ≡ 16 → (t : Bool)
+        → length (cond t x noHash .octets) ≡ 16
+    by x e true = e
+    by x e false = refl
+
 module _ (c : Conversation) (s : SizedConversation c) where
   ended-sized : SizedConversation (ended c)
   ended-sized = record { challenge = s .challenge; kept = blank-sized }
@@ -123,21 +148,36 @@ module _ (c : Conversation) (s : SizedConversation c) where
       (choice-sized (eqb e passwordExpired) (record { challenge = s .challenge; kept = t })
       ended-sized)
 
-  -- ---- the hash of a checked change has sixteen bytes
+  -- ---- each hash of a checked change has sixteen bytes
 
-  checked-whole : (f : changes.Change)
-      → length (checkedChange (c .kept) (c .challenge) f .hash) ≡ 16
-  unfolding checkedChange
-  checked-whole f = by (isFaultless (changeFault (c .kept) (c .challenge) f))
+  checked-whole : (v : ChangeVersion) (p : List ℕ) → SizedChange (checkedFor v c p)
+  unfolding checkedChange checkedChangeOne
+  checked-whole Two p =
+      let f = readChange p in
+      let o = unsealedAs (c .kept .nt .octets) (f .block) in
+      with-sized (changeFault (c .kept) (c .challenge) f) (hashOf (hashFor (c .kept) f)) noHash
+      (length-nt (passwordIn o (lengthFor (c .kept) f))) refl
+  checked-whole One p = asked (ntAsked (readChangeOne p))
     where
-      by : (t : Bool) → length (cond t (hashFor (c .kept) f) (replicate 16 0)) ≡ 16
-      by true =
-          let o = unsealedAs (c .kept .nt .octets) (f .block) in
-          length-nt (passwordIn o (lengthFor (c .kept) f))
-      by false = refl
+      f : ChangeOne
+      f = readChangeOne p
 
-  change-sized : (v : CheckedChange) → length (v .hash) ≡ 16
-      → SizedJudgement (changeJudgement c v)
+      taken : (t : Bool) → length (cond t noHash (newIn (c .challenge) (f .lmnew)) .octets) ≡ 16
+      taken true = refl
+      taken false = length-from (c .challenge) (f .lmnew)
+
+      asked : (t : Bool)
+          → SizedChange (cond t (checkedNt (c .kept) (c .challenge) f)
+          (checkedLm (c .terms) (c .kept) (c .challenge) f))
+      asked true =
+          with-sized (ntFault (c .kept) (c .challenge) f) (newIn (c .challenge) (f .ntnew))
+          (cond (overLm f) noHash (newIn (c .challenge) (f .lmnew)))
+          (length-from (c .challenge) (f .ntnew)) (taken (overLm f))
+      asked false =
+          with-sized (lmFault (c .terms) (c .kept) (c .challenge) f) noHash
+          (newIn (c .challenge) (f .lmnew)) refl (length-from (c .challenge) (f .lmnew))
+
+  change-sized : (v : CheckedChange) → SizedChange v → SizedJudgement (changeJudgement c v)
   change-sized v h =
       record {
         next = ended-sized;
@@ -146,8 +186,9 @@ module _ (c : Conversation) (s : SizedConversation c) where
       }
     where
       updated : (t : Bool)
-          → SizedEntry (entryOf (cond t (found (changed (c .kept) (v .hash))) notFound .account))
-      updated true = record { nt = h; lm = refl }
+          → SizedEntry
+          (entryOf (cond t (found (changed (c .kept) (v .nt) (v .lm))) notFound .account))
+      updated true = record { nt = h .nt; lm = h .lm }
       updated false = blank-sized
 
       reason : (t : Bool)
@@ -172,8 +213,7 @@ module _ (c : Conversation) (s : SizedConversation c) where
             reason-small c e (three-digits (response-reason (c .terms) (c .challenge) f l));
       }
   judge-in-sized Change p l t =
-      let f = readChange p in
-      change-sized (checkedChange (c .kept) (c .challenge) f) (checked-whole f)
+      change-sized (checkedFor (c .terms .change) c p) (checked-whole (c .terms .change) p)
   judge-in-sized Ended p l t = record { next = s; updated = blank-sized; reason = omega arith }
 
   -- a refusal and a repeat leave the conversation as it was, and a judgement keeps its own reply

@@ -70,7 +70,7 @@ unfoldable pub answerRepeated : List ℕ → ℕ
 answerRepeated answer = valueOr (isEncodedAnswer answer) (flag (decodeAnswer answer .repeated))
 
 -- what is wrong with a change that was judged, by its number; 0 is none (document 02, request
--- 2026-04)
+-- 2026-04 and, for version 1's change, 2026-07)
 unfoldable pub answerFault : List ℕ → ℕ
 answerFault answer =
     valueOr (isEncodedAnswer answer) (faultNumber (decodeAnswer answer .fault))
@@ -86,7 +86,9 @@ AnswerRecordCall answer out r outAfter =
 -- ---- what a conversation tells
 
 unfoldable pub conversationAwaits : List ℕ → ℕ
-conversationAwaits c = valueOr (isEncodedConversation c) (awaitedCode (decodeConversation c .phase))
+conversationAwaits c =
+    valueOr (isEncodedConversation c)
+    (awaitedCode (decodeConversation c .terms .change) (decodeConversation c .phase))
 
 unfoldable pub conversationIdentifier : List ℕ → ℕ
 conversationIdentifier c = valueOr (isEncodedConversation c) (decodeConversation c .id)

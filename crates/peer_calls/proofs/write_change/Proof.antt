@@ -8,10 +8,8 @@ use Prim.Native.Nat.{ℕ}
 use Rattle.peer.specs.Write.{writeChange}
 use Rattle.peer.specs.declared.Turn.{Turn}
 use Rattle.layouts.specs.Passwords.{decodePassword}
-use Rattle.layouts.specs.Peers.{isEncodedPeer}
-use Rattle.layouts.proofs.Filling.{both}
 use Rattle.peer_calls.specs.Calls.{changeArguments}
-use Rattle.peer_calls.proofs.Calling.{wrote-called, change-kept}
+use Rattle.peer_calls.proofs.Calling.{wrote-called, change-kept, change-encoded}
 use Rattle.peer_calls.proofs.write_change.Statement.{statement}
 use Rattle.peer_calls.proofs.write_change.Tie as tie
 use borrow.Author.Needs.{needs}
@@ -26,10 +24,6 @@ returns c =
       next = refl;
       packet = refl;
     }
-
-encoded : (peer old new : List ℕ) → changeArguments peer old new ≡ true → isEncodedPeer peer ≡ true
-unfolding changeArguments
-encoded peer old new e = both (isEncodedPeer peer) _ e .0
 
 -- they are valid
 returns-2 : tie.Need-returns-2
@@ -51,7 +45,7 @@ returns-2 c =
     sym (passed .before .are-change-arguments .ensures) ∙ not-false _ (passed .if1 .left) in
     wrote-called (λ (t : Turn). writeChange t old new filler out) peer out
     (changeArguments peer (a .old .now) (a .new .now)) valid
-    (encoded peer (a .old .now) (a .new .now) valid) (change-kept old new filler out)
+    (change-encoded peer (a .old .now) (a .new .now) valid) (change-kept old new filler out)
     (decoded .decode-peer .ensures)
     (ap₂ (λ (l k : List ℕ). writeChange turn l k filler out) (old-decoded .decode-password .ensures)
     (new-decoded .decode-password2 .ensures))

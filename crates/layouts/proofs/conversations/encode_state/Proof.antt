@@ -26,7 +26,9 @@ returns c =
     let challenge = kept .before in
     let retries = challenge .before in
     let id = retries .before in
-    let limit = id .before in
+    let change = id .before in
+    let version = change .before in
+    let limit = version .before in
     let lm = limit .before in
     let phase = lm .before in
     let code = phase .before in
@@ -37,14 +39,15 @@ returns c =
     let s₁ = first 0 room (code .awaited-code .result ∷ []) 1 refl (phase .put-byte .ensures) in
     let s₂ = next s₁ (flag (v .terms .lm) ∷ []) 1 refl (lm .put-flag .ensures) in
     let s₃ = next s₂ (v .terms .limit ∷ []) 1 refl (limit .put-byte2 .ensures) in
-    let s₄ = next s₃ (v .id ∷ []) 1 refl (id .put-byte3 .ensures) in
-    let s₅ = next s₄ (v .retries ∷ []) 1 refl (retries .put-byte4 .ensures) in
-    let s₆ = next s₅ (v .challenge) 8 (long start) (challenge .put-eight .ensures) in
-    let s₇ =
-    next s₆ (encodeEntry (v .kept)) 39 (length-entry (v .kept) (kept-sized start))
+    let s₄ = next s₃ (version .version .result ∷ []) 1 refl (change .put-byte3 .ensures) in
+    let s₅ = next s₄ (v .id ∷ []) 1 refl (id .put-byte4 .ensures) in
+    let s₆ = next s₅ (v .retries ∷ []) 1 refl (retries .put-byte5 .ensures) in
+    let s₇ = next s₆ (v .challenge) 8 (long start) (challenge .put-eight .ensures) in
+    let s₈ =
+    next s₇ (encodeEntry (v .kept)) 39 (length-entry (v .kept) (kept-sized start))
     (kept .encode-entry .ensures) in
-    last s₇ (encodeLast (v .last)) (c .encode-last .ensures)
-    ∙ ap₂ over (state-pieces v (code .awaited-code .ensures)) (empty .empty-room .ensures)
+    last s₈ (encodeLast (v .last)) (c .encode-last .ensures)
+    ∙ ap₂ over (state-pieces v (code .awaited-code .ensures) (version .version .ensures)) (empty .empty-room .ensures)
 
 pub encode-state-spec : {M : Type 1} → statement M
 encode-state-spec =
@@ -52,4 +55,5 @@ encode-state-spec =
     (tie.spec
     (λ c κs. search needs) (λ c κs. search needs) (λ c κs. search needs) (λ c κs. search needs)
     (λ c κs. search needs) (λ c κs. search needs) (λ c κs. search needs) (λ c κs. search needs)
-    (λ c κs. search needs) (λ c κs. search needs) returns)
+    (λ c κs. search needs) (λ c κs. search needs) (λ c κs. search needs) (λ c κs. search needs)
+    returns)

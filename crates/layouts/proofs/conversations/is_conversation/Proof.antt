@@ -18,7 +18,7 @@ returns c =
     let encoded = c .before in
     let start = encoded .before .before in
     let v = start .args .conversation in
-    compared conversationKind 58 (omega arith) (encodeState v) (length-state v (sized start))
+    compared conversationKind 59 (omega arith) (encodeState v) (length-state v (sized start))
     (encoded .encode-state .ensures) (start .args .bytes .now) (c .is-value .ensures)
 
 pub is-conversation-spec : {M : Type 1} → statement M

@@ -19,7 +19,7 @@ returns c =
     let encoded = put .before .before in
     let start = encoded .before .before in
     let v = start .args .conversation in
-    filled conversationKind 58 (omega arith) (encodeState v) (length-state v (sized start))
+    filled conversationKind 59 (omega arith) (encodeState v) (length-state v (sized start))
     (encoded .encode-state .ensures)
     (put .put-value .ensures)
 

@@ -9,7 +9,7 @@ use Rattle.layouts.proofs.room.tag.Statement.{statement}
 use Rattle.layouts.proofs.room.tag.Tie as tie
 use borrow.Author.Needs.{needs}
 
-sized : (c : tie.Start) → length (c .args .room .bytes) ≡ 58
+sized : (c : tie.Start) → length (c .args .room .bytes) ≡ 59
 sized c = search needs
 
 -- the room is as long as what is behind kind and version
@@ -22,7 +22,7 @@ returns c =
     let number = version .layout-version .result in
     copied .copy-at .ensures
     ∙ ap₂ (λ (n : ℕ) (l : List ℕ). kind ∷ n ∷ l) (version .layout-version .ensures)
-    (filled (start .args .room .bytes) (replicate 58 number) (sym (sized start)))
+    (filled (start .args .room .bytes) (replicate 59 number) (sym (sized start)))
 
 pub tag-spec : {M : Type 1} → statement M
 tag-spec =

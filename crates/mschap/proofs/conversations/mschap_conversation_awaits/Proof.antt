@@ -19,14 +19,15 @@ returns c = simp (sym (c .before .is-encoded-conversation .ensures) ∙ not-true
 returns-2 : tie.Need-returns-2
 unfolding conversationAwaits
 returns-2 c =
-    let decoded = c .before in
+    let decoded = c .before .before in
     let passed = decoded .before in
     let bytes = passed .before .before .before .args .conversation .now in
     let valid = sym (passed .before .is-encoded-conversation .ensures) ∙ not-false _
     (passed .if1 .left) in
     c .awaited-code .ensures
-    ∙ ap (λ (v : Conversation). awaitedCode (v .phase)) (decoded .decode-conversation .ensures)
-    ∙ ap (λ (t : Bool). valueOr t (awaitedCode (decodeConversation bytes .phase))) (sym valid)
+    ∙ ap (λ (v : Conversation). awaitedCode (v .terms .change) (v .phase)) (decoded .decode-conversation .ensures)
+    ∙ ap (λ (t : Bool). valueOr t (awaitedCode (decodeConversation bytes .terms .change)
+    (decodeConversation bytes .phase))) (sym valid)
 
 pub mschap-conversation-awaits-spec : {M : Type 1} → statement M
 mschap-conversation-awaits-spec =

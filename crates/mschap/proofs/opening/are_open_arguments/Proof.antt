@@ -23,7 +23,7 @@ returns c =
     (sizes .both2 .ensures
     ∙ ap (λ (t : Bool). eqb (length (a .challenge .now)) 8 && t)
     (sizes .before .both .ensures
-    ∙ ap (λ (t : Bool). t && eqb (length (a .conversation .now)) 60) (list .is-list .ensures))))
+    ∙ ap (λ (t : Bool). t && eqb (length (a .conversation .now)) 61) (list .is-list .ensures))))
 
 pub are-open-arguments-spec : {M : Type 1} → statement M
 are-open-arguments-spec =

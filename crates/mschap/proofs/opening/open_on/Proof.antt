@@ -23,7 +23,7 @@ abbrev limited : tie.After-open → tie.After-limit-in
 limited c = c .before .before .before .before .before .before .before .before .before .before
 
 abbrev from : tie.After-open → tie.After-eight-at
-from c = limited c .before .before .before
+from c = limited c .before .before .before .before
 
 abbrev start : tie.After-open → tie.Start
 start c = from c .before .before .before .before
@@ -37,23 +37,25 @@ opening c =
 made : (c : tie.After-open)
     → OpenedAs (opening c) (c .«open» .result)
     (record {
-      buffer = c .«open» .last .1 .1 .1 .1 .1 .0;
+      buffer = c .«open» .last .1 .1 .1 .1 .1 .1 .0;
       used = c .«open» .result .used;
-      counts = c .«open» .last .1 .1 .1 .1 .1 .1 .1 .0;
+      counts = c .«open» .last .1 .1 .1 .1 .1 .1 .1 .1 .0;
     })
-    (c .«open» .last .1 .1 .1 .1 .1 .1 .1 .1 .0)
+    (c .«open» .last .1 .1 .1 .1 .1 .1 .1 .1 .1 .0)
 made c =
     let sent = from c in
     let counted = c .before .before .before .before .before in
     let places = counted .before in
     let used = places .before .before in
     let limit = limited c in
-    let lm = limit .before in
+    let change = limit .before in
+    let lm = change .before in
     let a = start c .args in
     let same =
     opening-same (a .id) (a .reply .now)
     (sent .eight-at .ensures ∙ fixed-whole 8 (a .challenge .now) (start c .pre .0))
-    (lm .before .retries-in .ensures) (lm .lm-in .ensures) (limit .limit-in .ensures)
+    (lm .before .retries-in .ensures) (lm .lm-in .ensures) (change .change-in .ensures)
+    (limit .limit-in .ensures)
     (issued-same (places-whole (a .list .now)) (used .used-in .ensures)
     (counted .true-counts .ensures
     ∙ ap₂ (λ (l : List ℕ) (u : ℕ). trueCounts 8 u l) (places .places-in .ensures)
@@ -61,11 +63,11 @@ made c =
     subst
     (λ (o : Opening). OpenedAs o (c .«open» .result)
     (record {
-      buffer = c .«open» .last .1 .1 .1 .1 .1 .0;
+      buffer = c .«open» .last .1 .1 .1 .1 .1 .1 .0;
       used = c .«open» .result .used;
-      counts = c .«open» .last .1 .1 .1 .1 .1 .1 .1 .0;
+      counts = c .«open» .last .1 .1 .1 .1 .1 .1 .1 .1 .0;
     })
-    (c .«open» .last .1 .1 .1 .1 .1 .1 .1 .1 .0))
+    (c .«open» .last .1 .1 .1 .1 .1 .1 .1 .1 .1 .0))
     same (c .«open» .ensures)
 
 returns : tie.Need-returns
@@ -87,7 +89,7 @@ open-on-spec =
     tie.close
     (tie.spec
     (λ c κs. search needs) (λ c κs. search needs) (λ c κs. search needs) (λ c κs. search needs)
-    (λ c κs. search needs) (λ c. search needs) (λ c κs. search needs) (λ c κs. search needs)
+    (λ c κs. search needs) (λ c κs. search needs) (λ c. search needs) (λ c κs. search needs) (λ c κs. search needs)
     (λ c. search needs) (λ c. search needs) (λ c. search needs) (λ c. search needs)
     (λ c κs. search needs) (λ c κs. search needs) (λ c. search needs) (λ c. search needs) returns
     (λ c. search needs) (λ c. search needs) returns-2)
