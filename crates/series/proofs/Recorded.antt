@@ -51,8 +51,12 @@ pub record Shut (c : Conversation) : Type 0 where
 failed : (t : Terms) (id : ℕ) (retry : Bool)
     → octet 0 (replyPacket t id (Failure authenticationFailure retry)) ≢ successCode
 failed t id retry e =
-    omega (arith, failure-code id (textOf authenticationFailure (retryDigit retry)
-    (version (t .change))), e)
+    omega (
+      arith,
+      failure-code id (textOf authenticationFailure (retryDigit retry)
+          (version (t .change))),
+      e,
+    )
 
 -- what an invalid Response leads to
 after-shut : (c : Conversation) → c .phase ≢ Change → (kept : Entry)
