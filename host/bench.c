@@ -48,7 +48,7 @@
 
 /* Where the layouts have what follows from call to call: to set it there takes no time that a
    caller would not take. */
-#define IDENTIFIER 5 /* in a conversation */
+#define IDENTIFIER 6 /* in a conversation */
 #define USED 2       /* in a list: two bytes, the most significant first */
 #define PLACES 4     /* in a list */
 #define SENT 2       /* in a peer: whether a packet was sent, and its identifier */
@@ -75,7 +75,7 @@ struct judged {
     mschap_answer answer;
 };
 
-static struct judged response, wrong_response, unknown, locked, change;
+static struct judged response, wrong_response, unknown, locked, change, change_1, change_both;
 /* A packet that is a repeat, and one that is refused. */
 static struct judged repeat, refused;
 
@@ -226,6 +226,16 @@ static void our_locked(struct work *w, long calls)
 static void our_change(struct work *w, long calls)
 {
     judge(&change, w, calls);
+}
+
+static void our_change_1(struct work *w, long calls)
+{
+    judge(&change_1, w, calls);
+}
+
+static void our_change_both(struct work *w, long calls)
+{
+    judge(&change_both, w, calls);
 }
 
 /* Neither changes its conversation. The size in the packet, by which neither is judged, follows
@@ -462,6 +472,8 @@ static struct line {
     {.what = "judged Response, no record", .run = {our_unknown, NULL}},
     {.what = "judged Response, locked", .run = {our_locked, NULL}},
     {.what = "judged change", .run = {our_change, NULL}},
+    {.what = "judged version 1 change", .run = {our_change_1, NULL}},
+    {.what = "the same with an LM hash", .run = {our_change_both, NULL}},
     {.what = "repeated Response", .run = {our_repeat, NULL}},
     {.what = "refused Response", .run = {our_refused, NULL}},
     {.what = "opening, none used", .run = {open_empty, NULL}},
@@ -480,10 +492,10 @@ static struct line {
 #define HASH_AND_ANSWER 4
 #define KEPT 5
 #define RESPONSE 6
-#define OPEN_EMPTY 13
-#define OPEN_NEARLY 15
-#define OPEN_ALIKE 17
-#define OPEN_FEW 18
+#define OPEN_EMPTY 15
+#define OPEN_NEARLY 17
+#define OPEN_ALIKE 19
+#define OPEN_FEW 20
 /* What is aimed at: the response by kept schedules over OpenSSL's with its own kept, and a judged
    Response over OpenSSL's challenge response, which makes three schedules. */
 #define KEPT_AIM 0.75
@@ -536,6 +548,45 @@ static double median(double *ns)
 {
     qsort(ns, ROUNDS, sizeof *ns, ascending);
     return ns[ROUNDS / 2];
+}
+
+/* The same up to a version 1 change, in a conversation that is opened for it, from the record that
+   has expired; and to one that gives an LM hash too, since the length that it tells is 14. */
+static uint32_t prepare_change_1(const struct work *w, const mschap_password *password,
+                                 const mschap_new_password *next)
+{
+    static const uint8_t name[] = {'U', 's', 'e', 'r'};
+    static uint8_t list[MSCHAP_LIST_SIZE(SPENT)];
+    uint8_t answered[MSCHAP_RESPONSE_PACKET];
+    mschap_peer peer;
+    uint32_t wrong = 0, call;
+    uint64_t reason;
+    change_1 = change;
+    wrong |= mschap_make_list(list, sizeof list);
+    wrong |= mschap_open(7, MSCHAP_TERMS | MSCHAP_LIMIT(MOST_FAILURES) | MSCHAP_RETRIES(RETRIES)
+                                | MSCHAP_LM_REFUSED | MSCHAP_CHANGE_1,
+                         w->challenge, 8, list, sizeof list,
+                         &change_1.conversation, sizeof change_1.conversation,
+                         change_1.reply, sizeof change_1.reply);
+    wrong |= mschap_read_challenge(change_1.reply, sizeof change_1.reply, &peer, sizeof peer);
+    wrong |= mschap_write_response(&peer, sizeof peer, password, sizeof *password,
+                                   name, sizeof name, answered, sizeof answered);
+    wrong |= mschap_step(&change_1.conversation, sizeof change_1.conversation,
+                         answered, mschap_packet_length(answered, sizeof answered),
+                         &change_1.record, sizeof change_1.record, change_1.reply,
+                         sizeof change_1.reply, &change_1.answer, sizeof change_1.answer);
+    wrong |= mschap_conversation_awaits(&change_1.conversation, sizeof change_1.conversation)
+             != MSCHAP_AWAITS_CHANGE_1;
+    wrong |= mschap_read_reply(&peer, sizeof peer, change_1.reply, sizeof change_1.reply, &call,
+                               &reason);
+    wrong |= call != MSCHAP_CALL_CHANGE_1;
+    wrong |= mschap_write_change_1(&peer, sizeof peer, password, sizeof *password,
+                                   next, sizeof *next, change_1.packet, sizeof change_1.packet);
+    change_1.size = MSCHAP_CHANGE_1_PACKET;
+    change_both = change_1;
+    change_both.packet[68] = 0;
+    change_both.packet[69] = 14;
+    return wrong;
 }
 
 /* A conversation up to each of the packets, by the library's own peer. Returns 0 where all could be
@@ -607,7 +658,7 @@ static uint32_t prepare(const struct work *w)
                                  w->octets, MSCHAP_FILLER_SIZE,
                                  change.packet, sizeof change.packet);
     change.size = sizeof change.packet;
-    return wrong;
+    return wrong | prepare_change_1(w, &password, &next);
 }
 
 /* The schedules that are kept, of both sides. Returns 0 where ours could be made. */

@@ -4,10 +4,11 @@
  * the reply and sends the same packet again. In a second conversation the new password has expired
  * too, and the change is made with a mistyped old one: the peer is told 709 alone, and the
  * authenticator what is wrong. Then somebody guesses until the account is locked, hangs up and
- * calls back: the right password fails then too, until the account is unlocked. At the end another
- * authenticator tries to open with the first challenge again, and is refused. The challenges are
- * fixed, so that it prints the same each time; examples/ has the two ends as programs of their own,
- * which draw them.
+ * calls back: the right password fails then too, until the account is unlocked. Another
+ * authenticator tries to open with the first challenge again, and is refused. At the end the list
+ * is made empty, and a handset that knows only version 1 changes makes one, in a conversation that
+ * is opened for it. The challenges are fixed, so that it prints the same each time; examples/ has
+ * the two ends as programs of their own, which draw them.
  *
  *     cc host/example.c $(pkg-config --cflags --libs mschap)
  */
@@ -50,10 +51,10 @@ static uint8_t packet[MSCHAP_CHANGE_PACKET], reply[MSCHAP_REPLY_SIZE];
 static uint8_t list[MSCHAP_LIST_SIZE(16)];
 
 /* The authenticator opens a conversation, and the peer reads the Challenge. */
-static void open_with(uint8_t identifier, const uint8_t *challenge)
+static void open_with(uint8_t identifier, uint32_t terms, const uint8_t *challenge)
 {
     size_t size;
-    check("open", mschap_open(identifier, TERMS, challenge, MSCHAP_CHALLENGE_SIZE,
+    check("open", mschap_open(identifier, terms, challenge, MSCHAP_CHALLENGE_SIZE,
                               list, sizeof list, &talk, sizeof talk, reply, sizeof reply));
     size = mschap_packet_length(reply, sizeof reply);
     show("Challenge", reply, size);
@@ -133,7 +134,7 @@ int main(void)
                                             &hash, sizeof hash, NULL, 0, &record, sizeof record));
 
     check("make_list", mschap_make_list(list, sizeof list));
-    open_with(7, challenge);
+    open_with(7, TERMS, challenge);
     if (respond("Response, mistyped", &mistyped) != MSCHAP_CALL_RESPONSE)
         return 1;
     printf("%-28s%.*s\n", "its account", (int)mschap_account_length(packet, sizeof packet),
@@ -166,7 +167,7 @@ int main(void)
     /* the new password has expired too, and its change is made with a mistyped old one */
     check("make_record", mschap_make_record(flags | MSCHAP_EXPIRED, &hash, sizeof hash, NULL, 0,
                                             &record, sizeof record));
-    open_with(8, another);
+    open_with(8, TERMS, another);
     if (respond("Response, expired", &renewed.password) != MSCHAP_CALL_CHANGE)
         return 1;
     check("write_change",
@@ -183,13 +184,13 @@ int main(void)
        password: it fails, and leaves the count as it is */
     check("make_record", mschap_make_record(flags, &hash, sizeof hash, NULL, 0,
                                             &record, sizeof record));
-    open_with(9, third);
+    open_with(9, TERMS, third);
     for (guess = 1; guess < MOST_FAILURES; guess++)
         if (respond("Response, a wrong guess", &password) != MSCHAP_CALL_RESPONSE)
             return 1;
     if (respond("Response, a wrong guess", &mistyped) != MSCHAP_CALL_END)
         return 1;
-    open_with(10, fourth);
+    open_with(10, TERMS, fourth);
     if (respond("Response, right but locked", &renewed.password) != MSCHAP_CALL_RESPONSE)
         return 1;
     /* whoever keeps the accounts unlocks this one */
@@ -202,5 +203,24 @@ int main(void)
            (unsigned)mschap_open(11, TERMS, challenge, sizeof challenge, list, sizeof list,
                                  &talk, sizeof talk, reply, sizeof reply));
     printf("%-28s%u of 16\n", "places used", (unsigned)mschap_list_used(list, sizeof list));
+
+    /* a handset that knows only version 1 changes: who listens can decrypt both hashes */
+    make_password("MyPw", 4, &password);
+    make_password("clientPass", 10, &renewed.password);
+    check("nt_hash", mschap_nt_hash(&password, sizeof password, &hash, sizeof hash));
+    check("make_record", mschap_make_record(MSCHAP_FOUND | MSCHAP_HAS_NT_HASH | MSCHAP_EXPIRED,
+                                            &hash, sizeof hash, NULL, 0, &record, sizeof record));
+    check("make_list", mschap_make_list(list, sizeof list));
+    open_with(8, TERMS | MSCHAP_CHANGE_1, challenge);
+    if (respond("Response, expired", &password) != MSCHAP_CALL_CHANGE_1)
+        return 1;
+    check("write_change_1",
+          mschap_write_change_1(&peer, sizeof peer, &password, sizeof password,
+                                &renewed, sizeof renewed, packet, sizeof packet));
+    if (step("version 1 change") != MSCHAP_CALL_NONE)
+        return 1;
+    check("read_record", mschap_read_record(&record, sizeof record, &flags, &hash, sizeof hash,
+                                            &lm_hash, sizeof lm_hash));
+    show("the new NT hash", hash.bytes, sizeof hash);
     return 0;
 }

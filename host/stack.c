@@ -748,7 +748,8 @@ static void put_under_challenge(const uint8_t *hash, uint8_t *to)
     mschap_des_encrypt(challenge, MSCHAP_KEY_SIZE, to + 8, MSCHAP_BLOCK_SIZE);
 }
 
-/* A version 1 change by the right old hashes to drawn ones, with a length and bit 0 of the flags. */
+/* A version 1 change by the right old hashes to drawn ones, with a length and bit 0 of the
+   flags. */
 static uint8_t *give_change_1(size_t size, uint8_t bit)
 {
     uint8_t *packet = give_packet(1, 5, MSCHAP_CHANGE_1_PACKET);

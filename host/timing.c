@@ -1,8 +1,9 @@
 /*
  * Calls mschap_step once for each way in which a Response is not valid, at the first, the second
- * and the last try, and for each fault of a change, and prints a line for each call: R of the
- * reply or its reason, and the way. The time is not to tell which way it was, so tests/timing.sh
- * counts the instructions of each call. Exit status 1 where a call does not draw its reply.
+ * and the last try, and for each fault of a change of either version, and prints a line for each
+ * call: R of the reply or its reason, and the way. The time is not to tell which way it was, so
+ * tests/timing.sh counts the instructions of each call. Exit status 1 where a call does not draw
+ * its reply.
  * Neither is it to tell the round keys: so a record carries those of its hashes, another's, and
  * bytes that are no schedule's.
  *
@@ -37,10 +38,11 @@
 #define AWAITED 2
 #define LM_ALLOWED 3
 #define LIMIT 4
-#define IDENTIFIER 5
-#define RETRIES 6
-#define CHALLENGE 7
-#define KEPT 15 /* the account, as a record has it from NT on, without round keys */
+#define CHANGE 5 /* the version of its change */
+#define IDENTIFIER 6
+#define RETRIES 7
+#define CHALLENGE 8
+#define KEPT 16 /* the account, as a record has it from NT on, without round keys */
 
 /* and a change: the last four octets of the block, the old hash under the new one, and so on */
 #define LENGTH 516
@@ -48,11 +50,18 @@
 #define CHANGE_NT_RESPONSE 1092
 #define CHANGE_FLAGS 1116
 
+/* and a version 1 change: the old hashes under the challenge, the password's length, the flags */
+#define OLD_LM 4
+#define OLD_NT 36
+#define PASSWORD_LENGTH 68
+#define CHANGE_1_FLAGS 70
+
 /* Every call works on these same bytes, so that no call differs from another by alignment. */
 static mschap_conversation talk;
 static mschap_record found;
 static uint8_t *const conversation = talk.bytes, *const record = found.bytes;
 static uint8_t packet[PACKET], right_change[MSCHAP_CHANGE_PACKET], change[MSCHAP_CHANGE_PACKET];
+static uint8_t right_change_1[MSCHAP_CHANGE_1_PACKET], change_1[MSCHAP_CHANGE_1_PACKET];
 static uint8_t reply[MSCHAP_REPLY_SIZE];
 static mschap_answer answer;
 
@@ -74,6 +83,8 @@ static const uint8_t again[] = "\4\7\0\21E=691 R=1 V=2";
 static const uint8_t no_more[] = "\4\7\0\21E=691 R=0 V=2";
 static const uint8_t expired[] = "\4\7\0\21E=648 R=0 V=2";
 static const uint8_t not_changed[] = "\4\10\0\21E=709 R=0 V=2";
+static const uint8_t expired_1[] = "\4\7\0\21E=648 R=0 V=1";
+static const uint8_t not_changed_1[] = "\4\10\0\21E=709 R=0 V=1";
 
 /* The record of no account, of bytes 0 behind its kind and version. */
 static void nobody(void)
@@ -96,6 +107,7 @@ static void rightful(void)
     conversation[AWAITED] = MSCHAP_AWAITS_RESPONSE;
     conversation[LM_ALLOWED] = 1;
     conversation[LIMIT] = 5;
+    conversation[CHANGE] = 2;
     conversation[IDENTIFIER] = 7;
     conversation[RETRIES] = retries;
     memcpy(conversation + CHALLENGE, challenge, sizeof challenge);
@@ -460,6 +472,82 @@ static void all_faults(void)
     not_accepted(MSCHAP_FAULT_RESPONSE_WRONG);
 }
 
+/* The same with a version 1 change, by the NT hash or by the LM hash. */
+static void awaiting_change_1(void)
+{
+    awaiting_change();
+    conversation[CHANGE] = 1;
+    conversation[AWAITED] = MSCHAP_AWAITS_CHANGE_1;
+    memcpy(change_1, right_change_1, sizeof change_1);
+}
+
+static void awaiting_change_lm(void)
+{
+    awaiting_change_1();
+    change_1[PASSWORD_LENGTH] = 0;
+    change_1[PASSWORD_LENGTH + 1] = 14;
+    change_1[CHANGE_1_FLAGS + 1] = 0;
+}
+
+static void not_accepted_1(const char *group, uint32_t fault)
+{
+    uint32_t number = mschap_step(&talk, sizeof talk, change_1, sizeof change_1,
+                                  &found, sizeof found, reply, sizeof reply,
+                                  &answer, sizeof answer);
+    if (number != MSCHAP_OK || memcmp(reply, not_changed_1, MSCHAP_REPLY_SIZE) != 0
+        || mschap_answer_fault(&answer, sizeof answer) != fault) {
+        fprintf(stderr, "timing: another answer than 709 and fault %u\n", (unsigned)fault);
+        failed = 1;
+    }
+    printf("%s %s\n", group, mschap_fault_text(fault));
+}
+
+/* Which way a version 1 change is judged is told by its bit 0 and its length, which are sent in
+   clear; on either way the time is not to tell the fault. */
+static void all_faults_1(void)
+{
+    static const char by_nt[] = "709-NT", by_lm[] = "709-LM";
+    awaiting_change_1();
+    conversation[KEPT] = 0;
+    not_accepted_1(by_nt, MSCHAP_FAULT_HASH_ABSENT);
+    awaiting_change_1();
+    memset(conversation + KEPT, 0, ACCOUNT_SIZE);
+    not_accepted_1(by_nt, MSCHAP_FAULT_HASH_ABSENT);
+    awaiting_change_1();
+    conversation[KEPT] = 0;
+    conversation[LM_ALLOWED] = 0;
+    not_accepted_1(by_nt, MSCHAP_FAULT_HASH_ABSENT);
+    awaiting_change_1();
+    change_1[OLD_NT] ^= 1;
+    not_accepted_1(by_nt, MSCHAP_FAULT_HASH_WRONG);
+    awaiting_change_1();
+    change_1[OLD_NT + 15] ^= 0x80;
+    not_accepted_1(by_nt, MSCHAP_FAULT_HASH_WRONG);
+    awaiting_change_1();
+    memset(change_1 + OLD_NT, 0x55, MSCHAP_HASH_SIZE);
+    not_accepted_1(by_nt, MSCHAP_FAULT_HASH_WRONG);
+
+    awaiting_change_lm();
+    conversation[LM_ALLOWED] = 0;
+    not_accepted_1(by_lm, MSCHAP_FAULT_LM_NOT_ALLOWED);
+    awaiting_change_lm();
+    conversation[LM_ALLOWED] = 0;
+    conversation[KEPT + LM - NT] = 0;
+    not_accepted_1(by_lm, MSCHAP_FAULT_LM_NOT_ALLOWED);
+    awaiting_change_lm();
+    change_1[PASSWORD_LENGTH + 1] = 15;
+    not_accepted_1(by_lm, MSCHAP_FAULT_LENGTH_OVER_LM);
+    awaiting_change_lm();
+    conversation[KEPT + LM - NT] = 0;
+    not_accepted_1(by_lm, MSCHAP_FAULT_HASH_ABSENT);
+    awaiting_change_lm();
+    change_1[OLD_LM] ^= 1;
+    not_accepted_1(by_lm, MSCHAP_FAULT_HASH_WRONG);
+    awaiting_change_lm();
+    change_1[OLD_LM + 15] ^= 0x80;
+    not_accepted_1(by_lm, MSCHAP_FAULT_HASH_WRONG);
+}
+
 static const uint8_t file[] =
     "anna0001:1001:XXXXXXXXXXXXXXXXXXXXXXXXXXXXXXXX:FC156AF7EDCD6C0EDDE3337D427F4EAC:"
     "[U          ]:LCT-6AFA674D:\n"
@@ -611,12 +699,14 @@ static void make_record(const uint8_t *text, size_t size, mschap_record *made)
         printf("prepared hashes of a password\n");
 }
 
-/* The change from the password to an empty one, as our peer writes it. */
-static void write_right_change(const mschap_password *password)
+/* Both changes from the password to an empty one, as our peer writes them. The version 1 change has
+   no LM hash: here it gets the user's, under the challenge. */
+static void write_right_changes(const mschap_password *password)
 {
     static const uint8_t filler[MSCHAP_FILLER_SIZE];
     uint8_t asked[13] = {1, 7, 0, 13, MSCHAP_CHALLENGE_SIZE};
-    mschap_peer peer;
+    mschap_peer peer, other;
+    int half;
     mschap_new_password empty;
     uint32_t call;
     uint64_t reason;
@@ -625,6 +715,17 @@ static void write_right_change(const mschap_password *password)
     failed |= mschap_read_challenge(asked, sizeof asked, &peer, sizeof peer) != MSCHAP_OK;
     failed |= mschap_write_response(&peer, sizeof peer, password, sizeof *password, asked, 1,
                                     packet, sizeof packet) != MSCHAP_OK;
+    other = peer;
+    failed |= mschap_read_reply(&other, sizeof other, expired_1, MSCHAP_REPLY_SIZE, &call, &reason)
+              != MSCHAP_OK;
+    failed |= mschap_write_change_1(&other, sizeof other, password, sizeof *password,
+                                    &empty, sizeof empty, right_change_1, sizeof right_change_1)
+              != MSCHAP_OK;
+    memcpy(right_change_1 + OLD_LM, lm_hash.bytes, sizeof lm_hash);
+    for (half = 0; half < 2; half++)
+        failed |= mschap_des_encrypt(challenge, MSCHAP_KEY_SIZE,
+                                     right_change_1 + OLD_LM + 8 * half, MSCHAP_BLOCK_SIZE)
+                  != MSCHAP_OK;
     failed |= mschap_read_reply(&peer, sizeof peer, expired, MSCHAP_REPLY_SIZE, &call, &reason)
               != MSCHAP_OK;
     failed |= mschap_write_change(&peer, sizeof peer, password, sizeof *password,
@@ -661,7 +762,8 @@ int main(int argc, char **argv)
         all_counts();
         all_carried();
     }
-    write_right_change(&password);
+    write_right_changes(&password);
     all_faults();
+    all_faults_1();
     return failed;
 }

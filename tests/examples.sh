@@ -37,11 +37,15 @@ for program in authenticator peer; do
         fail "$program.c has an offset or a number of its own"
     fi
 done
+# the authenticator for handsets that know only version 1 changes
+${CC:-cc} -Wall -Wextra -Werror -std=c99 -pedantic -DCHANGE=MSCHAP_CHANGE_1 -I "$folder/include" \
+    host/examples/authenticator.c "$folder/lib/libmschap.a" -o "$scratch/authenticator_1"
 mkfifo "$scratch/to" "$scratch/from" "$scratch/held"
 
 # what the log has of a mistyped old password
 over='the length in the password block is over 512 (mostly a wrong old password)'
 
+fault="3, $over" box=authenticator
 # One conversation: how many places are used then, the exit status of both, the reasons that the
 # authenticator gives and the words of the peer, and the peer's arguments. Where its first one is
 # --lossy, each reply is lost once, and the authenticator gives it again. A 709 is that of a
@@ -52,7 +56,7 @@ converse() {
     shift 4
     rm -f "$scratch"/*.log
     # shellcheck disable=SC2086
-    $run "$scratch/authenticator" "$scratch/accounts" \
+    $run "$scratch/$box" "$scratch/accounts" \
         < "$scratch/to" > "$scratch/from" 2> "$scratch/authenticator.log" &
     authenticator=$!
     peer_status=0
@@ -69,7 +73,7 @@ converse() {
         given=$(printf '%s\n' $reasons | sed 's/^/reason: /')
     fi
     { echo "places used: $used" && echo "$given"; } \
-        | sed "s/^reason: 709\$/&\nfault: 3, $over/" > "$scratch/expected"
+        | sed "s/^reason: 709\$/&\nfault: $fault/" > "$scratch/expected"
     diff "$scratch/expected" "$scratch/authenticator.log" || fail 'the authenticator says otherwise'
     { printf '%s\n' $reasons | sed 's/^/reason: /' && echo "$words"; } > "$scratch/expected"
     grep -v -e 'the password has expired, and is changed' -e '^no reply: sent again$' \
@@ -162,6 +166,20 @@ status=0
 [ $status -eq 2 ] || fail "exit status $status where nothing can be sent"
 converse 30 0 0 in 'Jürgen' unused 'Blaugrün 🔑'
 [ "$(access "$accounts")" = "$access" ] || fail 'the changed file has another owner or mode'
+
+# The same by a version 1 change, with the old password mistyped and then right; what it gives is
+# good for the other authenticator too.
+box=authenticator_1
+fault='10, the old hash under the challenge is not the one sent (mostly a wrong old password)'
+add 'Jürgen' 'Grün 1'
+keep
+converse 33 1 '648 709' 'not let in' --lossy --old 'grün 1' 'Jürgen' 'Blaugrün 🔑' 'Grün 1'
+cmp "$scratch/kept" "$accounts" || fail 'the file is changed by a change that is not accepted'
+converse 36 0 '691 648 0' in --lossy 'Jürgen' 'Blaugrün 🔑' 'grün 1' 'Grün 1'
+changed 'Blaugrün 🔑'
+converse 39 0 0 in 'Jürgen' unused 'Blaugrün 🔑'
+box=authenticator fault="3, $over"
+converse 42 0 0 in 'Jürgen' unused 'Blaugrün 🔑'
 
 # What a crash left, and others can read or have open, is not the file that the accounts go to.
 leftover() {

@@ -30,6 +30,13 @@ static uint8_t list[MSCHAP_LIST_SIZE(3 * OPENINGS)];
 #define LONG_AGO 1               /* a time that is longer ago; one of 0 would never expire */
 #define FIRST_UID 1001
 
+/* Which change of an expired password is awaited. For handsets that know only code 5 compile with
+   -DCHANGE=MSCHAP_CHANGE_1, and run it where nobody else listens (see VERSION 1 CHANGES in
+   mschap.h). */
+#ifndef CHANGE
+#define CHANGE MSCHAP_CHANGE_2
+#endif
+
 #define COUNTS "failures"
 #define LIMIT 10 /* so many failures in a row lock an account */
 #define DIGITS 3 /* of a count */
@@ -247,7 +254,7 @@ static int keep(uint32_t awaited, const mschap_answer *answer, mschap_record *re
     if (mschap_answer_repeated(answer, sizeof *answer))
         return 0;
     if (mschap_answer_record(answer, sizeof *answer, &after, sizeof after) == MSCHAP_OK) {
-        if (awaited == MSCHAP_AWAITS_CHANGE)
+        if (awaited != MSCHAP_AWAITS_RESPONSE)
             write_back(record, &after);
         failures = mschap_record_failures(&after, sizeof after);
         set_count(failures);
@@ -336,7 +343,7 @@ static void open_conversation(mschap_conversation *talk, uint8_t *reply, size_t 
         draw(challenge, sizeof challenge);
         /* Phones that answer by LM alone would need | MSCHAP_LM_ALLOWED, and accounts with an LM
            hash: those in a file of Samba may have one, those added here have none. */
-        number = mschap_open(identifier, MSCHAP_TERMS | MSCHAP_LIMIT(LIMIT),
+        number = mschap_open(identifier, MSCHAP_TERMS | MSCHAP_LIMIT(LIMIT) | CHANGE,
                              challenge, sizeof challenge, list, sizeof list,
                              talk, sizeof *talk, reply, reply_size);
     } while (number == MSCHAP_SPENT);

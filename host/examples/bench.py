@@ -41,7 +41,7 @@ MSCHAP_CHALLENGE_SIZE = 8
 MSCHAP_RESPONSE_SIZE = 24
 MSCHAP_FILLER_SIZE = 512
 MSCHAP_RECORD_SIZE = 810
-MSCHAP_CONVERSATION_SIZE = 60
+MSCHAP_CONVERSATION_SIZE = 61
 MSCHAP_ANSWER_SIZE = 814
 MSCHAP_PEER_SIZE = 21
 MSCHAP_PASSWORD_SIZE = 516
@@ -71,6 +71,10 @@ FAULTS = {
     4: 'the length in the password block is odd',
     5: 'the password block opened, but the old hash under the new one is not the one sent',
     6: "the response to the challenge is not the new password's",
+    7: 'the packet changes the password by LM (flag bit 0 is clear), and LM is not allowed',
+    8: 'the packet changes the password by LM, and says that it is longer than 14',
+    9: 'the account has no hash of the kind that the packet changes',
+    10: 'the old hash under the challenge is not the one sent (mostly a wrong old password)',
 }
 
 

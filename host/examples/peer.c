@@ -3,7 +3,8 @@
  * on standard error what happens. Exit status 0 if it is let in, 1 if not.
  *
  *     peer NAME NEW PASSWORD ..    answers with each PASSWORD in turn, as a user who mistypes it;
- *                                  where it has expired, changes it to NEW
+ *                                  where it has expired, changes it to NEW, by the version 1 or 2
+ *                                  change that is called for
  *     peer --lossy NAME NEW ..     the same on a bad line, which loses the first reply to each
  *                                  packet: the packet is sent again
  *     peer --old OLD NAME NEW ..   the same by a user who types OLD for the old password in the
@@ -60,6 +61,19 @@ static uint32_t respond(const char *name, const mschap_password *password)
     return exchange(packet, sizeof packet);
 }
 
+/* Whoever listens decrypts both hashes from this one: a program that may be used where others do
+   hangs up instead. */
+static uint32_t change_1(const mschap_password *password, const char *text)
+{
+    uint8_t packet[MSCHAP_CHANGE_1_PACKET];
+    mschap_new_password renewed;
+    make_password(text, &renewed.password);
+    if (mschap_write_change_1(&peer, sizeof peer, password, sizeof *password,
+                              &renewed, sizeof renewed, packet, sizeof packet) != MSCHAP_OK)
+        die("the change cannot be written");
+    return exchange(packet, sizeof packet);
+}
+
 static uint32_t change(const mschap_password *password, const char *text)
 {
     uint8_t packet[MSCHAP_CHANGE_PACKET], filler[MSCHAP_FILLER_SIZE];
@@ -101,11 +115,12 @@ int main(int argc, char **argv)
         make_password(argv[next++], &password);
         call = respond(argv[1], &password);
     }
-    if (call == MSCHAP_CALL_CHANGE) {
+    if (call == MSCHAP_CALL_CHANGE || call == MSCHAP_CALL_CHANGE_1) {
         fprintf(stderr, "the password has expired, and is changed\n");
         if (old != NULL)
             make_password(old, &password);
-        call = change(&password, argv[2]);
+        call = call == MSCHAP_CALL_CHANGE ? change(&password, argv[2])
+                                          : change_1(&password, argv[2]);
     }
     fprintf(stderr, call == MSCHAP_CALL_NONE ? "in\n" : "not let in\n");
     return call == MSCHAP_CALL_NONE ? 0 : 1;

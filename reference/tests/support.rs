@@ -85,5 +85,5 @@ fn names_are_those_of_the_header() {
         assert_eq!(defined.get(name), Some(&number), "{cell}");
         seen.insert(number.to_string());
     }
-    assert_eq!(seen.len(), 6, "{seen:?}");
+    assert_eq!(seen.len(), 10, "{seen:?}");
 }

@@ -7,14 +7,25 @@ use crate::{sys, Account, Challenge, ChangeFault, Issued, Reason, Refusal};
 pub enum Awaited {
     /// A Response.
     Response,
-    /// A change of the password.
+    /// A version 2 change of the password.
     Change,
+    /// A version 1 change of the password.
+    ChangeVersion1,
     /// Nothing: it has ended.
     Nothing,
 }
 
+/// Which change of the password a conversation awaits after an expired one.
+#[derive(Clone, Copy, Debug, PartialEq, Eq)]
+pub enum ChangeVersion {
+    /// Version 1, code 5, which whoever listens on the line can decrypt: RFC 2433 deprecates it.
+    One,
+    /// Version 2, code 6.
+    Two,
+}
+
 /// The terms of a conversation. There is no `Default`, as there is no limit that fits all: choose
-/// one, and [`Terms::new`] has the defaults of the rest: 2 retries, and LM off.
+/// one, and [`Terms::new`] has the defaults of the rest: 2 retries, LM off, and version 2 changes.
 ///
 /// The limit stops a guesser who hangs up and calls back, and gets fresh retries: an account whose
 /// count [`failures`](Account::failures) has reached it is locked, so that every Response to it
@@ -33,6 +44,17 @@ pub enum Awaited {
 /// Without it every LM response draws 691, the right one too. Up to 0.4.0 `None` allowed LM: an
 /// upgrade without this choice locks those phones out. Ask for it there alone, since an account
 /// that has both hashes can then be guessed at by its LM hash, much the weaker.
+///
+/// A bench whose handsets know only the older change of the password, code 5, asks for that one:
+///
+/// ```
+/// use mschap::{ChangeVersion, Terms};
+///
+/// let terms = Terms { change: Some(ChangeVersion::One), ..Terms::new(10) };
+/// ```
+///
+/// Its Failures then say V=1, and the other change is refused. The packet has the old and the new
+/// hash under the challenge, which is sent in the clear: ask for it where nobody else listens.
 #[derive(Clone, Copy, Debug, PartialEq, Eq)]
 pub struct Terms {
     /// How many invalid Responses in a row lock an account, 1 to 255; with 0 the opening is refused
@@ -42,6 +64,8 @@ pub struct Terms {
     pub retries: Option<u8>,
     /// A response by LM is judged; else, and with `None`, it is never valid.
     pub lm_allowed: Option<bool>,
+    /// Which change of the password is awaited; with `None` it is version 2's.
+    pub change: Option<ChangeVersion>,
 }
 
 impl Terms {
@@ -51,6 +75,7 @@ impl Terms {
             limit,
             retries: None,
             lm_allowed: None,
+            change: None,
         }
     }
 
@@ -62,7 +87,12 @@ impl Terms {
             Some(true) => sys::LM_ALLOWED,
             Some(false) => sys::LM_REFUSED,
         };
-        sys::TERMS | sys::limit(self.limit.into()) | retries | lm
+        let change = match self.change {
+            None => 0,
+            Some(ChangeVersion::One) => sys::CHANGE_1,
+            Some(ChangeVersion::Two) => sys::CHANGE_2,
+        };
+        sys::TERMS | sys::limit(self.limit.into()) | retries | lm | change
     }
 }
 
@@ -94,7 +124,8 @@ pub enum Update {
     Nothing,
     /// A Response was judged: the account that was passed, with its new count and no other change.
     Counted(Account),
-    /// A change of the password was accepted: the account with its new hash, and the count 0.
+    /// A change of the password was accepted: the account with its new hash, or both, and the
+    /// count 0.
     Changed(Account),
 }
 
@@ -178,8 +209,8 @@ impl Conversation {
         let updated = Account::from_bytes(&updated)?.filter(|_| is_given);
         let update = match (updated, awaited) {
             (None, _) => Update::Nothing,
-            (Some(account), Awaited::Change) => Update::Changed(account),
-            (Some(account), _) => Update::Counted(account),
+            (Some(account), Awaited::Response) => Update::Counted(account),
+            (Some(account), _) => Update::Changed(account),
         };
         let number = sys::answer_reason(&answer);
         Ok(Answer {
@@ -196,6 +227,7 @@ impl Conversation {
         match sys::conversation_awaits(&self.0) {
             sys::AWAITS_RESPONSE => Awaited::Response,
             sys::AWAITS_CHANGE => Awaited::Change,
+            sys::AWAITS_CHANGE_1 => Awaited::ChangeVersion1,
             _ => Awaited::Nothing,
         }
     }

@@ -60,8 +60,9 @@
 //!
 //! What is stored (a [`Conversation`], a [`Peer`], an [`Account`]'s record, an [`Issued`], a
 //! [`Password`]) begins with its kind and the version of that kind's layout; `from_bytes` refuses
-//! bytes of another kind or version. Records have a new layout since 0.8.0, with the round keys of
-//! their hashes, by which [`record_response`] answers.
+//! bytes of another kind or version. Conversations have a new layout since 0.9.0, with the version of
+//! their change, and records since 0.8.0, with the round keys of their hashes, by which
+//! [`record_response`] answers.
 
 #![deny(missing_docs)]
 #![deny(unsafe_code)]
@@ -81,7 +82,8 @@ pub mod sys;
 pub use account::{record_response, Account, HashKind};
 pub use account_file::{count_accounts, find_account, write_account};
 pub use account_file::{Counts, FileFault, Found, Times};
-pub use authenticator::{account_of, domain_of, Answer, Awaited, Conversation, Terms, Update};
+pub use authenticator::{account_of, domain_of, Answer, Awaited, ChangeVersion};
+pub use authenticator::{Conversation, Terms, Update};
 pub use cipher::{des_decrypt, des_encrypt, md4, rc4};
 pub use issued::Issued;
 pub use password::{challenge_response, LmHash, NtHash, Password};
@@ -99,5 +101,7 @@ pub const LIST_PLACES: usize = sys::LIST_PLACES;
 pub const REPLY_SIZE: usize = sys::REPLY_SIZE;
 /// Room for the longest Response.
 pub const RESPONSE_PACKET: usize = sys::RESPONSE_PACKET;
-/// The size of every change of the password.
+/// The size of every version 2 change of the password.
 pub const CHANGE_PACKET: usize = sys::CHANGE_PACKET;
+/// The size of every version 1 change of the password.
+pub const CHANGE_1_PACKET: usize = sys::CHANGE_1_PACKET;

@@ -17,7 +17,7 @@ pub enum Call {
     Response,
     /// A version 2 change of the password.
     Change,
-    /// A version 1 change, which is not written here.
+    /// A version 1 change of the password, which whoever listens on the line can decrypt.
     ChangeVersion1,
     /// The end: hang up.
     End,
@@ -56,7 +56,7 @@ impl Peer {
         Ok(sys::packet_length(out))
     }
 
-    /// Writes the change from an old to a new password at the front of `out`. The filler hides the
+    /// Writes the version 2 change from an old to a new password at the front of `out`. The filler hides the
     /// new password's length: pass bytes that are unpredictable, from a CSPRNG. Gives the size. A
     /// refusal changes nothing.
     pub fn write_change(
@@ -68,6 +68,20 @@ impl Peer {
     ) -> Result<usize, Refusal> {
         let (old, new) = (old.as_bytes(), new.as_bytes());
         Refusal::check(sys::write_change(&mut self.0, old, new, filler, out))?;
+        Ok(sys::packet_length(out))
+    }
+
+    /// Writes the version 1 change from an old to a new password at the front of `out`, only where a
+    /// reply calls for it. Whoever has heard the Challenge decrypts both hashes from it; a program
+    /// that would rather give up hangs up instead. Gives the size. A refusal changes nothing.
+    pub fn write_change_1(
+        &mut self,
+        old: &Password,
+        new: &Password,
+        out: &mut [u8],
+    ) -> Result<usize, Refusal> {
+        let (old, new) = (old.as_bytes(), new.as_bytes());
+        Refusal::check(sys::write_change_1(&mut self.0, old, new, out))?;
         Ok(sys::packet_length(out))
     }
 

@@ -164,7 +164,8 @@ impl Reason {
 }
 
 /// What is wrong with a change of the password that drew [`Reason::ChangingPassword`]: the first
-/// that holds, in this order. It is for the log and the support desk, and never for the peer.
+/// that holds, in this order, of a version 2 change 1 to 6 and of a version 1 change 7 to 10. It is
+/// for the log and the support desk, and never for the peer.
 #[derive(Clone, Copy, Debug, PartialEq, Eq, Hash)]
 #[non_exhaustive]
 pub enum ChangeFault {
@@ -182,12 +183,20 @@ pub enum ChangeFault {
     OldHashWrong,
     /// 6: the response to the challenge in force is not the new hash's.
     ResponseWrong,
+    /// 7: bit 0 of a version 1 change's flags is clear, and LM is not allowed.
+    LmNotAllowed,
+    /// 8: bit 0 is clear, and the packet says that the new password has over 14 bytes.
+    LengthOverLm,
+    /// 9: the account has no NT hash, or no LM hash where bit 0 is clear.
+    HashAbsent,
+    /// 10: that hash under the challenge is not the one sent: mostly the old password is mistyped.
+    HashWrong,
     /// Any other number, which an archive of a later version may have.
     Unknown(u32),
 }
 
 /// Each fault that has a number of its own, and its words.
-const FAULTS: [(u32, ChangeFault, &str); 7] = [
+const FAULTS: [(u32, ChangeFault, &str); 11] = [
     (0, ChangeFault::NoFault, "no fault"),
     (1, ChangeFault::NoNtHash, "the account has no NT hash"),
     (
@@ -214,6 +223,26 @@ const FAULTS: [(u32, ChangeFault, &str); 7] = [
         6,
         ChangeFault::ResponseWrong,
         "the response to the challenge is not the new password's",
+    ),
+    (
+        7,
+        ChangeFault::LmNotAllowed,
+        "the packet changes the password by LM (flag bit 0 is clear), and LM is not allowed",
+    ),
+    (
+        8,
+        ChangeFault::LengthOverLm,
+        "the packet changes the password by LM, and says that it is longer than 14",
+    ),
+    (
+        9,
+        ChangeFault::HashAbsent,
+        "the account has no hash of the kind that the packet changes",
+    ),
+    (
+        10,
+        ChangeFault::HashWrong,
+        "the old hash under the challenge is not the one sent (mostly a wrong old password)",
     ),
 ];
 

@@ -6,12 +6,12 @@
 //! each one does. Here every value is bytes: the types around this module tell them apart.
 
 /// The version of the interface that is declared here: major, minor and patch, a byte each.
-pub const VERSION: u32 = 0x000800;
+pub const VERSION: u32 = 0x000900;
 
 /// The version of a record's layout: with the round keys of both hashes, since 0.8.0.
 pub const RECORD_LAYOUT: u8 = 3;
-/// The version of a conversation's layout: with the limit, since 0.7.0.
-pub const CONVERSATION_LAYOUT: u8 = 3;
+/// The version of a conversation's layout: with the version of its change, since 0.9.0.
+pub const CONVERSATION_LAYOUT: u8 = 4;
 /// The version of an answer's layout: with the record's round keys, since 0.8.0.
 pub const ANSWER_LAYOUT: u8 = 5;
 /// The version of a peer's layout.
@@ -42,8 +42,10 @@ pub const INVALID: u32 = 0xffff_ffff;
 pub const AWAITS_NOTHING: u32 = 0;
 /// What a conversation awaits: a Response.
 pub const AWAITS_RESPONSE: u32 = 2;
-/// What a conversation awaits: a change of the password.
+/// What a conversation awaits: a version 2 change of the password.
 pub const AWAITS_CHANGE: u32 = 6;
+/// What a conversation awaits: a version 1 change of the password.
+pub const AWAITS_CHANGE_1: u32 = 5;
 
 /// What a reply calls for: nothing, as it is Success.
 pub const CALL_NONE: u32 = 0;
@@ -51,7 +53,7 @@ pub const CALL_NONE: u32 = 0;
 pub const CALL_RESPONSE: u32 = 1;
 /// What a reply calls for: a version 2 change of the password.
 pub const CALL_CHANGE: u32 = 2;
-/// What a reply calls for: a version 1 change of the password, which is not written here.
+/// What a reply calls for: a version 1 change of the password.
 pub const CALL_CHANGE_1: u32 = 3;
 /// What a reply calls for: the end.
 pub const CALL_END: u32 = 4;
@@ -77,6 +79,10 @@ pub const TERMS: u32 = 0x10000;
 pub const LM_ALLOWED: u32 = 0x100;
 /// To be joined to the terms: a response by LM is never valid; the default.
 pub const LM_REFUSED: u32 = 0x200;
+/// To be joined to the terms: a version 1 change is awaited after an expired password.
+pub const CHANGE_1: u32 = 0x400;
+/// To be joined to the terms: a version 2 change is; the default.
+pub const CHANGE_2: u32 = 0x800;
 
 /// To be joined to the terms: how many invalid Responses in a row lock an account, 1 to 255. Any
 /// other count is as if nothing were joined, which is refused with 18.
@@ -114,7 +120,7 @@ pub const FILLER_SIZE: usize = 512;
 /// Bytes of a record.
 pub const RECORD_SIZE: usize = 810;
 /// Bytes of a conversation.
-pub const CONVERSATION_SIZE: usize = 60;
+pub const CONVERSATION_SIZE: usize = 61;
 /// Bytes of a step's answer.
 pub const ANSWER_SIZE: usize = 814;
 /// Bytes of a peer.
@@ -127,8 +133,10 @@ pub const LIST_PLACES: usize = 4096;
 pub const REPLY_SIZE: usize = 17;
 /// Bytes of the longest Response.
 pub const RESPONSE_PACKET: usize = 310;
-/// Bytes of every change.
+/// Bytes of every version 2 change.
 pub const CHANGE_PACKET: usize = 1118;
+/// Bytes of every version 1 change.
+pub const CHANGE_1_PACKET: usize = 72;
 /// Bytes of the longest input of MD4.
 pub const MD4_INPUT_MAX: usize = 4096;
 /// Bytes of the longest key of RC4.
@@ -356,7 +364,7 @@ pub mod raw {
             out: *mut u8,
             out_size: usize,
         ) -> u32;
-        /// Writes the peer's change into out.
+        /// Writes the peer's version 2 change into out.
         pub fn mschap_write_change(
             peer: *mut u8,
             peer_size: usize,
@@ -366,6 +374,17 @@ pub mod raw {
             new_password_size: usize,
             filler: *const u8,
             filler_size: usize,
+            out: *mut u8,
+            out_size: usize,
+        ) -> u32;
+        /// Writes the peer's version 1 change into out.
+        pub fn mschap_write_change_1(
+            peer: *mut u8,
+            peer_size: usize,
+            old_password: *const u8,
+            old_password_size: usize,
+            new_password: *const u8,
+            new_password_size: usize,
             out: *mut u8,
             out_size: usize,
         ) -> u32;
@@ -792,7 +811,7 @@ pub fn write_response(peer: &mut [u8], password: &[u8], name: &[u8], out: &mut [
     }
 }
 
-/// Writes the peer's change into out.
+/// Writes the peer's version 2 change into out.
 pub fn write_change(
     peer: &mut [u8],
     old_password: &[u8],
@@ -811,6 +830,28 @@ pub fn write_change(
             new_password.len(),
             filler.as_ptr(),
             filler.len(),
+            out.as_mut_ptr(),
+            out.len(),
+        )
+    }
+}
+
+/// Writes the peer's version 1 change into out.
+pub fn write_change_1(
+    peer: &mut [u8],
+    old_password: &[u8],
+    new_password: &[u8],
+    out: &mut [u8],
+) -> u32 {
+    // SAFETY: slices, as said above.
+    unsafe {
+        raw::mschap_write_change_1(
+            peer.as_mut_ptr(),
+            peer.len(),
+            old_password.as_ptr(),
+            old_password.len(),
+            new_password.as_ptr(),
+            new_password.len(),
             out.as_mut_ptr(),
             out.len(),
         )

@@ -223,7 +223,7 @@ fn account_files() {
 /// One opening with this answer, which is not 0: everything that was passed is unchanged.
 fn refused(list: &[u8], identifier: u32, terms: u32, size: usize, answer: u32) {
     let mut after = list.to_vec();
-    let mut conversation = [FILL; 60];
+    let mut conversation = [FILL; 61];
     let mut reply = vec![FILL; size];
     let number = sys::open(
         identifier,
@@ -238,7 +238,7 @@ fn refused(list: &[u8], identifier: u32, terms: u32, size: usize, answer: u32) {
     assert_eq!(after, list, "{what}");
     assert_eq!(
         (conversation, reply),
-        ([FILL; 60], vec![FILL; size]),
+        ([FILL; 61], vec![FILL; size]),
         "{what}"
     );
 }
@@ -269,18 +269,19 @@ fn openings() {
             assert_eq!((&after, reply), (passed, vec![FILL; size]));
             number
         };
-        bad_sizes(8, |challenge| open(challenge, &mut [0; 60]));
-        bad_sizes(60, |conversation| open(&[0; 8], conversation));
+        bad_sizes(8, |challenge| open(challenge, &mut [0; 61]));
+        bad_sizes(61, |conversation| open(&[0; 8], conversation));
         for identifier in [256, 257, 0x107, 65_536, sys::TERMS | 7, u32::MAX] {
             refused(passed, identifier, terms, size, sys::BAD_ARGUMENT);
         }
-        // what stands where the mark of terms does, and where the choice about LM does
+        // what stands where the mark of terms does, and where the choices about LM and the change do
         for mark in (0..=0xff).filter(|mark| *mark != 1) {
             let terms = mark << 16 | terms & 0xff00_ffff;
             refused(passed, 7, terms, size, sys::BAD_ARGUMENT);
         }
-        for lm in 3..=0xff {
-            let terms = lm << 8 | terms & 0xffff_00ff;
+        let choices = [0, 1, 2, 4, 5, 6, 8, 9, 10];
+        for choice in (0..=0xff).filter(|choice| !choices.contains(choice)) {
+            let terms = choice << 8 | terms & 0xffff_00ff;
             refused(passed, 7, terms, size, sys::BAD_ARGUMENT);
         }
     }
@@ -300,7 +301,7 @@ fn openings() {
     }
     // every limit that there is
     for limit in 1..=255 {
-        let (mut conversation, mut list) = ([FILL; 60], list(3, 0));
+        let (mut conversation, mut list) = ([FILL; 61], list(3, 0));
         let terms = sys::TERMS | sys::limit(limit);
         let (challenge, mut reply) = ([9; 8], [0; 17]);
         let number = sys::open(
@@ -318,9 +319,11 @@ fn openings() {
     }
     // every choice that there is: what the conversation is then
     for lm in [0, sys::LM_ALLOWED, sys::LM_REFUSED] {
-        for retries in [None, Some(0), Some(2), Some(7)] {
-            let terms = LIMITED | lm | retries.map_or(0, sys::retries);
-            let mut conversation = [FILL; 60];
+        let changes = [0, sys::CHANGE_1, sys::CHANGE_2];
+        let counts = [None, Some(0), Some(2), Some(7)];
+        for (change, retries) in changes.map(|change| counts.map(|r| (change, r))).concat() {
+            let terms = LIMITED | lm | change | retries.map_or(0, sys::retries);
+            let mut conversation = [FILL; 61];
             let mut list = list(8, 0);
             let number = sys::open(
                 255,
@@ -335,6 +338,8 @@ fn openings() {
             let count = retries.unwrap_or(2);
             assert_eq!((u32::from(opened.retries), opened.id), (count, 255));
             assert_eq!(opened.lm, lm == sys::LM_ALLOWED, "{terms:#x}");
+            let version = if change == sys::CHANGE_1 { 1 } else { 2 };
+            assert_eq!(conversation[layout::CHANGE_AT], version, "{terms:#x}");
             assert_eq!(sys::list_used(&list), count + 1);
         }
     }
@@ -374,7 +379,7 @@ fn lists() {
             continue;
         }
         let mut after = bytes.clone();
-        let number = sys::open(7, TERMS, &[0; 8], &mut after, &mut [0; 60], &mut [0; 17]);
+        let number = sys::open(7, TERMS, &[0; 8], &mut after, &mut [0; 61], &mut [0; 17]);
         assert_eq!((number, sys::list_used(&after)), (sys::OK, 3));
         let (used, places) = layout::to_list(&after).expect("a list");
         assert_eq!(used, 3);
@@ -403,8 +408,8 @@ fn lists() {
 }
 
 /// A conversation that awaits a Response, and a Response for it.
-fn opened() -> ([u8; 60], Vec<u8>) {
-    let (mut conversation, mut reply, mut peer) = ([0; 60], [0; 17], [0; 21]);
+fn opened() -> ([u8; 61], Vec<u8>) {
+    let (mut conversation, mut reply, mut peer) = ([0; 61], [0; 17], [0; 21]);
     let mut list = list(3, 0);
     let number = sys::open(7, TERMS, &[0; 8], &mut list, &mut conversation, &mut reply);
     assert_eq!(number, sys::OK);
@@ -437,7 +442,7 @@ fn steps() {
         bytes.resize(size, 0);
         bytes
     };
-    for size in others(60) {
+    for size in others(61) {
         bad_step(&resized(&conversation, size), &nobody, 814);
     }
     for size in others(810) {
@@ -463,7 +468,7 @@ fn steps() {
     );
     assert_eq!((same, again), (conversation, reply));
     // which wrong sizes do not get
-    for size in others(60) {
+    for size in others(61) {
         bad_step(&resized(&conversation, size), &nobody, 814);
     }
     for size in others(814) {
@@ -477,7 +482,7 @@ fn steps() {
         sys::conversation_retries,
     ];
     assert_eq!(told.map(|tell| tell(&conversation)), [2, 8, 1]);
-    for size in others(60) {
+    for size in others(61) {
         let bytes = resized(&conversation, size);
         assert_eq!(told.map(|tell| tell(&bytes)), [sys::INVALID; 3]);
     }
@@ -561,6 +566,15 @@ fn peers() {
         bad_sizes_of(&password, |new| {
             sys::write_change(&mut peer, &password, new, &filler, out)
         });
+        bad_sizes_of(&password, |old| {
+            sys::write_change_1(&mut peer, old, &password, out)
+        });
+        bad_sizes_of(&password, |new| {
+            sys::write_change_1(&mut peer, &password, new, out)
+        });
+        bad_sizes_of(&before, |peer| {
+            sys::write_change_1(peer, &password, &password, out)
+        });
         assert_eq!(peer, before);
     }
     // a filler of another size is refused by 12, before the room
@@ -575,6 +589,13 @@ fn peers() {
         }
         assert_eq!(peer, before);
     }
+    // too little room for a version 1 change is refused by 9
+    for room in [0, 1, 71] {
+        let mut peer = peer();
+        let before = peer;
+        let number = sys::write_change_1(&mut peer, &password, &password, &mut out[..room]);
+        assert_eq!((number, peer), (9, before));
+    }
     assert_eq!(out, [FILL; 1118]);
 }
 
@@ -585,7 +606,7 @@ fn null_with_no_bytes() {
     let (n, m) = (null(), null_mut());
     let mut hash = [0; 16];
     let mut same = [0; 16];
-    let mut buffer = [FILL; 60];
+    let mut buffer = [FILL; 61];
     let mut out = [FILL; 814];
     let mut password = [FILL; 516];
     let (conversation, packet) = opened();
@@ -658,18 +679,18 @@ fn null_with_no_bytes() {
         let (q, c, o) = (challenge.as_ptr(), buffer.as_mut_ptr(), out.as_mut_ptr());
         let full = list.as_mut_ptr();
         // no list, no reply, no place
-        assert_eq!(mschap_open(7, TERMS, q, 8, m, 0, c, 60, o, 17), BAD);
-        assert_eq!(mschap_open(7, TERMS, q, 8, full, 4, c, 60, m, 0), 2);
-        assert_eq!(mschap_open(7, TERMS, q, 8, full, 4, c, 60, o, 17), 17);
-        assert_eq!((buffer, out), ([FILL; 60], [FILL; 814]));
+        assert_eq!(mschap_open(7, TERMS, q, 8, m, 0, c, 61, o, 17), BAD);
+        assert_eq!(mschap_open(7, TERMS, q, 8, full, 4, c, 61, m, 0), 2);
+        assert_eq!(mschap_open(7, TERMS, q, 8, full, 4, c, 61, o, 17), 17);
+        assert_eq!((buffer, out), ([FILL; 61], [FILL; 814]));
 
         assert_eq!(mschap_step(m, 0, n, 0, n, 0, m, 0, m, 0), BAD);
         let (c, o) = (next.as_mut_ptr(), out.as_mut_ptr());
         let reply = buffer.as_mut_ptr();
-        assert_eq!(mschap_step(c, 60, n, 0, r, 810, reply, 17, o, 814), 3);
+        assert_eq!(mschap_step(c, 61, n, 0, r, 810, reply, 17, o, 814), 3);
         let packet = packet.as_ptr();
-        assert_eq!(mschap_step(c, 60, packet, 55, r, 810, m, 0, o, 814), 2);
-        assert_eq!((next, buffer, out), (conversation, [FILL; 60], [FILL; 814]));
+        assert_eq!(mschap_step(c, 61, packet, 55, r, 810, m, 0, o, 814), 2);
+        assert_eq!((next, buffer, out), (conversation, [FILL; 61], [FILL; 814]));
         assert_eq!(mschap_answer_reason(n, 0), sys::INVALID);
         assert_eq!(mschap_answer_repeated(n, 0), sys::INVALID);
         assert_eq!(mschap_answer_fault(n, 0), sys::INVALID);
@@ -693,7 +714,7 @@ fn null_with_no_bytes() {
         assert_eq!(mschap_read_challenge(n, 0, buffer.as_mut_ptr(), 21), 3);
         let p = peer.as_mut_ptr();
         assert_eq!(mschap_read_reply(p, 21, n, 0, a, b), 3);
-        assert_eq!((*a, *b, buffer), (9, 9, [FILL; 60]));
+        assert_eq!((*a, *b, buffer), (9, 9, [FILL; 61]));
         assert_eq!(mschap_write_response(m, 0, n, 0, n, 0, m, 0), BAD);
         assert_eq!(mschap_write_response(p, 21, n, 0, n, 0, m, 0), BAD);
         assert_eq!(mschap_write_response(p, 21, w, 516, n, 0, m, 0), 10);
@@ -706,6 +727,9 @@ fn null_with_no_bytes() {
         let filler = [0; 512];
         let q = filler.as_ptr();
         assert_eq!(mschap_write_change(p, 21, w, 516, w, 516, q, 512, m, 0), 9);
+        assert_eq!(mschap_write_change_1(m, 0, n, 0, n, 0, m, 0), BAD);
+        assert_eq!(mschap_write_change_1(p, 21, w, 516, n, 0, m, 0), BAD);
+        assert_eq!(mschap_write_change_1(p, 21, w, 516, w, 516, m, 0), 9);
         assert_eq!(peer, before);
     }
 }

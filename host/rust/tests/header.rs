@@ -54,6 +54,7 @@ fn numbers() {
         ("REPLY_SIZE", sys::REPLY_SIZE),
         ("RESPONSE_PACKET", sys::RESPONSE_PACKET),
         ("CHANGE_PACKET", sys::CHANGE_PACKET),
+        ("CHANGE_1_PACKET", sys::CHANGE_1_PACKET),
         ("MD4_INPUT_MAX", sys::MD4_INPUT_MAX),
         ("RC4_KEY_MAX", sys::RC4_KEY_MAX),
         ("NT_PASSWORD_MAX", sys::NT_PASSWORD_MAX),
@@ -76,6 +77,7 @@ fn numbers() {
         ("AWAITS_NOTHING", sys::AWAITS_NOTHING),
         ("AWAITS_RESPONSE", sys::AWAITS_RESPONSE),
         ("AWAITS_CHANGE", sys::AWAITS_CHANGE),
+        ("AWAITS_CHANGE_1", sys::AWAITS_CHANGE_1),
         ("CALL_NONE", sys::CALL_NONE),
         ("CALL_RESPONSE", sys::CALL_RESPONSE),
         ("CALL_CHANGE", sys::CALL_CHANGE),
@@ -91,6 +93,8 @@ fn numbers() {
         ("TERMS", sys::TERMS),
         ("LM_ALLOWED", sys::LM_ALLOWED),
         ("LM_REFUSED", sys::LM_REFUSED),
+        ("CHANGE_1", sys::CHANGE_1),
+        ("CHANGE_2", sys::CHANGE_2),
         ("ENDED", Refusal::Ended.number()),
         ("REPLY_ROOM", Refusal::ReplyRoom.number()),
         ("FRAME", Refusal::Frame.number()),
@@ -137,6 +141,10 @@ fn numbers() {
         ("FAULT_LENGTH_ODD", ChangeFault::LengthOdd.number()),
         ("FAULT_OLD_HASH_WRONG", ChangeFault::OldHashWrong.number()),
         ("FAULT_RESPONSE_WRONG", ChangeFault::ResponseWrong.number()),
+        ("FAULT_LM_NOT_ALLOWED", ChangeFault::LmNotAllowed.number()),
+        ("FAULT_LENGTH_OVER_LM", ChangeFault::LengthOverLm.number()),
+        ("FAULT_HASH_ABSENT", ChangeFault::HashAbsent.number()),
+        ("FAULT_HASH_WRONG", ChangeFault::HashWrong.number()),
     ]
     .map(|(name, number)| (name, u64::from(number)));
     let mut left: Vec<String> = all();
@@ -187,9 +195,11 @@ fn fault_texts() {
         })
         .collect();
     let ours = |number| ChangeFault::of(number).to_string();
-    let all: Vec<(u64, String)> = (0..7).map(|number| (number.into(), ours(number))).collect();
+    let all: Vec<(u64, String)> = (0..11)
+        .map(|number| (number.into(), ours(number)))
+        .collect();
     assert_eq!(theirs, all);
-    for unknown in [7, 8, 100, sys::INVALID] {
+    for unknown in [11, 12, 100, sys::INVALID] {
         assert_eq!(ours(unknown), quoted(default, '"'));
         assert_eq!(ChangeFault::of(unknown).number(), unknown);
     }

@@ -244,7 +244,7 @@ fn cr09_6() {
 /// limit is (CR09-13). A change that is not accepted gives no record.
 #[test]
 fn cr09_7_and_13() {
-    const KEPT_FAILURES: usize = 53;
+    const KEPT_FAILURES: usize = 54;
     let expired = Account {
         expired: true,
         ..counted(2)

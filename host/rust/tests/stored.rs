@@ -80,7 +80,9 @@ fn spoiled(value: &[u8], mut check: impl FnMut(&[u8])) -> usize {
     // of another kind, with this one's size and with that one's
     let own = value.len();
     for kind in KINDS {
-        for size in [own, 21, 41, 42, 43, 44, 45, 46, 52, 58, 60, 516, 810, 814] {
+        for size in [
+            own, 21, 41, 42, 43, 44, 45, 46, 52, 58, 59, 60, 61, 62, 516, 810, 814,
+        ] {
             for version in [0, 1, 2, 3, 4, 5, 6, 255] {
                 let mut bytes = value.to_vec();
                 bytes.resize(size, 0);
@@ -176,11 +178,37 @@ fn conversations_kept() -> Vec<Conversation> {
             Reply::failure(7, 691, true, Change::Two),
         ),
     ]);
+    // and such as were opened for version 1 changes
+    all.extend([
+        Conversation {
+            change: Change::One,
+            ..conversation(Phase::Change(entry()))
+        },
+        Conversation {
+            change: Change::One,
+            lm: false,
+            ..answered(
+                8,
+                Phase::Response,
+                2,
+                Reply::failure(7, 691, true, Change::One),
+            )
+        },
+        Conversation {
+            change: Change::One,
+            ..answered(
+                7,
+                Phase::Ended,
+                5,
+                Reply::failure(7, 709, false, Change::One),
+            )
+        },
+    ]);
     all
 }
 
-/// A Response and a change for the conversations above.
-fn packets() -> [Vec<u8>; 2] {
+/// A Response and a change of either version for the conversations above.
+fn packets() -> [Vec<u8>; 3] {
     let turn = Turn {
         id: 7,
         challenge: CHALLENGE,
@@ -191,7 +219,10 @@ fn packets() -> [Vec<u8>; 2] {
     let mut change = vec![0; packet::CHANGE_LENGTH];
     let written = peer::write_change(&turn, PASSWORD, b"n\0", &[3; 512], &mut change);
     assert_eq!(written.refusal, 0);
-    [response, change]
+    let mut change_1 = vec![0; packet::CHANGE_1_LENGTH];
+    let written = peer::write_change_1(&turn, PASSWORD, b"n\0", &mut change_1);
+    assert_eq!(written.refusal, 0);
+    [response, change, change_1]
 }
 
 /// A step with these bytes for conversation and record, against what they stand for.
@@ -253,7 +284,10 @@ fn conversations() {
                 let awaited = match value.phase {
                     Phase::Ended => 0,
                     Phase::Response => 2,
-                    Phase::Change(_) => 6,
+                    Phase::Change(_) => match value.change {
+                        Change::One => 5,
+                        Change::Two => 6,
+                    },
                 };
                 [awaited, value.id.into(), value.retries.into()]
             });
@@ -375,10 +409,46 @@ fn a_stored_conversation_repeats() {
     }
 }
 
+/// A conversation that was stored while it awaited a version 1 change goes on with it: the packet
+/// is accepted by the kept record, and the account gets the new NT hash and its round keys. The
+/// version of its change and the code that it awaits belong together.
+#[test]
+fn a_stored_version_1_change_goes_on() {
+    let [_, change, change_1] = packets();
+    let kept = Conversation {
+        change: Change::One,
+        ..conversation(Phase::Change(entry()))
+    };
+    let stored = layout::conversation(&kept);
+    let mut again = mschap::Conversation::from_bytes(&stored).expect("a conversation");
+    assert_eq!(again.awaited(), mschap::Awaited::ChangeVersion1);
+    let refused = again.step(&change, None, &mut [0; 17]);
+    assert_eq!(refused, Err(Refusal::Code));
+    let mut reply = [FILL; 17];
+    let answer = again.step(&change_1, None, &mut reply).expect("an answer");
+    assert_eq!(reply[..4], [3, 7, 0, 4]);
+    let Update::Changed(account) = answer.update else {
+        panic!("{answer:?}");
+    };
+    let new = hashes::nt_hash(b"n\0").expect("a password");
+    let hashes = (account.nt_hash.map(|hash| hash.0), account.lm_hash);
+    assert_eq!((hashes, account.expired), ((Some(new), None), false));
+    for (at, byte) in [
+        (layout::CHANGE_AT, 2),
+        (layout::CHANGE_AT, 0),
+        (layout::CHANGE_AT, 3),
+        (layout::TAG, 6),
+    ] {
+        let mut crossed = stored;
+        crossed[at] = byte;
+        refuses(b'C', &crossed);
+    }
+}
+
 /// An accepted change gives its record once: a repeat of it gives none.
 #[test]
 fn a_repeated_change_gives_no_record() {
-    let [_, change] = packets();
+    let [_, change, _] = packets();
     let mut bytes = layout::conversation(&conversation(Phase::Change(entry())));
     let nobody = layout::record(None);
     let mut reply = [FILL; 17];
@@ -418,20 +488,25 @@ fn what_earlier_versions_stored() {
     let record = [1, 1, 9, 9, 9];
     // it awaits a Response with identifier 7, LM is allowed and 2 retries are left
     let conversation = [2, 1, 7, 2, 1, 2, 3, 4, 5, 6, 7, 8];
+    // the same with the limit 5, and with the version of its change
+    let limited = [2, 1, 5, 7, 2, 1, 2, 3, 4, 5, 6, 7, 8];
+    let versioned = [2, 1, 5, 2, 7, 2, 1, 2, 3, 4, 5, 6, 7, 8];
     // a Failure with the reason 691, in front of which 0.3.0 put that it is no repeat
     let first = [2, 0xb3];
     let answer = [0, 2, 0xb3];
     for (kind, version, sizes, front) in [
         // 0.2.0 to 0.6.0
         (b'R', 1, &[41, 42, 810][..], &record[..]),
-        (b'C', 1, &[52, 58, 60], &conversation),
-        (b'C', 2, &[58, 60], &conversation),
+        (b'C', 1, &[52, 58, 60, 61], &conversation),
+        (b'C', 2, &[58, 60, 61], &conversation),
         (b'A', 1, &[43, 44, 45, 46, 814], &first),
         (b'A', 2, &[44, 45, 46, 814], &answer),
         (b'A', 3, &[45, 46, 814], &answer),
         // 0.7.0, before a record had schedules
         (b'R', 2, &[42, 810], &record),
         (b'A', 4, &[46, 814], &answer),
+        // 0.7.0 and 0.8.0, before a conversation had the version of its change
+        (b'C', 3, &[60, 61], &limited),
     ] {
         for size in sizes {
             refuses(kind, &stored(kind, version, *size, front));
@@ -440,16 +515,16 @@ fn what_earlier_versions_stored() {
     // and as this version they are what they are taken for
     let bytes = stored(b'R', 3, 810, &record);
     assert_eq!(sys::record_failures(&bytes), 0);
-    let bytes = stored(b'C', 3, 60, &conversation);
+    let bytes = stored(b'C', 4, 61, &versioned);
     assert_eq!(sys::conversation_awaits(&bytes), 2);
-    assert_eq!(sys::conversation_identifier(&bytes), 2);
+    assert_eq!(sys::conversation_identifier(&bytes), 7);
     let bytes = stored(b'A', 5, 814, &answer);
     assert_eq!(sys::answer_reason(&bytes), 691);
 }
 
 /// A value is refused by each function that takes one of its kind, and stays as it is.
 fn refuses(kind: u8, bytes: &[u8]) {
-    let [response, _] = packets();
+    let [response, ..] = packets();
     let (nobody, mut reply, mut answer) = (layout::record(None), [FILL; 17], [FILL; ANSWER_SIZE]);
     let talk = layout::conversation(&conversation(Phase::Response));
     let mut record = [FILL; RECORD_SIZE];
@@ -524,6 +599,13 @@ fn records_of_version_2() {
 fn sizes() {
     assert_eq!((sys::RECORD_SIZE, sys::RECORD_LAYOUT), (RECORD_SIZE, 3));
     assert_eq!((sys::ANSWER_SIZE, sys::ANSWER_LAYOUT), (ANSWER_SIZE, 5));
+    let size = layout::CONVERSATION_SIZE;
+    assert_eq!(
+        (sys::CONVERSATION_SIZE, sys::CONVERSATION_LAYOUT),
+        (size, 4)
+    );
+    assert_eq!(layout::KEPT_AT + layout::ENTRY_SIZE, layout::LAST_AT);
+    assert_eq!(layout::LAST_AT + 6, size);
     let keys_at = layout::ACCOUNT_AT + layout::ENTRY_SIZE;
     assert_eq!(keys_at, layout::NT_KEYS_AT);
     assert_eq!(keys_at + layout::KEYS_SIZE, layout::LM_KEYS_AT);
@@ -674,8 +756,8 @@ fn answers() {
     }
     assert!(seen.answered > 10_000 && seen.refused > 4_000);
     // each fault was told, and no other number taken for one
-    assert!(faults[..7].iter().all(|times| *times > 0), "{faults:?}");
-    assert_eq!(faults[7..], [0; 249]);
+    assert!(faults[..11].iter().all(|times| *times > 0), "{faults:?}");
+    assert_eq!(faults[11..], [0; 245]);
 }
 
 fn call_number(verdict: &Verdict) -> (u32, u64) {
@@ -731,6 +813,7 @@ fn peers() {
         packet::success(7),
         packet::failure(7, 691, 1, 2),
         packet::failure(7, 648, 0, 2),
+        packet::failure(7, 648, 0, 1),
     ];
     let mut seen = Seen::default();
     for sent in [Some(&last), None] {
@@ -776,6 +859,15 @@ fn peers() {
             let written = value.map(|(_, turn)| {
                 let filler = [3; 512];
                 let written = peer::write_change(&turn, PASSWORD, b"n\0", &filler, &mut theirs);
+                (turn, written)
+            });
+            wrote(bytes, &after, number, [&ours, &theirs], written);
+
+            let mut after = bytes.to_vec();
+            let (mut ours, mut theirs) = ([FILL; 74], [FILL; 74]);
+            let number = sys::write_change_1(&mut after, &old, &new, &mut ours);
+            let written = value.map(|(_, turn)| {
+                let written = peer::write_change_1(&turn, PASSWORD, b"n\0", &mut theirs);
                 (turn, written)
             });
             wrote(bytes, &after, number, [&ours, &theirs], written);
@@ -876,6 +968,24 @@ fn passwords() {
                     assert_eq!(after, peer);
                 }
                 assert_eq!(ours, theirs);
+
+                let mut after = peer;
+                let (mut ours, mut theirs) = ([FILL; 74], [FILL; 74]);
+                let number = sys::write_change_1(&mut after, passed[0], passed[1], &mut ours);
+                if let Some(characters) = value {
+                    let n: &[u8] = b"n\0";
+                    let [old, new] = if new {
+                        [n, characters]
+                    } else {
+                        [characters, n]
+                    };
+                    let written = peer::write_change_1(&turn, old, new, &mut theirs);
+                    assert_eq!((number, written.refusal), (sys::OK, 0));
+                } else {
+                    assert_eq!(number, sys::BAD_ARGUMENT, "{bytes:?}");
+                    assert_eq!(after, peer);
+                }
+                assert_eq!(ours, theirs);
             }
         });
     }
@@ -890,7 +1000,11 @@ fn lists() {
     let spent = layout::list(2, &[&places[..8], &CHALLENGE, &places[16..]].concat());
     for list in [layout::list(2, &places), empty, spent] {
         spoiled(&list, |bytes| {
-            let (mut after, mut conversation, mut reply) = (bytes.to_vec(), [FILL; 60], [FILL; 17]);
+            let (mut after, mut conversation, mut reply) = (
+                bytes.to_vec(),
+                [FILL; layout::CONVERSATION_SIZE],
+                [FILL; 17],
+            );
             let number = sys::open(
                 7,
                 TERMS,
@@ -910,7 +1024,11 @@ fn lists() {
             assert_eq!(mschap::Issued::from_bytes(bytes).is_ok(), sound.is_some());
 
             let Some((used, places)) = value else {
-                let same = (bytes.to_vec(), [FILL; 60], [FILL; 17]);
+                let same = (
+                    bytes.to_vec(),
+                    [FILL; layout::CONVERSATION_SIZE],
+                    [FILL; 17],
+                );
                 assert_eq!(number, sys::BAD_ARGUMENT, "{bytes:?}");
                 assert_eq!((after, conversation, reply), same);
                 return;
@@ -939,7 +1057,10 @@ fn lists() {
                 assert_eq!(conversation, layout::conversation(&opening.conversation));
                 assert_eq!(after, layout::list(used as u16, &places));
             } else {
-                assert_eq!((&after[..], conversation), (bytes, [FILL; 60]));
+                assert_eq!(
+                    (&after[..], conversation),
+                    (bytes, [FILL; layout::CONVERSATION_SIZE])
+                );
                 assert_eq!(after[LIST_HEAD..], places);
             }
         });
@@ -950,7 +1071,7 @@ fn lists() {
 /// Each kind was spoiled in each place to each value, but for schedules.
 #[test]
 fn all_that_is_spoiled() {
-    for size in [21, 60, 516, RECORD_SIZE, ANSWER_SIZE] {
+    for size in [21, layout::CONVERSATION_SIZE, 516, RECORD_SIZE, ANSWER_SIZE] {
         let mut places = vec![0; size];
         let count = spoiled(&vec![0; size], |bytes| {
             if bytes.len() == size {

@@ -3,9 +3,9 @@
 
 use crate::layout;
 use crate::random::Random;
-use mschap::{sys, Awaited, Call, Challenge, Conversation, Issued, LmHash, NtHash, Password, Peer};
-use mschap::{Reading, Refusal, Terms, Update};
-use reference::authenticator::{self as their, Fault, Phase};
+use mschap::{sys, Awaited, Call, Challenge, ChangeVersion, Conversation, Issued, LmHash, NtHash};
+use mschap::{Password, Peer, Reading, Refusal, Terms, Update};
+use reference::authenticator::{self as their, Change, Fault, Phase};
 use reference::issued;
 use reference::message;
 use reference::packet;
@@ -61,7 +61,10 @@ pub fn their_conversation(ours: &Conversation) -> their::Conversation {
     let theirs = layout::to_conversation(ours.as_bytes()).expect("a conversation");
     let awaited = match theirs.phase {
         Phase::Response => Awaited::Response,
-        Phase::Change(_) => Awaited::Change,
+        Phase::Change(_) => match theirs.change {
+            Change::One => Awaited::ChangeVersion1,
+            Change::Two => Awaited::Change,
+        },
         Phase::Ended => Awaited::Nothing,
     };
     assert_eq!(
@@ -136,6 +139,10 @@ pub struct Opening {
     pub terms: Terms,
 }
 
+/// What an opening may say of the change.
+pub const CHANGES: [Option<ChangeVersion>; 3] =
+    [None, Some(ChangeVersion::One), Some(ChangeVersion::Two)];
+
 /// The terms in the number of the C interface.
 pub fn terms_number(terms: &Terms) -> u32 {
     let retries = terms.retries.map_or(0, |count| sys::retries(count.into()));
@@ -143,7 +150,12 @@ pub fn terms_number(terms: &Terms) -> u32 {
     let lm = lm[terms
         .lm_allowed
         .map_or(0, |allowed| 2 - usize::from(allowed))];
-    sys::TERMS | sys::limit(terms.limit.into()) | retries | lm
+    let change = match terms.change {
+        None => 0,
+        Some(ChangeVersion::One) => sys::CHANGE_1,
+        Some(ChangeVersion::Two) => sys::CHANGE_2,
+    };
+    sys::TERMS | sys::limit(terms.limit.into()) | retries | lm | change
 }
 
 impl Passed {
@@ -214,11 +226,15 @@ impl Passed {
             limit,
             retries,
             lm_allowed,
+            change,
         } = *terms;
         let terms = their::Terms {
             retries,
             lm: lm_allowed,
-            change: None,
+            change: change.map(|version| match version {
+                ChangeVersion::One => Change::One,
+                ChangeVersion::Two => Change::Two,
+            }),
         };
         let opened = their::open(*id, challenge, &terms, limit, &mut passed, reply);
         self.used = passed.used as u16;
@@ -310,10 +326,11 @@ impl Boxes {
                 // by what the conversation awaited: not by the packet, nor by the record
                 let kind = match judged.update {
                     Update::Nothing => None,
-                    Update::Counted(_) => Some(Awaited::Response),
-                    Update::Changed(_) => Some(Awaited::Change),
+                    Update::Counted(_) => Some(true),
+                    Update::Changed(_) => Some(false),
                 };
-                assert_eq!(kind, handed.map(|_| awaited), "the kind of record");
+                let counts = awaited == Awaited::Response;
+                assert_eq!(kind, handed.map(|_| counts), "the kind of record");
             }
             Err(_) => {
                 assert_eq!(self.ours, before, "a refusal changes nothing");
@@ -430,7 +447,7 @@ impl Peers {
         self.wrote(before, answer, written, [out, &theirs, &passed])
     }
 
-    /// The change of both, into a buffer that holds the packet afterwards.
+    /// The version 2 change of both, into a buffer that holds the packet afterwards.
     pub fn write_change(
         &mut self,
         old: &[u8],
@@ -444,6 +461,16 @@ impl Peers {
         let answer =
             plain(ours.and_then(|(old, new)| self.ours.write_change(&old, &new, filler, out)));
         let written = peer::write_change(&self.turn, old, new, filler, &mut theirs);
+        self.wrote(before, answer, written, [out, &theirs, &passed])
+    }
+
+    /// The version 1 change of both, into a buffer that holds the packet afterwards.
+    pub fn write_change_1(&mut self, old: &[u8], new: &[u8], out: &mut [u8]) -> Result<usize, u8> {
+        let (before, passed, mut theirs) = (self.ours, out.to_vec(), out.to_vec());
+        let ours = Password::from_utf16_bytes(old)
+            .and_then(|old| Ok((old, Password::from_utf16_bytes(new)?)));
+        let answer = plain(ours.and_then(|(old, new)| self.ours.write_change_1(&old, &new, out)));
+        let written = peer::write_change_1(&self.turn, old, new, &mut theirs);
         self.wrote(before, answer, written, [out, &theirs, &passed])
     }
 

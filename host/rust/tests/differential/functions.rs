@@ -72,6 +72,14 @@ fn change(random: &mut Random, seen: &mut Seen) {
     note(answer, "change", seen);
 }
 
+fn change_1(random: &mut Random, seen: &mut Seen) {
+    let (old, new) = (any_password(random), any_password(random));
+    let size = random.pick(&[0, 71, 72, 72, 72, 73, 100]);
+    let mut out = random.octets(size);
+    let answer = Peers::drawn(random).write_change_1(&old, &new, &mut out);
+    note(answer, "version 1 change", seen);
+}
+
 fn note(answer: Result<usize, u8>, what: &str, seen: &mut Seen) {
     seen.note(match answer {
         Ok(_) => format!("{what} written"),
@@ -81,10 +89,11 @@ fn note(answer: Result<usize, u8>, what: &str, seen: &mut Seen) {
 
 #[test]
 fn functions_agree() {
-    let seen = run("functions", 40_000, |random, seen| match random.below(4) {
+    let seen = run("functions", 50_000, |random, seen| match random.below(5) {
         0 => ciphers(random),
         1 => hashes_agree(random),
         2 => response(random, seen),
+        3 => change_1(random, seen),
         _ => change(random, seen),
     });
     seen.expect(&[
@@ -95,5 +104,8 @@ fn functions_agree() {
         "change written",
         "change refused 8",
         "change refused 9",
+        "version 1 change written",
+        "version 1 change refused 8",
+        "version 1 change refused 9",
     ]);
 }

@@ -2,7 +2,7 @@
 //! and one list that forty boxes fill. Answer, conversation, reply, places and how many are used
 //! must agree, and the answer must be the one that the case was made for.
 
-use crate::both::{terms_number, their_conversation, Opening, Passed};
+use crate::both::{terms_number, their_conversation, Opening, Passed, CHANGES};
 use crate::layout;
 use crate::packets;
 use crate::random::Random;
@@ -81,6 +81,7 @@ fn drawn(random: &mut Random) -> Opening {
             },
             retries,
             lm_allowed: random.pick(&[Some(false), Some(true), None]),
+            change: random.pick(&CHANGES),
         },
     }
 }
@@ -406,6 +407,7 @@ fn boxes(random: &mut Random, seen: &mut Seen, places: usize) {
             limit: packets::limit(random),
             retries: Some(retries),
             lm_allowed: Some(true),
+            change: random.pick(&CHANGES),
         },
     };
     let mut number = sys::OK;

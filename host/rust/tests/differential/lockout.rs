@@ -12,7 +12,7 @@ use crate::repeats::{self, Answered};
 use crate::run::{run, Seen};
 use crate::series;
 use mschap::{sys, LmHash, Password};
-use reference::authenticator::{Account, Entry, Phase};
+use reference::authenticator::{Account, Change, Entry, Phase};
 use reference::message::Call;
 
 /// An account and the passwords behind it.
@@ -269,9 +269,14 @@ impl Talk {
         seen: &mut Seen,
     ) -> Option<Call> {
         let new = password(random);
-        let mut packet = series::change(&mut self.peers, &owner.password, &new, random);
+        let version = self.boxes.theirs.change;
+        let mut packet = series::change(&mut self.peers, version, &owner.password, &new, random);
         if random.chance(30) {
-            faults::spoil(random, &mut packet, new.len());
+            match version {
+                // the old hash: what else may be spoiled need not be a fault
+                Change::One => packet[36 + random.below(16)] ^= 1 << random.below(8),
+                Change::Two => faults::spoil(random, &mut packet, new.len()),
+            }
         }
         let passed = random.chance(50).then_some(&owner.record);
         let (outcome, ours, theirs) = take(random, &mut self.boxes, &packet, passed);
@@ -281,11 +286,11 @@ impl Talk {
             assert_eq!((changed.failures, changed.expired), (0, false));
             owner.password = new;
             *tally = Tally::default();
-            seen.note("changed");
+            seen.note(format!("changed {version:?}"));
         } else {
             // no failure: the count stays
             assert_eq!(outcome.reason, 709);
-            seen.note("not changed");
+            seen.note(format!("not changed {version:?}"));
         }
         owner.stored(outcome.handed, random, seen);
         self.read(packet, &outcome, ours, &theirs)
@@ -331,7 +336,7 @@ fn call(random: &mut Random, limit: u8, owner: &mut Owner, tally: &mut Tally, se
             }
             _ => talk.respond(random, owner, tally, seen),
         };
-        if !matches!(call, Some(Call::Retry | Call::Change2)) {
+        if !matches!(call, Some(Call::Retry | Call::Change2 | Call::Change1)) {
             talk.nothing(random, owner, seen);
             return;
         }
@@ -384,8 +389,10 @@ fn guessers_are_stopped() {
         (5_000, "LM, right"),
         (5_000, "LM, wrong"),
         (10_000, "LM, off or no hash, wrong"),
-        (1_000, "changed"),
-        (500, "not changed"),
+        (1_000, "changed One"),
+        (1_000, "changed Two"),
+        (500, "not changed One"),
+        (500, "not changed Two"),
         (5_000, "a restart"),
         (5_000, "unlocked"),
         (5_000, "nobody"),
@@ -456,7 +463,8 @@ fn rightful(random: &mut Random, seen: &mut Seen) {
     let mut packets = k + 1;
     if let Phase::Change(_) = boxes.theirs.phase {
         let new = password(random);
-        let packet = series::change(&mut peers, &owner.password, &new, random);
+        let version = boxes.theirs.change;
+        let packet = series::change(&mut peers, version, &owner.password, &new, random);
         let (outcome, ours, theirs) = take(random, &mut boxes, &packet, None);
         assert_eq!((outcome.refusal, outcome.reason), (0, 0));
         owner.stored(outcome.handed, random, seen);
@@ -467,7 +475,7 @@ fn rightful(random: &mut Random, seen: &mut Seen) {
             reason: 0,
         });
         packets += 1;
-        seen.note("k + 2 packets");
+        seen.note(format!("k + 2 packets, version {version:?}"));
     }
     assert_eq!(judged.len(), packets);
     if judged[judged.len() - 1].reason == 0 {
@@ -483,7 +491,8 @@ fn rightful_users_get_in() {
         (10_000, "n + k is one below the limit"),
         (8_000, "n + k is Equal the limit"),
         (5_000, "n + k is Greater the limit"),
-        (3_000, "k + 2 packets"),
+        (1_000, "k + 2 packets, version One"),
+        (2_000, "k + 2 packets, version Two"),
     ] {
         seen.at_least(count, what);
     }

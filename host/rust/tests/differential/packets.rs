@@ -1,7 +1,7 @@
 //! Random packets, messages, names and accounts, and damage done to packets.
 
 use crate::random::Random;
-use reference::authenticator::{Account, Entry};
+use reference::authenticator::{Account, Change, Entry};
 use reference::packet;
 
 /// The size of a name, often at its limits.
@@ -95,6 +95,11 @@ pub fn account(random: &mut Random, limit: u8) -> Account {
         expired: random.chance(30),
     };
     entry.keyed()
+}
+
+/// The change that a conversation awaits.
+pub fn change(random: &mut Random) -> Change {
+    random.pick(&[Change::One, Change::Two])
 }
 
 /// A reply buffer of drawn bytes: nearly always large enough.
@@ -219,6 +224,7 @@ fn once(random: &mut Random, packet: &mut Vec<u8>) {
         7 if size > 0 => packet[0] = random.below(9) as u8,
         8 if size > 53 => packet[random.pick(&[4, 53, 53])] = random.below(4) as u8,
         9 if size > 1117 => packet[random.pick(&[1116, 1117])] = random.below(8) as u8,
+        9 if size > 71 => packet[random.pick(&[68, 69, 70, 71, 71])] = random.below(4) as u8,
         10 if size > 0 => {
             for _ in 0..random.between(1, 8) {
                 packet[random.below(size)] = random.octet();
@@ -233,6 +239,7 @@ pub fn noise(random: &mut Random) -> Vec<u8> {
     let size = match random.below(10) {
         0 => random.between(0, 1200),
         1 => 1118,
+        2 => 72,
         _ => random.between(0, 80),
     };
     let mut packet = random.octets(size);

@@ -44,7 +44,7 @@ fn time(boxes: &Boxes) -> &'static str {
 fn refusal(boxes: &Boxes, packet: &[u8]) -> u8 {
     let awaited = match boxes.theirs.phase {
         Phase::Response => packet::RESPONSE,
-        Phase::Change(_) => packet::CHANGE,
+        Phase::Change(_) => boxes.theirs.change.code(),
         Phase::Ended => return 1,
     };
     if packet[0] != awaited {

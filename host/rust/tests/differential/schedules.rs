@@ -10,8 +10,9 @@ use crate::random::Random;
 use crate::run::{run, Seen};
 use crate::series;
 use mschap::sys;
-use reference::authenticator::{self as their, Account, Answer, Conversation, Entry, Fault, Phase};
-use reference::packet;
+use reference::authenticator::{self as their, Account, Answer, Change, Conversation, Entry};
+use reference::authenticator::{Fault, Phase};
+use reference::packet::{self, Change1Fields};
 use reference::peer::{self, Turn};
 use reference::schedules::Schedules;
 use reference::{hashes, smbpasswd};
@@ -386,6 +387,71 @@ fn change(
     kept(held, &answer);
 }
 
+/// A version 1 change: of the NT hash, the LM hash or both, from the passwords whose hashes the kept
+/// record has, whatever schedules it had; what it makes has its own beside each hash.
+fn change_1(
+    random: &mut Random,
+    talk: &mut Talk,
+    held: &mut Held,
+    own: &mut Passwords,
+    other: &Passwords,
+    seen: &mut Seen,
+) {
+    let Phase::Change(entry) = talk.theirs.phase else {
+        unreachable!("a change is awaited");
+    };
+    let Conversation {
+        id, challenge, lm, ..
+    } = talk.theirs;
+    let new = Passwords::drawn(random);
+    let by_hash = random.chance(80);
+    let old = if by_hash { &*own } else { other };
+    let (by_nt, short) = (random.chance(60), random.chance(70));
+    let under = |hash| hashes::under_challenge(&hash, &challenge);
+    let fields = Change1Fields {
+        lm_old: under(old.lm_hash()),
+        lm_new: under(new.lm_hash()),
+        nt_old: under(old.nt_hash()),
+        nt_new: under(new.nt_hash()),
+        length: if short { new.lm.len() as u16 } else { 65_535 },
+        flags: by_nt.into(),
+    };
+    let packet = packet::change_1(id, &fields);
+    let passed = random.chance(60).then_some(*held);
+    let answer = talk.step(random, &packet, passed.as_ref());
+    if answer.refusal != 0 {
+        assert_eq!(answer.refusal, 2, "a small buffer");
+        return;
+    }
+    let there = if by_nt { entry.nt } else { entry.lm };
+    let expected = match (by_nt, lm, short, there, by_hash) {
+        (false, false, ..) => Some(Fault::LmNotAllowed),
+        (false, true, false, ..) => Some(Fault::OverFourteen),
+        (_, _, _, None, _) => Some(Fault::HashAbsent),
+        (_, _, _, Some(_), false) => Some(Fault::OldUnderChallenge),
+        (_, _, _, Some(_), true) => None,
+    };
+    assert_eq!(answer.fault, expected);
+    let Some(account) = answer.record else {
+        assert_eq!(answer.reason, 709);
+        seen.note(format!("709, fault {}", Fault::number(answer.fault)));
+        return;
+    };
+    let changed = Entry {
+        nt: by_nt.then(|| new.nt_hash()),
+        lm: short.then(|| new.lm_hash()),
+        expired: false,
+        failures: 0,
+        ..entry
+    };
+    assert_eq!(account, changed.keyed(), "its own schedules");
+    let made = [account.nt_keys, account.lm_keys].map(|keys| keys != Schedules::default());
+    assert_eq!(made, [by_nt, short], "zeros beside no hash");
+    seen.note(format!("version 1: NT {by_nt}, LM {short}"));
+    *own = new;
+    kept(held, &answer);
+}
+
 /// Conversations with one account, one after the other, each to its end or until somebody hangs up.
 fn calls(random: &mut Random, seen: &mut Seen) {
     let limit = packets::limit(random);
@@ -405,7 +471,13 @@ fn calls(random: &mut Random, seen: &mut Seen) {
         while talk.theirs.phase != Phase::Ended && !random.chance(6) {
             let before = talk.theirs.last;
             match talk.theirs.phase {
-                Phase::Change(_) => change(random, &mut talk, &mut held, &mut own, &other, seen),
+                Phase::Change(_) => {
+                    let change = match talk.theirs.change {
+                        Change::One => change_1,
+                        Change::Two => change,
+                    };
+                    change(random, &mut talk, &mut held, &mut own, &other, seen);
+                }
                 _ => respond(random, &mut talk, &mut held, &other, seen),
             }
             // what was answered last, again: the same reply, and no record
@@ -450,6 +522,13 @@ fn schedules_agree() {
         ("after a retry or 648", 5_000),
         ("changed, with its own", 100),
         ("changed, with others", 500),
+        ("version 1: NT true, LM true", 100),
+        ("version 1: NT true, LM false", 50),
+        ("version 1: NT false, LM true", 50),
+        ("709, fault 7", 20),
+        ("709, fault 8", 20),
+        ("709, fault 9", 20),
+        ("709, fault 10", 20),
         ("709, fault 1, from its own password", 50),
         ("709, fault 3, from another's password", 100),
         ("709, fault 6, from its own password", 100),

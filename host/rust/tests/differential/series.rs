@@ -1,13 +1,13 @@
 //! Whole series from opening to end: our peer against their box, their peer against our box.
 
-use crate::both::{plain, their_conversation, Boxes, Opening, Passed, Peers};
+use crate::both::{plain, their_conversation, Boxes, Opening, Passed, Peers, CHANGES};
 use crate::faults;
 use crate::packets;
 use crate::random::Random;
 use crate::repeats::{self, Answered};
 use crate::run::{run, Seen};
 use mschap::{sys, Conversation, Issued, LmHash, Password, Terms};
-use reference::authenticator::{self as their, Account, Entry};
+use reference::authenticator::{self as their, Account, Change, Entry};
 use reference::message::Call;
 use reference::peer::Verdict;
 use reference::{hashes, packet};
@@ -27,8 +27,27 @@ pub fn response(peers: &mut Peers, password: &[u8], name: &[u8], random: &mut Ra
     out
 }
 
-/// The change of both peers.
-pub fn change(peers: &mut Peers, old: &[u8], new: &[u8], random: &mut Random) -> Vec<u8> {
+/// The change of both peers, of the version that was called for.
+pub fn change(
+    peers: &mut Peers,
+    version: Change,
+    old: &[u8],
+    new: &[u8],
+    random: &mut Random,
+) -> Vec<u8> {
+    if version == Change::One {
+        if random.chance(20) {
+            // with too little room nothing is sent
+            let mut small = vec![0; random.below(sys::CHANGE_1_PACKET)];
+            assert_eq!(peers.write_change_1(old, new, &mut small), Err(9));
+        }
+        let size = sys::CHANGE_1_PACKET + random.below(9);
+        let mut out = random.octets(size);
+        let written = peers.write_change_1(old, new, &mut out);
+        assert_eq!(written, Ok(sys::CHANGE_1_PACKET));
+        out.truncate(sys::CHANGE_1_PACKET);
+        return out;
+    }
     let filler: [u8; sys::FILLER_SIZE] = random.array();
     let mut out = vec![0; sys::CHANGE_PACKET];
     let written = peers.write_change(old, new, &filler, &mut out);
@@ -99,7 +118,8 @@ fn open(random: &mut Random) -> (Boxes, Peers) {
     open_with(random, lm, limit)
 }
 
-/// Opens in both, with the same bytes in both buffers, and a list with room for the one opening.
+/// Opens in both, with any choice about the change, or none, the same bytes in both buffers, and a
+/// list with room for the one opening.
 pub fn open_with(random: &mut Random, lm: Option<bool>, limit: u8) -> (Boxes, Peers) {
     let id = random.octet();
     let challenge = random.array();
@@ -114,6 +134,7 @@ pub fn open_with(random: &mut Random, lm: Option<bool>, limit: u8) -> (Boxes, Pe
         limit,
         retries,
         lm_allowed: lm,
+        change: random.pick(&CHANGES),
     };
     let ours = Conversation::open(id, terms, &challenge, &mut issued, &mut our_reply);
     let opening = Opening {
@@ -137,7 +158,7 @@ pub fn open_with(random: &mut Random, lm: Option<bool>, limit: u8) -> (Boxes, Pe
     for id in [0, id, random.octet()] {
         let early = match random.below(3) {
             0 => packet::success(id),
-            1 => packet::failure(id, random.pick(&[691, 648]), 1, 2),
+            1 => packet::failure(id, random.pick(&[691, 648]), 1, random.pick(&[1, 2])),
             _ => packets::noise(random),
         };
         let refused = peers.read_reply(&early, &early);
@@ -212,7 +233,7 @@ fn noise(random: &mut Random, next: &[u8]) -> Vec<u8> {
     match random.below(6) {
         0 | 1 => return packets::noise(random),
         2 => packet[1] = packet[1].wrapping_add(random.between(1, 255) as u8),
-        3 => packet[0] = random.pick(&[0, 1, 3, 4, 5, 7]),
+        3 => packet[0] = random.pick(&[0, 1, 3, 4, 5, 6, 7]),
         4 => packet.truncate(random.below(next.len())),
         _ => {
             let length = random.below(55);
@@ -247,9 +268,13 @@ fn series(random: &mut Random, seen: &mut Seen) {
             // at times from another old password, which is refused by 709
             let other = random.chance(10).then(|| packets::password(random));
             let old = other.as_ref().unwrap_or(&user.password);
-            let mut packet = change(&mut peers, old, &new, random);
+            let version = boxes.theirs.change;
+            let mut packet = change(&mut peers, version, old, &new, random);
             if random.chance(20) {
-                faults::spoil(random, &mut packet, new.len());
+                match version {
+                    Change::One => faults::spoil_1(random, &mut packet),
+                    Change::Two => faults::spoil(random, &mut packet, new.len()),
+                }
             }
             packet
         } else if user.account.lm.is_some() && random.chance(50) {
@@ -297,6 +322,10 @@ fn series(random: &mut Random, seen: &mut Seen) {
             break;
         }
         seen.note(format!("judged {}", outcome.reason));
+        if changing {
+            let accepted = outcome.reason == 0;
+            seen.note(format!("{:?} accepted {accepted}", boxes.theirs.change));
+        }
         if outcome.fault != 0 {
             seen.note(format!("fault {}", outcome.fault));
         }
@@ -333,7 +362,14 @@ fn series(random: &mut Random, seen: &mut Seen) {
         replies.push(ours.to_vec());
         match call {
             Some(Call::Retry) => {}
-            Some(Call::Change2) => changing = true,
+            Some(Call::Change1) => {
+                assert_eq!(boxes.theirs.change, Change::One, "what V calls for");
+                changing = true;
+            }
+            Some(Call::Change2) => {
+                assert_eq!(boxes.theirs.change, Change::Two, "what V calls for");
+                changing = true;
+            }
             _ => break,
         }
     }
@@ -345,7 +381,8 @@ fn series(random: &mut Random, seen: &mut Seen) {
     );
     if let Some(account) = accepted {
         seen.note("password changed");
-        if random.chance(25) {
+        // the peers' own change has set bit 0; one that was spoiled may have given an LM hash alone
+        if account.nt == hashes::nt_hash(&new).ok() && random.chance(25) {
             later(random, &account, &new);
             seen.note("later conversation");
         }
@@ -373,8 +410,13 @@ fn series_agree() {
     for reason in [0, 646, 647, 648, 649, 691, 709] {
         seen.expect(&[&format!("judged {reason}")]);
     }
-    for fault in 1..=6 {
-        seen.at_least(200, &format!("fault {fault}"));
+    for fault in 1..=10 {
+        seen.at_least(100, &format!("fault {fault}"));
+    }
+    for version in [Change::One, Change::Two] {
+        for accepted in [false, true] {
+            seen.at_least(2_000, &format!("{version:?} accepted {accepted}"));
+        }
     }
     seen.expect(&["password changed", "later conversation"]);
     for kind in repeats::KINDS {
@@ -447,6 +489,7 @@ fn opening(
         limit,
         retries,
         lm_allowed: lm,
+        change: random.pick(&CHANGES),
     };
     let answer = Conversation::open(id, terms, challenge, issued, &mut ours);
     let opening = Opening {

@@ -1,12 +1,14 @@
 //! Single steps of drawn conversations with right, wrong, damaged and random packets.
 
 use crate::both::{account_bytes, our_conversation, their_conversation, Boxes, Outcome};
+use crate::faults;
 use crate::layout;
 use crate::packets;
 use crate::random::Random;
 use crate::run::{run, Seen};
 use mschap::sys;
-use reference::authenticator::{Account, Change, Conversation, Last, Phase, Reply};
+use reference::authenticator::{Account, Change, Conversation, Entry, Last, Phase, Reply};
+use reference::packet::Change1Fields;
 use reference::{hashes, packet, peer};
 
 /// A Response that is valid for the account as often as not.
@@ -23,7 +25,26 @@ fn response(random: &mut Random, conversation: &Conversation, account: &Account)
     packet::response(conversation.id, &lm, &nt, flag, &name)
 }
 
-/// A change from the old password.
+/// A version 1 change of the kept record, each old hash of which is right as a rule.
+fn change_1(random: &mut Random, conversation: &Conversation, kept: &Entry) -> Vec<u8> {
+    let mut right = |hash: &Option<[u8; 16]>| match hash {
+        Some(hash) if random.chance(80) => hashes::under_challenge(hash, &conversation.challenge),
+        _ => random.array(),
+    };
+    let (lm_old, nt_old) = (right(&kept.lm), right(&kept.nt));
+    let over = random.chance(40);
+    let fields = Change1Fields {
+        lm_old,
+        lm_new: random.array(),
+        nt_old,
+        nt_new: random.array(),
+        length: faults::told_length(random, over),
+        flags: random.below(2) as u16,
+    };
+    packet::change_1(conversation.id, &fields)
+}
+
+/// A version 2 change from the old password.
 fn change(random: &mut Random, conversation: &Conversation, old: &[u8]) -> Vec<u8> {
     let turn = peer::Turn {
         id: conversation.id,
@@ -39,10 +60,10 @@ fn change(random: &mut Random, conversation: &Conversation, old: &[u8]) -> Vec<u
 
 /// A last answer, or none: to the packet, or to the one before it, or to any. No conversation that
 /// was opened awaits what it answered last; these may.
-fn last(random: &mut Random, id: u8, packet: &[u8]) -> Option<Last> {
+fn last(random: &mut Random, id: u8, change: Change, packet: &[u8]) -> Option<Last> {
     let (code, id) = match (random.below(8), packet) {
         (0, [code, id, ..]) => (*code, *id),
-        (1 | 2, _) => (random.pick(&[2, 6]), id.wrapping_sub(1)),
+        (1 | 2, _) => (random.pick(&[2, change.code()]), id.wrapping_sub(1)),
         (3, _) => (random.octet(), random.octet()),
         _ => return None,
     };
@@ -50,7 +71,7 @@ fn last(random: &mut Random, id: u8, packet: &[u8]) -> Option<Last> {
         0 | 1 => Reply::success(id),
         _ => {
             let reason = random.pick(&[646, 647, 648, 649, 691, 709]);
-            Reply::failure(id, reason, random.chance(50), Change::Two)
+            Reply::failure(id, reason, random.chance(50), change)
         }
     };
     Some(Last { code, id, reply })
@@ -65,14 +86,18 @@ fn step(random: &mut Random, seen: &mut Seen) {
         retries: random.below(8) as u8,
         lm: random.chance(60),
         limit,
-        change: Change::Two,
+        change: packets::change(random),
         phase: Phase::Response,
         last: None,
     };
     let mut packet = if random.chance(30) {
         packets::noise(random)
-    } else if random.chance(75) {
+    } else if random.chance(70) {
         response(random, &conversation, &account)
+    } else if conversation.change == Change::One && random.chance(90) {
+        let kept = account.entry();
+        conversation.phase = Phase::Change(kept);
+        change_1(random, &conversation, &kept)
     } else {
         let old = packets::password(random);
         let mut kept = account.entry();
@@ -88,7 +113,7 @@ fn step(random: &mut Random, seen: &mut Seen) {
         3 => conversation.phase = Phase::Response,
         _ => {}
     }
-    conversation.last = last(random, conversation.id, &packet);
+    conversation.last = last(random, conversation.id, conversation.change, &packet);
     if random.chance(75) {
         packets::damage(random, &mut packet);
     }
@@ -109,7 +134,7 @@ fn step(random: &mut Random, seen: &mut Seen) {
     let awaits_change = matches!(conversation.phase, Phase::Change(_));
     seen.note(match (outcome.refusal, outcome.reason) {
         (0, reason) if outcome.repeated => format!("repeated {reason}"),
-        (0, 0) if awaits_change => "judged: changed".to_string(),
+        (0, 0) if awaits_change => format!("judged: changed {:?}", conversation.change),
         (0, reason) => format!("judged {reason}"),
         (refusal, _) => format!("refused {refusal}"),
     });
@@ -242,9 +267,14 @@ fn steps_agree() {
         seen.expect(&[&format!("judged {reason}")]);
         seen.at_least(1_000, &format!("repeated {reason}"));
     }
-    seen.expect(&["judged: changed"]);
+    for change in [Change::One, Change::Two] {
+        seen.at_least(1_000, &format!("judged: changed {change:?}"));
+    }
     for fault in 1..=6 {
         seen.expect(&[&format!("fault {fault}")]);
+    }
+    for fault in 7..=10 {
+        seen.at_least(1_000, &format!("fault {fault}"));
     }
     for ended in [false, true] {
         seen.at_least(1_000, &format!("repeated, ended {ended}"));

@@ -19,10 +19,14 @@ pub const KINDS: [u8; 6] = [RECORD, ANSWER, CONVERSATION, PEER, PASSWORD, LIST];
 pub const TAG: usize = 2;
 /// Where the limit is in a conversation.
 pub const LIMIT_AT: usize = 4;
+/// Where the version of its change is in a conversation.
+pub const CHANGE_AT: usize = 5;
 /// Where the account that is kept begins in a conversation.
-pub const KEPT_AT: usize = 15;
+pub const KEPT_AT: usize = 16;
 /// Where the last answer begins in a conversation.
-pub const LAST_AT: usize = 54;
+pub const LAST_AT: usize = 55;
+/// Bytes of a conversation.
+pub const CONVERSATION_SIZE: usize = 61;
 /// Bytes of an account without its schedules, as a conversation keeps it.
 pub const ENTRY_SIZE: usize = 39;
 /// Bytes of the schedules beside a hash: 48 numbers.
@@ -49,7 +53,7 @@ pub const LIST_HEAD: usize = 4;
 pub fn version(kind: u8) -> u8 {
     match kind {
         ANSWER => 5,
-        CONVERSATION => 3,
+        CONVERSATION => 4,
         RECORD => 3,
         _ => 1,
     }
@@ -208,13 +212,13 @@ pub fn plain_answer(repeated: bool, reason: u16) -> [u8; ANSWER_SIZE] {
     })
 }
 
-/// There are six faults, and none: no answer has another number.
+/// There are ten faults, and none: no answer has another number.
 pub fn to_answer(bytes: &[u8]) -> Option<Told> {
     let body = body(ANSWER, ANSWER_SIZE, bytes)?;
     Some(Told {
         repeated: flag(body[0])?,
         reason: u16::from_be_bytes(part(body, 1)),
-        fault: Some(body[3]).filter(|number| *number <= 6)?,
+        fault: Some(body[3]).filter(|number| *number <= 10)?,
         updated: to_lookup(&body[4..])?,
     })
 }
@@ -249,7 +253,9 @@ pub fn last_reply(bytes: &[u8]) -> Option<(u16, Vec<u8>)> {
     Some(match failed {
         None => (0, vec![3, id, 0, 4]),
         Some((reason, retry)) => {
-            let text = format!("E={:03} R={} V=2", reason % 1000, u8::from(retry));
+            let version = bytes[CHANGE_AT];
+            let retry = u8::from(retry);
+            let text = format!("E={:03} R={retry} V={version}", reason % 1000);
             (reason, [&[4, id, 0, 17], text.as_bytes()].concat())
         }
     })
@@ -257,56 +263,69 @@ pub fn last_reply(bytes: &[u8]) -> Option<(u16, Vec<u8>)> {
 
 /// The last answer, or none. For a reason that has not three digits another one stands here, since
 /// only such ones are theirs.
-fn to_last(bytes: &[u8]) -> Option<Option<Last>> {
+fn to_last(bytes: &[u8], change: Change) -> Option<Option<Last>> {
     let (id, failed) = to_reply(bytes)?;
     let reply = match failed {
         None => Reply::success(id),
-        Some((reason @ 100..=999, retry)) => Reply::failure(id, reason, retry, Change::Two),
-        Some((_, retry)) => Reply::failure(id, 691, retry, Change::Two),
+        Some((reason @ 100..=999, retry)) => Reply::failure(id, reason, retry, change),
+        Some((_, retry)) => Reply::failure(id, 691, retry, change),
     };
     let code = bytes[1];
     Some(flag(bytes[0])?.then_some(Last { code, id, reply }))
 }
 
 /// A conversation; nothing is kept unless a change is awaited.
-pub fn conversation(conversation: &Conversation) -> [u8; sys::CONVERSATION_SIZE] {
+pub fn conversation(conversation: &Conversation) -> [u8; CONVERSATION_SIZE] {
     tagged(CONVERSATION, |to| {
         to[0] = match &conversation.phase {
             Phase::Ended => 0,
             Phase::Response => 2,
             Phase::Change(kept) => {
-                to[13..52].copy_from_slice(&entry(kept));
-                6
+                to[14..53].copy_from_slice(&entry(kept));
+                match conversation.change {
+                    Change::One => 5,
+                    Change::Two => 6,
+                }
             }
         };
         to[1] = conversation.lm.into();
         to[2] = conversation.limit;
-        to[3] = conversation.id;
-        to[4] = conversation.retries;
-        to[5..13].copy_from_slice(&conversation.challenge);
+        to[3] = match conversation.change {
+            Change::One => 1,
+            Change::Two => 2,
+        };
+        to[4] = conversation.id;
+        to[5] = conversation.retries;
+        to[6..14].copy_from_slice(&conversation.challenge);
         if let Some(answered) = &conversation.last {
-            to[52..].copy_from_slice(&last(answered));
+            to[53..].copy_from_slice(&last(answered));
         }
     })
 }
 
+/// The change that is awaited is that of the version, and there are two versions.
 pub fn to_conversation(bytes: &[u8]) -> Option<Conversation> {
-    let body = body(CONVERSATION, sys::CONVERSATION_SIZE, bytes)?;
-    let kept = to_entry(&body[13..52])?;
+    let body = body(CONVERSATION, CONVERSATION_SIZE, bytes)?;
+    let kept = to_entry(&body[14..53])?;
+    let change = match body[3] {
+        1 => Change::One,
+        2 => Change::Two,
+        _ => return None,
+    };
     Some(Conversation {
-        id: body[3],
-        challenge: part(body, 5),
-        retries: body[4],
+        id: body[4],
+        challenge: part(body, 6),
+        retries: body[5],
         lm: flag(body[1])?,
         limit: body[2],
-        change: Change::Two,
-        phase: match body[0] {
-            0 => Phase::Ended,
-            2 => Phase::Response,
-            6 => Phase::Change(kept),
+        change,
+        phase: match (body[0], change) {
+            (0, _) => Phase::Ended,
+            (2, _) => Phase::Response,
+            (5, Change::One) | (6, Change::Two) => Phase::Change(kept),
             _ => return None,
         },
-        last: to_last(&body[52..])?,
+        last: to_last(&body[53..], change)?,
     })
 }
 
