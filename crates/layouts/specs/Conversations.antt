@@ -30,8 +30,8 @@ conversationSize = 61
 abbrev pub versionFrom : ℕ → ChangeVersion
 versionFrom n = cond (eqb n 1) One Two
 
--- the phase that awaits a code: 2 is a Response, that version's code a change; else the conversation
--- has ended
+-- the phase that awaits a code: 2 is a Response, that version's code a change; else the
+-- conversation has ended
 abbrev pub phaseOf : ChangeVersion → ℕ → Phase
 phaseOf v n = cond (eqb n responseCode) Response (cond (eqb n (changeCodeOf v)) Change Ended)
 

@@ -38,8 +38,8 @@ listKind = 76
 -- Each kind has its own, so that what was stored of one stays valid when another one grows. Since
 -- 0.3.0 a conversation has its last answer, and an answer tells a repeat; since 0.4.0 an answer
 -- tells what is wrong with a change; since 0.7.0 a record counts failures, in an answer and in a
--- conversation too, and a conversation has its limit; since 0.8.0 a record has the round keys of its
--- hashes, in an answer too; since 0.9.0 a conversation has the version of its change.
+-- conversation too, and a conversation has its limit; since 0.8.0 a record has the round keys of
+-- its hashes, in an answer too; since 0.9.0 a conversation has the version of its change.
 abbrev pub layoutVersion : ℕ → ℕ
 layoutVersion kind =
     cond (eqb kind recordKind) 3

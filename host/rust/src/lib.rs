@@ -60,8 +60,8 @@
 //!
 //! What is stored (a [`Conversation`], a [`Peer`], an [`Account`]'s record, an [`Issued`], a
 //! [`Password`]) begins with its kind and the version of that kind's layout; `from_bytes` refuses
-//! bytes of another kind or version. Conversations have a new layout since 0.9.0, with the version of
-//! their change, and records since 0.8.0, with the round keys of their hashes, by which
+//! bytes of another kind or version. Conversations have a new layout since 0.9.0, with the version
+//! of their change, and records since 0.8.0, with the round keys of their hashes, by which
 //! [`record_response`] answers.
 
 #![deny(missing_docs)]

@@ -56,9 +56,9 @@ impl Peer {
         Ok(sys::packet_length(out))
     }
 
-    /// Writes the version 2 change from an old to a new password at the front of `out`. The filler hides the
-    /// new password's length: pass bytes that are unpredictable, from a CSPRNG. Gives the size. A
-    /// refusal changes nothing.
+    /// Writes the version 2 change from an old to a new password at the front of `out`. The filler
+    /// hides the new password's length: pass bytes that are unpredictable, from a CSPRNG. Gives the
+    /// size. A refusal changes nothing.
     pub fn write_change(
         &mut self,
         old: &Password,
@@ -71,9 +71,10 @@ impl Peer {
         Ok(sys::packet_length(out))
     }
 
-    /// Writes the version 1 change from an old to a new password at the front of `out`, only where a
-    /// reply calls for it. Whoever has heard the Challenge decrypts both hashes from it; a program
-    /// that would rather give up hangs up instead. Gives the size. A refusal changes nothing.
+    /// Writes the version 1 change from an old to a new password at the front of `out`, only where
+    /// a reply calls for it. Whoever has heard the Challenge decrypts both hashes from it; a
+    /// program that would rather give up hangs up instead. Gives the size. A refusal changes
+    /// nothing.
     pub fn write_change_1(
         &mut self,
         old: &Password,

@@ -274,7 +274,7 @@ fn openings() {
         for identifier in [256, 257, 0x107, 65_536, sys::TERMS | 7, u32::MAX] {
             refused(passed, identifier, terms, size, sys::BAD_ARGUMENT);
         }
-        // what stands where the mark of terms does, and where the choices about LM and the change do
+        // what stands where the mark of terms does, and where the choices of LM and the change do
         for mark in (0..=0xff).filter(|mark| *mark != 1) {
             let terms = mark << 16 | terms & 0xff00_ffff;
             refused(passed, 7, terms, size, sys::BAD_ARGUMENT);

@@ -387,8 +387,8 @@ fn change(
     kept(held, &answer);
 }
 
-/// A version 1 change: of the NT hash, the LM hash or both, from the passwords whose hashes the kept
-/// record has, whatever schedules it had; what it makes has its own beside each hash.
+/// A version 1 change: of the NT hash, the LM hash or both, from the passwords whose hashes the
+/// kept record has, whatever schedules it had; what it makes has its own beside each hash.
 fn change_1(
     random: &mut Random,
     talk: &mut Talk,

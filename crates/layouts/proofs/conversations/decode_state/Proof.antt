@@ -21,7 +21,8 @@ returns c =
     let change = phase .before .before in
     let limit = change .before .before in
     let lm = limit .before in
-    let version = change .version-from .ensures ∙ ap versionFrom (change .before .octet3 .ensures) in
+    let version =
+    change .version-from .ensures ∙ ap versionFrom (change .before .octet3 .ensures) in
     conversation-same (lm .is-flag .ensures ∙ ap isFlag (lm .before .octet .ensures))
     (limit .octet2 .ensures) version (id .octet5 .ensures) (challenge .eight-at .ensures)
     (retries .octet6 .ensures)

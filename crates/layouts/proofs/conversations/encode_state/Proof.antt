@@ -47,7 +47,8 @@ returns c =
     next s₇ (encodeEntry (v .kept)) 39 (length-entry (v .kept) (kept-sized start))
     (kept .encode-entry .ensures) in
     last s₈ (encodeLast (v .last)) (c .encode-last .ensures)
-    ∙ ap₂ over (state-pieces v (code .awaited-code .ensures) (version .version .ensures)) (empty .empty-room .ensures)
+    ∙ ap₂ over (state-pieces v (code .awaited-code .ensures) (version .version .ensures))
+    (empty .empty-room .ensures)
 
 pub encode-state-spec : {M : Type 1} → statement M
 encode-state-spec =

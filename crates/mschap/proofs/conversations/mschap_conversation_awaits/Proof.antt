@@ -25,7 +25,8 @@ returns-2 c =
     let valid = sym (passed .before .is-encoded-conversation .ensures) ∙ not-false _
     (passed .if1 .left) in
     c .awaited-code .ensures
-    ∙ ap (λ (v : Conversation). awaitedCode (v .terms .change) (v .phase)) (decoded .decode-conversation .ensures)
+    ∙ ap (λ (v : Conversation). awaitedCode (v .terms .change) (v .phase))
+    (decoded .decode-conversation .ensures)
     ∙ ap (λ (t : Bool). valueOr t (awaitedCode (decodeConversation bytes .terms .change)
     (decodeConversation bytes .phase))) (sym valid)
 
