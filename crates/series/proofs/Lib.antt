@@ -19,6 +19,7 @@ pub mod Recorded
 pub mod OneList
 pub mod Shared
 pub mod WrongOpeners
+pub mod WrongRecorded
 pub mod LmOptIn
 pub mod WrongLm
 pub mod AccountFile

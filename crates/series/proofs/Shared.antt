@@ -40,7 +40,7 @@ challenge = 0xE9 ∷ 2 ∷ 3 ∷ 4 ∷ 5 ∷ 6 ∷ 7 ∷ 8 ∷ []
 abbrev pub first : Opening
 first = openingOn (emptyList 8 6) Default challenge
 
-abbrev second : Opening
+abbrev pub second : Opening
 second = openingOn (openedIssued first) Default (replicate 8 1)
 
 pub six-places : badBuffer 8 (replicate 48 0) 0 ≡ false
