@@ -1,4 +1,5 @@
--- The stored round keys of a hash fit in 64 bits each, and so they are decoded as they were encoded.
+-- The stored round keys of a hash fit in 64 bits each, and so they are decoded as they were
+-- encoded.
 -- Assumes nothing.
 use mathlib.Core.Bool.{Bool, true, false, cond}
 use mathlib.Core.List.{List, [], _∷_, _++_, map}

@@ -55,7 +55,8 @@ module _ (c : Conversation) (p b : List ℕ) where
   unfolding refusalFor
   passes h =
       pass (badReplyBuffer b) (badFrame p) (isRepeat (c .last) p) (isEnded (c .phase))
-      (badCode (c .terms .change) (c .phase) p) (badId (c .id) p) (bodyRefusal (c .terms .change) (c .phase) p)
+      (badCode (c .terms .change) (c .phase) p) (badId (c .id) p) (bodyRefusal (c .terms .change)
+      (c .phase) p)
       (le-ltb (length b) longestReply (h .readable .room)) (h .readable .frame) (h .fresh)
       (h .live) (ap not (eq-eqb (octet 0 p) (awaitedCode (c .terms .change) (c .phase)) (h .code)))
       (ap not (eq-eqb (octet 1 p) (c .id) (h .id))) (h .body)
@@ -79,7 +80,8 @@ module _ (c : Conversation) (p b : List ℕ) where
       let two = none-refused (badReplyBuffer b) (omega arith) e in
       let three = none-refused (badFrame p) (omega arith) (two .1) in
       let rest = sym (ap (λ (t : Bool). cond t 0 (cond (isEnded (c .phase)) 1
-      (cond (badCode (c .terms .change) (c .phase) p) 4 (cond (badId (c .id) p) 5 (bodyRefusal (c .terms .change) (c .phase) p))))) fresh)
+      (cond (badCode (c .terms .change) (c .phase) p) 4 (cond (badId (c .id) p) 5 (bodyRefusal
+      (c .terms .change) (c .phase) p))))) fresh)
       ∙ three .1 in
       let one = none-refused (isEnded (c .phase)) (omega arith) rest in
       let four = none-refused (badCode (c .terms .change) (c .phase) p) (omega arith) (one .1) in
@@ -88,7 +90,8 @@ module _ (c : Conversation) (p b : List ℕ) where
         readable = record { room = ltb-false (length b) longestReply (two .0); frame = three .0 };
         fresh = fresh;
         live = one .0;
-        code = eqb-true (octet 0 p) (awaitedCode (c .terms .change) (c .phase)) (not-false _ (four .0));
+        code = eqb-true (octet 0 p) (awaitedCode (c .terms .change) (c .phase)) (not-false _
+            (four .0));
         id = eqb-true (octet 1 p) (c .id) (not-false _ (five .0));
         body = five .1;
       }

@@ -123,7 +123,8 @@ module _ (c : Conversation) (p : List ℕ) (l : Lookup) (b : List ℕ) where
   pub told-beside-709 : stepFault c p b ≢ 0
       → (step c p l b .answer .kind ≡ Judged changingPassword)
       × (step c p l b .buffer
-      ≡ writtenOver (failurePacket (c .id) (textOf changingPassword 0 (version (c .terms .change)))) b)
+      ≡ writtenOver (failurePacket (c .id) (textOf changingPassword 0 (version
+      (c .terms .change)))) b)
   told-beside-709 n =
       let e = not-accepted n in
       (ap (λ (o : Outcome). o .answer .kind) e, ap (λ (o : Outcome). o .buffer) e)

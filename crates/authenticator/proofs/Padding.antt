@@ -60,7 +60,13 @@ module _ (p q : List ℕ) (s : SamePacket p q) where
 
   same-refusal : (c : Conversation) (b : List ℕ) → stepRefusal c q b ≡ stepRefusal c p b
   unfolding refusalFor
-  same-refusal c b = simp (s .frame, same-code p q s, same-id p q s, same-body (c .terms .change) (c .phase))
+  same-refusal c b = simp (
+    s .frame,
+    same-code p q s,
+    same-id p q s,
+    same-body (c .terms .change)
+        (c .phase),
+  )
 
   -- where neither 6 nor 7 is due, the fields are the same
   same-checked : (v : ChangeVersion) (c : Conversation) → changeRefusalOf v p ≡ 0

@@ -158,7 +158,8 @@ module _ (c : Conversation) (s : StepInput) (ok : Passes c (s .packet) (s .buffe
 
   -- and it reads as the reason, R and the V of the change that is awaited
   pub judged-read : (behind : List ℕ)
-      → readReply (c .id) (replyOf (stepOn c s) ++ behind) ≡ readingFor (c .terms) (replyFor c reason)
+      → readReply (c .id) (replyOf (stepOn c s) ++ behind) ≡ readingFor (c .terms)
+      (replyFor c reason)
   judged-read behind =
       ap (λ (x : List ℕ). readReply (c .id) (x ++ behind)) judged-reply
       ∙ read-reply (c .terms) (c .id) (replyFor c reason) behind
@@ -168,7 +169,8 @@ module _ (c : Conversation) (s : StepInput) (ok : Passes c (s .packet) (s .buffe
 pub repeat-read : (c : Conversation) (s : StepInput)
     → isRepeated (stepOn c s .answer .kind) ≡ true → reasonOf (c .last .reply) < 1000
     → (behind : List ℕ)
-    → readReply (c .last .id) (replyOf (stepOn c s) ++ behind) ≡ readingFor (c .terms) (c .last .reply)
+    → readReply (c .last .id) (replyOf (stepOn c s) ++ behind) ≡ readingFor (c .terms)
+    (c .last .reply)
 repeat-read c s r small behind =
     let k = kind-repeated c (s .packet) (s .account) (s .buffer) r in
     let room = readable-by c (s .packet) (s .buffer) (isRepeat (c .last) (s .packet))

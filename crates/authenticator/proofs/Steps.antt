@@ -225,7 +225,8 @@ repeated-reply c b h =
 -- a reply is drawn exactly where the step is not refused
 module _ (c : Conversation) (s : StepInput) where
   drawn-as : (o : Outcome) (id : ℕ) (reply : Reply)
-      → o .answer .written ≡ length (replyPacket (c .terms) id reply) → drewReply o (s .buffer) ≡ true
+      → o .answer .written ≡ length (replyPacket (c .terms) id reply) → drewReply o (s .buffer)
+      ≡ true
   drawn-as o id reply e =
       let fits = reply-fits (c .terms) id reply .0 in
       rw (lt-ltb 0 (o .answer .written) (omega (arith, e)))

@@ -57,7 +57,8 @@ module _ (f g : List ℕ → List ℕ) (back : (x : List ℕ) → length x ≡ 8
       let x = part 0 8 l in
       let y = part 8 8 l in
       let first = take-at (f x) (f y) 8 (eight x) in
-      let second = ap (take 8) (drop-at (f x) (f y) 8 (eight x)) ∙ take-all 8 (f y) (omega (arith, eight y)) in
+      let second = ap (take 8) (drop-at (f x) (f y) 8 (eight x)) ∙ take-all 8 (f y) (omega
+      (arith, eight y)) in
       ap₂ (λ (a b : List ℕ). g a ++ g b) first second
       ∙ ap₂ _++_ (back x (length-part 0 8 l (omega arith)) (octets-part 0 8 l o))
       (back y (length-part 8 8 l (omega arith)) (octets-part 8 8 l o))
@@ -104,8 +105,8 @@ module _ (challenge : List ℕ) where
       octets-append (desDecrypt key (part 0 8 field)) (desDecrypt key (part 8 8 field))
       (octets-decrypt (part 0 8 field)) (octets-decrypt (part 8 8 field))
 
-  -- The hash that is kept, encrypted, is the field that was sent exactly where the field, decrypted,
-  -- is the hash: a field may be compared either way.
+  -- The hash that is kept, encrypted, is the field that was sent exactly where the field,
+  -- decrypted, is the hash: a field may be compared either way.
   pub either-way : (field hash : List ℕ) → length field ≡ 16 → Octets field → length hash ≡ 16
       → Octets hash
       → agrees field (hashUnderChallenge hash challenge)

@@ -460,7 +460,8 @@ module _ (a : Account) (g : Rightful a) (agree : Agree a) (terms : Terms) where
           right-in-step (p .box .conversation) (p .peer .turn) i (a .expired) b,
           right-terms (a .expired) (p .box .conversation) b ∙ lim,
         )
-            (fit-cleared a (terms .limit) due (p .account) (storedAfter (p .account) (l .account) o) n stored),
+            (fit-cleared a (terms .limit) due (p .account) (storedAfter (p .account)
+            (l .account) o) n stored),
       )
   law due p (ours (passwordChange v old new filler) l) ((f, i, lim), t, n) h =
       let there = kept-there p (f .1) in

@@ -56,7 +56,8 @@ module _ (p : SeriesState) (w : Wrote) (l : ExchangeInput) (d : Judgement) (kept
     abbrev s : StepInput
     s = reaching (p .account) w l
 
-    heard : readReply (p .peer .turn .id) (replyPacket (c .terms) (c .id) (d .reply) ++ l .replyPadding)
+    heard : readReply (p .peer .turn .id) (replyPacket (c .terms) (c .id)
+        (d .reply) ++ l .replyPadding)
         ≡ readingFor (c .terms) (d .reply)
     heard =
         ap (λ (i : ℕ). readReply i (replyPacket (c .terms) (c .id) (d .reply) ++ l .replyPadding))

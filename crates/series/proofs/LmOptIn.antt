@@ -194,7 +194,8 @@ module _ (o : Opening) (a : Account) (s : StepInput) (peer : LmPeer o a s) where
       ∙ rw (by, answers-right (a .lm) (o .challenge) (f .lm) (peer .hash) (peer .response))
 
   answered : (expired : Bool)
-      → replyPacket (first true .terms) (o .id) (cond expired (expiredFor (first true) (withFailures 0 a))
+      → replyPacket (first true .terms) (o .id) (cond expired (expiredFor (first true)
+      (withFailures 0 a))
       (accepted (first true) (withFailures 0 a))
       .reply)
       ≡ cond expired

@@ -81,7 +81,8 @@ module _ (c : Conversation) (h : Shut c) (s : StepInput)
   invalid code =
       let unlocked = not (isLocked (c .terms) (s .account .account)) in
       ap (λ (v : Bool). s .account .found && (unlocked && v)) (not-valid code)
-      ∙ ap (λ (v : Bool). s .account .found && v) (and-false unlocked) ∙ and-false (s .account .found)
+      ∙ ap (λ (v : Bool). s .account .found && v) (and-false unlocked) ∙ and-false
+      (s .account .found)
 
   abbrev judgement : Judgement
   judgement = judgementFor c (countedLookup (c .terms) (c .challenge) (s .account) f)

@@ -57,7 +57,8 @@ challenge-read o ok eight behind =
     ∙ challenge-back (o .id) (o .challenge) behind eight
 
 -- Success, or the Failure with the reason (646 to 649, 691, 709), R, no C and V, 1 or 2 by the
--- change that the box was opened for: what our peer reads of the reply to its last packet where that was judged
+-- change that the box was opened for: what our peer reads of the reply to its last packet where
+-- that was judged
 pub reply-read : (c : Conversation) (s : StepInput) (q : Peer) (behind : List ℕ)
     → refusalAt stepOn c s ≡ 0 → isRepeated (stepOn c s .answer .kind) ≡ false
     → q .sent .present ≡ true → q .sent .id ≡ c .id

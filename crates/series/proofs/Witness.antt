@@ -1,8 +1,8 @@
 -- The premises of demand 3 can be met: identifier 255, a challenge that begins with E9, r = 1, LM
 -- disallowed, a limit of 5, an expired record that counts three failures, one invalid try (which is
--- the fourth), the right password and the change that the opening chose, each with padding, refused steps before, between
--- and behind them, and each of the three packets once more after its answer, with another record;
--- and a later conversation.
+-- the fourth), the right password and the change that the opening chose, whichever, each with
+-- padding, refused steps before, between and behind them, and each of the three packets once more
+-- after its answer, with another record; and a later conversation.
 -- Assumes nothing.
 use mathlib.Core.Bool.{true, false}
 use mathlib.Core.List.{List, [], _∷_}

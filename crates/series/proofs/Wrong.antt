@@ -167,7 +167,8 @@ not-finding h =
     omega (
       arith,
       code,
-      ap (λ (r : Reply). octet 0 (replyPacket (p .box .conversation .terms) (p .box .conversation .id) r)) reply
+      ap (λ (r : Reply). octet 0 (replyPacket (p .box .conversation .terms)
+          (p .box .conversation .id) r)) reply
           ∙ failure-code _ _,
     )
 
@@ -225,7 +226,8 @@ not-pretending h =
     let first = drew (pretends 2) (p .box .conversation) s (first-new s)
     (ap (octet 0) (all .0 .0 .0 .0) ∙ failure-code _ (textOf 691 1 (version Two))) (omega arith) in
     let left = ap (λ (o : Outcome). o .answer .next .retries) first ∙ one-left s refl in
-    let turn = retry-id box p (line 60 (another notFound)) Two (invalid bad user) (all .0 .0 .1) (all .0 .0 .0 .1)
+    let turn = retry-id box p (line 60 (another notFound)) Two (invalid bad user) (all .0 .0 .1)
+    (all .0 .0 .0 .1)
     ∙ ap nextId (first-id (opening Default) opens-default refl [] (account false)) in
     let last = ap (λ (o : Outcome). o .answer .next .last .id) first
     ∙ ap (λ (c : Conversation). c .id) first-default in
@@ -234,11 +236,13 @@ not-pretending h =
     let pretended = ap (λ (n : ℕ). cond (ltb n 2) (accepts (q .box .conversation) t)
     (judge (q .box .conversation) (t .packet) notFound) .reply) left in
     let code = code-drawn (pretends 2) (q .box .conversation) t new (omega arith)
-    (ap (octet 0) (all .0 .1 .0 .0 .0) ∙ failure-code _ (textOf 691 1 (version Two))) (omega arith) in
+    (ap (octet 0) (all .0 .1 .0 .0 .0) ∙ failure-code _ (textOf 691 1 (version Two)))
+    (omega arith) in
     omega (
       arith,
       code,
-      ap (λ (r : Reply). octet 0 (replyPacket (q .box .conversation .terms) (q .box .conversation .id) r))
+      ap (λ (r : Reply). octet 0 (replyPacket (q .box .conversation .terms)
+          (q .box .conversation .id) r))
           pretended ∙ success-code (q .box .conversation .id),
     )
 

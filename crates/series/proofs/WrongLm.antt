@@ -146,7 +146,8 @@ module _ (takes : LmChoice → Bool) (claim : LmOptIn (takesLm takes)) where
           let same = conversation-taking l takes e in
           let judged = subst (λ (c : Conversation). isJudged stepOn (unanswered c) sent ≡ true)
           (sym same) (sent-judged l true) in
-          let out = failed Two _ _ (claim .off (sample l) h [] sent (there .code) by-lm judged .0) in
+          let out = failed Two _ _ (claim .off (sample l) h [] sent
+          (there .code) by-lm judged .0) in
           absurd (omega (arith, let-in l, ap code same, out))
 
   yes : takes Allowed ≡ true
@@ -211,6 +212,7 @@ module _ (claim : LmOptIn opensAnswered) where
       let same = ap alreadyAnswered (opens-where-it-may (sample Silent) (openable Silent) .1) in
       let judged = subst (λ (x : Conversation). isJudged stepOn (unanswered x) sent ≡ true)
       (sym same) seen-judged in
-      let out = failed Two _ _ (claim .off (sample Silent) (λ e. false≢true (ap lmAllowed e)) [] sent
+      let out = failed Two _ _ (claim .off (sample Silent) (λ e. false≢true
+      (ap lmAllowed e)) [] sent
       (there .code) by-lm judged .0) in
       omega (arith, success, ap code same, out)

@@ -215,7 +215,8 @@ not-replying-by-hash h =
     omega (
       arith,
       code,
-      ap (λ (x : Reply). octet 0 (replyPacket (p .box .conversation .terms) (p .box .conversation .id) x)) reply
+      ap (λ (x : Reply). octet 0 (replyPacket (p .box .conversation .terms)
+          (p .box .conversation .id) x)) reply
           ∙ success-code _,
     )
 
@@ -274,6 +275,7 @@ not-keeping-schedules h =
     omega (
       arith,
       code,
-      ap (λ (x : Reply). octet 0 (replyPacket (r .box .conversation .terms) (r .box .conversation .id) x)) reply
+      ap (λ (x : Reply). octet 0 (replyPacket (r .box .conversation .terms)
+          (r .box .conversation .id) x)) reply
           ∙ failure-code _ _,
     )

@@ -105,9 +105,9 @@ module _ (opener : Opener) where
       → (ss ts : List StepInput) (a : Account) (f : Response)
       → validIn (reached first ss) a f ≡ true → validIn (reached second ts) a f ≡ false
 
-  -- Nor does a recorded version 2 change: one that is accepted in one conversation gives that new hash in no
-  -- other, whatever record was kept there, and is not accepted in another whose kept record has the
-  -- same NT hash.
+  -- Nor does a recorded version 2 change: one that is accepted in one conversation gives that new
+  -- hash in no other, whatever record was kept there, and is not accepted in another whose kept
+  -- record has the same NT hash.
   abbrev pub NoneChangedTwice : Type 0
   NoneChangedTwice =
       (i : Issued) (first second : Opening) → Two i first second

@@ -275,13 +275,14 @@ module _ (box : Box) (writer : Writer) where
   -- "A single claim about the series from opening to end": the Challenge is read; where the round
   -- keys agree with the hashes and "the count before plus the invalid tries is below the limit",
   -- each packet of our peer is written and draws what it should, the change being the one that the
-  -- opening names; "with k invalid tries the box judges exactly k + 1 packets, or k + 2 with the record expired", whatever refused packets and
-  -- repeats come between them, and the conversation has ended; of any steps at all, with records of
-  -- any round keys, it judges at most r + 2, and each does what StepClaim says: a repeat draws the
-  -- same reply, what is not judged leaves all as it was, and a judged Response hands its record
-  -- out, counted by the round keys that it carries. It holds of our box and writer
-  -- (proofs/Demand3), and of none of the wrong ones in specs/Boxes and specs/Writers (proofs/Wrong,
-  -- WrongRefusals, WrongRepeats, WrongCounts, WrongSchedules, WrongWriters).
+  -- opening names; "with k invalid tries the box judges exactly k + 1 packets, or k + 2 with the
+  -- record expired", whatever refused packets and repeats come between them, and the conversation
+  -- has ended; of any steps at all, with records of any round keys, it judges at most r + 2, and
+  -- each does what StepClaim says: a repeat draws the same reply, what is not judged leaves all as
+  -- it was, and a judged Response hands its record out, counted by the round keys that it carries.
+  -- It holds of our box and writer (proofs/Demand3), and of none of the wrong ones in specs/Boxes
+  -- and specs/Writers (proofs/Wrong, WrongRefusals, WrongRepeats, WrongCounts, WrongSchedules,
+  -- WrongWriters).
   abbrev pub Demand3 : Type 0
   Demand3 =
       (o : Opening) → opened o .refusal ≡ 0 → length (o .challenge) ≡ 8

@@ -68,8 +68,8 @@ fn judging_at(flag: u8, nt: Hash) -> usize
     RECORD_HEAD_SIZE + 8 * octets::where_both(flag == 1, nt.present, 0, 48) as usize
 }
 
-// The bytes of the round keys of an entry's own hashes. None are made where it has no hash, as after
-// a repeat.
+// The bytes of the round keys of an entry's own hashes. None are made where it has no hash, as
+// after a repeat.
 fn made_keys(entry: Entry) -> [u8; BOTH_KEYS_SIZE]
     ensures { λ r. ⌜ r ≡ encodeSchedules (accountOf entry) ⌝ }
 {

@@ -116,7 +116,8 @@ module _ (kept : Entry) (challenge : List ℕ) (f : Change) where
   unfolding checkedChange
   checked-accepted h e =
       let a = accepted-only h e in
-      ap₂ (λ (x : ChangeFault) (y : List ℕ). checkedWith x (hashOf y) noHash) (accepted-fault (a .0))
+      ap₂ (λ (x : ChangeFault) (y : List ℕ). checkedWith x (hashOf y) noHash) (accepted-fault
+      (a .0))
       (sym (a .1))
 
 -- ---- what is ignored

@@ -121,20 +121,32 @@ module _ (kept : Entry) (challenge : List ℕ) (f : Change) where
 
   -- a test that fails
   absent : not (kept .nt .present) ≡ false → under 1 → under 2
-  absent e b = below-next (Holds kept challenge f) NoNtHash b (λ h. false≢true (sym h ∙ denied (kept .nt .present) e))
+  absent e b = below-next (Holds kept challenge f) NoNtHash b (λ h. false≢true (sym h ∙ denied
+      (kept .nt .present) e))
 
   clear : not (eqb (f .flags % 2) 1) ≡ false → under 2 → under 3
   clear e b =
-      below-next (Holds kept challenge f) NoNtResponse b (λ h. omega (arith, h, eqb-true (f .flags % 2) 1 (denied _ e)))
+      below-next (Holds kept challenge f) NoNtResponse b (λ h. omega (
+        arith,
+        h,
+        eqb-true
+            (f .flags % 2) 1 (denied _ e),
+      ))
 
   over : ltb 512 (lengthFor kept f) ≡ false → under 3 → under 4
-  over e b = below-next (Holds kept challenge f) LengthOver b (λ h. omega (arith, h, ltb-false 512 (lengthFor kept f) e))
+  over e b = below-next (Holds kept challenge f) LengthOver b (λ h. omega (
+    arith,
+    h,
+    ltb-false 512
+        (lengthFor kept f) e,
+  ))
 
   odd : eqb (lengthFor kept f % 2) 1 ≡ false → under 4 → under 5
   odd e b = below-next (Holds kept challenge f) LengthOdd b (eqb-false (lengthFor kept f % 2) 1 e)
 
   old : badVerifier kept f (hashFor kept f) ≡ false → under 5 → under 6
-  old e b = below-next (Holds kept challenge f) OldHashWrong b (λ h. h (agrees-equal (f .verifier) _ (denied _ e)))
+  old e b = below-next (Holds kept challenge f) OldHashWrong b (λ h. h (agrees-equal
+      (f .verifier) _ (denied _ e)))
 
   pub first-fault : IsFirst (Holds kept challenge f) (changeFault kept challenge f)
   unfolding changeFault firstFault

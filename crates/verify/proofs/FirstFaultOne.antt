@@ -1,5 +1,5 @@
--- "its reason the first of ..": what is told of a version 1 change holds, and none before it does; a
--- change is accepted exactly where none is told, and what its record then gets.
+-- "its reason the first of ..": what is told of a version 1 change holds, and none before it does;
+-- a change is accepted exactly where none is told, and what its record then gets.
 -- Assumes nothing.
 use mathlib.Core.Bool.{Bool, true, false, cond, not, true≢false, false≢true}
 use mathlib.Core.List.{List}

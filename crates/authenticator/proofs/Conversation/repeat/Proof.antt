@@ -32,7 +32,8 @@ returns c =
     } in
     let written : w .write-reply .result ≡ length reply =
     w .write-reply .ensures .0
-    ∙ written-whole reply (a .reply .now) (reply-fits (a .self .terms) (last .id) (last .reply)) (s .pre) in (
+    ∙ written-whole reply (a .reply .now) (reply-fits (a .self .terms) (last .id) (last .reply))
+    (s .pre) in (
       ap₂ (λ (reason n : ℕ). answer reason n (c .no-entry .result)) (e .reason-of .ensures) written
           ∙ ap (answer (reasonOf (last .reply)) (length reply)) (c .no-entry .ensures),
       w .write-reply .ensures .1,

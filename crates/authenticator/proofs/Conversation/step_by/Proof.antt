@@ -120,7 +120,8 @@ returns-3 c =
     let l = passed-record (start (t .before .before)) in
     let judgement = verdictOf (judge (a .self) p l) in
     let reply = replyPacket (a .self .terms) (a .self .id) (judgement .reply) in
-    let same = ap (λ (x : Verdict). replyPacket (a .self .terms) (a .self .id) (x .reply)) (j .judge .ensures) in
+    let same = ap (λ (x : Verdict). replyPacket (a .self .terms) (a .self .id) (x .reply))
+    (j .judge .ensures) in
     let whole = judged-step (a .self) p l b ok in
     let reason : e .reason-of .result ≡ reasonOf (judgement .reply) =
     e .reason-of .ensures ∙ ap (λ (x : Verdict). reasonOf (x .reply)) (j .judge .ensures) in
@@ -132,7 +133,8 @@ returns-3 c =
     (ap (λ (x : Verdict). x .next) (j .judge .ensures)) in
     let written : w .write-reply .result ≡ length reply =
     w .write-reply .ensures .0
-    ∙ written-whole _ b (reply-fits (a .self .terms) (a .self .id) (j .judge .result .reply)) (ok .readable .room)
+    ∙ written-whole _ b (reply-fits (a .self .terms) (a .self .id) (j .judge .result .reply))
+    (ok .readable .room)
     ∙ ap length same in (
       ap (λ (x : Verdict). answer x (n .with-last .result) (w .write-reply .result)
           (e .reason-of .result)) (j .judge .ensures)

@@ -1,5 +1,5 @@
--- `script_run::lines::run_lines` meets its contract. The loop's invariant says nothing: each turn goes
--- on by a line, as find answers no place before the one that it is given.
+-- `script_run::lines::run_lines` meets its contract. The loop's invariant says nothing: each turn
+-- goes on by a line, as find answers no place before the one that it is given.
 -- Assumes nothing.
 use borrow.Author.Needs.{needs}
 use Prim.Native.Nat.{_-_}

@@ -1,5 +1,5 @@
--- `verify::changes_one::first_fault` meets its contract: the choices, from the last to the first, are
--- the definition's.
+-- `verify::changes_one::first_fault` meets its contract: the choices, from the last to the first,
+-- are the definition's.
 -- Assumes nothing.
 use borrow.Author.Needs.{needs}
 use mathlib.Core.Bool.{cond}
