@@ -71,9 +71,9 @@ FAULTS = {
     4: 'the length in the password block is odd',
     5: 'the password block opened, but the old hash under the new one is not the one sent',
     6: "the response to the challenge is not the new password's",
-    7: 'the packet changes the password by LM (flag bit 0 is clear), and LM is not allowed',
-    8: 'the packet changes the password by LM, and says that it is longer than 14',
-    9: 'the account has no hash of the kind that the packet changes',
+    7: 'the packet asks for LM alone (flag bit 0 is clear), and LM is not allowed',
+    8: "the packet asks for LM alone, and the password's length is over 14",
+    9: 'the account has not the hash that the packet asks for',
     10: 'the old hash under the challenge is not the one sent (mostly a wrong old password)',
 }
 

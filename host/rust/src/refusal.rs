@@ -227,17 +227,17 @@ const FAULTS: [(u32, ChangeFault, &str); 11] = [
     (
         7,
         ChangeFault::LmNotAllowed,
-        "the packet changes the password by LM (flag bit 0 is clear), and LM is not allowed",
+        "the packet asks for LM alone (flag bit 0 is clear), and LM is not allowed",
     ),
     (
         8,
         ChangeFault::LengthOverLm,
-        "the packet changes the password by LM, and says that it is longer than 14",
+        "the packet asks for LM alone, and the password's length is over 14",
     ),
     (
         9,
         ChangeFault::HashAbsent,
-        "the account has no hash of the kind that the packet changes",
+        "the account has not the hash that the packet asks for",
     ),
     (
         10,
