@@ -343,7 +343,7 @@ extern "C" {
         Later versions may have further numbers: take one that is not here for an unknown fault. */
 
 #define MSCHAP_FAULT_NONE 0            /* with every other answer, a repeat of that Failure too */
-#define MSCHAP_FAULT_NO_NT_HASH 1      /* the account has no NT hash: it accepts no change */
+#define MSCHAP_FAULT_NO_NT_HASH 1      /* the account has no NT hash */
 #define MSCHAP_FAULT_NO_NT_RESPONSE 2  /* bit 0 of the packet's flags is clear: the peer does not
                                           ask for its NT response (RFC 2433, section 10) */
 #define MSCHAP_FAULT_LENGTH_OVER 3     /* the block of the new password, opened by the old hash, has

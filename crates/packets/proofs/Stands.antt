@@ -69,15 +69,20 @@ module _ (p : List ℕ) (good : badFrame p ≡ false) (fit : responseRefusal p �
 
 -- ---- Change Password
 
-pub change-fit : (p : List ℕ) → changeRefusal p ≡ 0 → (lengthOf p ≡ 1118) × (readChange p .flags ≤ 3)
-unfolding changeRefusal
-change-fit p e = by (eqb (lengthOf p) 1118) (ltb 3 (readChange p .flags)) refl refl e
+-- a change that draws neither 6 nor 7 has the Length of its version, and no flag over its highest
+body-fit : (size most n flags : ℕ) → _≡_ {A = ℕ} (cond (not (eqb n size)) 6 (cond (ltb most flags) 7 0)) 0
+    → (n ≡ size) × (flags ≤ most)
+body-fit size most n flags = by (eqb n size) (ltb most flags) refl refl
   where
-    by : (a b : Bool) → eqb (lengthOf p) 1118 ≡ a → ltb 3 (readChange p .flags) ≡ b → _≡_ {A = ℕ} (cond (not a) 6 (cond b 7 0)) 0
-        → (lengthOf p ≡ 1118) × (readChange p .flags ≤ 3)
+    by : (a b : Bool) → eqb n size ≡ a → ltb most flags ≡ b → _≡_ {A = ℕ} (cond (not a) 6 (cond b 7 0)) 0
+        → (n ≡ size) × (flags ≤ most)
     by false b e f g = absurd (omega (arith, g))
     by true true e f g = absurd (omega (arith, g))
-    by true false e f g = (eqb-true (lengthOf p) 1118 e, ltb-false 3 (readChange p .flags) f)
+    by true false e f g = (eqb-true n size e, ltb-false most flags f)
+
+pub change-fit : (p : List ℕ) → changeRefusal p ≡ 0 → (lengthOf p ≡ 1118) × (readChange p .flags ≤ 3)
+unfolding changeRefusal
+change-fit p e = body-fit 1118 3 (lengthOf p) (readChange p .flags) e
 
 pub record ChangeStands (p : List ℕ) : Type 0 where
   pub block : readChange p .block ≡ part 4 516 p
@@ -122,13 +127,7 @@ module _ (p : List ℕ) (good : badFrame p ≡ false) (fit : changeRefusal p ≡
 
 pub change-one-fit : (p : List ℕ) → changeOneRefusal p ≡ 0 → (lengthOf p ≡ 72) × (readChangeOne p .flags ≤ 1)
 unfolding changeOneRefusal
-change-one-fit p e = by (eqb (lengthOf p) 72) (ltb 1 (readChangeOne p .flags)) refl refl e
-  where
-    by : (a b : Bool) → eqb (lengthOf p) 72 ≡ a → ltb 1 (readChangeOne p .flags) ≡ b → _≡_ {A = ℕ} (cond (not a) 6 (cond b 7 0)) 0
-        → (lengthOf p ≡ 72) × (readChangeOne p .flags ≤ 1)
-    by false b e f g = absurd (omega (arith, g))
-    by true true e f g = absurd (omega (arith, g))
-    by true false e f g = (eqb-true (lengthOf p) 72 e, ltb-false 1 (readChangeOne p .flags) f)
+change-one-fit p e = body-fit 72 1 (lengthOf p) (readChangeOne p .flags) e
 
 pub record ChangeOneStands (p : List ℕ) : Type 0 where
   pub lmold : readChangeOne p .lmold ≡ part 4 16 p

@@ -282,7 +282,7 @@ module _ (box : Box) (writer : Writer) where
   -- it was, and a judged Response hands its record out, counted by the round keys that it carries.
   -- It holds of our box and writer (proofs/Demand3), and of none of the wrong ones in specs/Boxes
   -- and specs/Writers (proofs/Wrong, WrongRefusals, WrongRepeats, WrongCounts, WrongSchedules,
-  -- WrongWriters).
+  -- WrongChanges, WrongWriters).
   abbrev pub Demand3 : Type 0
   Demand3 =
       (o : Opening) → opened o .refusal ≡ 0 → length (o .challenge) ≡ 8

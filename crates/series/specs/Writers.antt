@@ -1,5 +1,5 @@
 -- Our peer's writer, and wrong ones. Demand 3 holds of ours (proofs/Demand3) and of none of the
--- others (proofs/WrongWriters).
+-- others (proofs/WrongWriters, WrongChanges).
 -- Assumes nothing: these are definitions.
 use mathlib.Core.List.{List}
 use Prim.Native.Nat.{ℕ}
