@@ -84,7 +84,7 @@ same-version One Two e = absurd (omega (arith, e))
 same-version Two One e = absurd (omega (arith, e))
 same-version Two Two e = refl
 
--- an opening that is not refused gives no answer yet
+-- the sample's opening, by the change that it chooses
 module _ (x : ChangeChoice) where
   abbrev o : Opening
   o = openingFor x (Count 1) 5
