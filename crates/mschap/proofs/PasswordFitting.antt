@@ -10,8 +10,8 @@ use lib.ListN.{length}
 use Rattle.credentials.specs.Credentials.{bad_nt_password}
 use Rattle.layouts.specs.Passwords.{encode_password, decode_password, is_encoded_password}
 use Rattle.layouts.proofs.PasswordLaws as layouts
-use Rattle.unicode.specs.Password.{password_of, password_octets, text_of, text_octets}
-use Rattle.unicode.proofs.Laws.{text_back, password_size_lem}
+use Rattle.unicode_text.specs.Password.{password_of, password_octets, text_of, text_octets}
+use Rattle.unicode_text.proofs.Laws.{text_back, password_size_lem}
 use Rattle.mschap.specs.Passwords.{text_from}
 use Rattle.mschap.proofs.ListCalls.{neither}
 

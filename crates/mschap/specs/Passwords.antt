@@ -4,8 +4,8 @@ use Rattle.std.specs.Prelude.{Bool, cond, ◌&&◌, List, ◌≡◌, ℕ, eqb, l
 use Rattle.octets.specs.Parts.{over}
 use Rattle.packets.specs.Sizes.{hash_size}
 use Rattle.credentials.specs.Credentials.{bad_nt_password, nt_hashed}
-use Rattle.unicode.specs.Password.{password_of, password_octets, text_of, text_octets}
-use Rattle.unicode.specs.declared.Text.{Text}
+use Rattle.unicode_text.specs.Password.{password_of, password_octets, text_of, text_octets}
+use Rattle.unicode_text.specs.declared.Text.{Text}
 use Rattle.layouts.specs.Call.{Fills, sized, numbered, after_call}
 use Rattle.layouts.specs.Passwords.{password_size, encode_password, decode_password, is_encoded_password}
 

@@ -10,7 +10,7 @@ ghost use Rattle.mschap.specs.Passwords.{ReadPasswordCall, hash_arguments, HashC
 use layouts::{BAD_ARGUMENT, decode_password, fill, is_encoded_password, put_password, wide};
 use packets::HASH_SIZE;
 use refusals::{both, refuse_if};
-use unicode::Text;
+use unicode_text::Text;
 
 // Makes a password of a text in UTF-8. 101: malformed. 8: too long.
 #[unsafe(no_mangle)]
@@ -18,7 +18,7 @@ pub extern "C" fn mschap_make_password(text: &[u8], password: &mut [u8]) -> u32
     ensures { MakePasswordCall text.now password.old result
         password.new }
 {
-    let made = unicode::password_of(text);
+    let made = unicode_text::password_of(text);
     let octets = made.octets;
     put_password(
         made.refusal,
@@ -63,7 +63,7 @@ pub extern "C" fn mschap_read_password(password: &[u8], text: &mut [u8], length:
     if !is_encoded_password(password) {
         return BAD_ARGUMENT;
     }
-    let read = unicode::text_of(decode_password(password));
+    let read = unicode_text::text_of(decode_password(password));
     let refusal = read_refusal(read, text);
     if refusal != 0 {
         return wide(refusal);

@@ -1,8 +1,8 @@
 -- `mschap::passwords::mschap_make_password` meets its contract.
 -- Assumes nothing.
 use mathlib.Core.Path.{refl, ap, ◌∙◌}
-use Rattle.unicode.specs.Password.{password_octets}
-use Rattle.unicode.specs.declared.Password.{Password}
+use Rattle.unicode_text.specs.Password.{password_octets}
+use Rattle.unicode_text.specs.declared.Password.{Password}
 use Rattle.layouts.specs.Passwords.{encode_password}
 use Rattle.layouts.proofs.Filling.{fills_as}
 use Rattle.mschap.proofs.passwords.mschap_make_password.Statement.{statement}

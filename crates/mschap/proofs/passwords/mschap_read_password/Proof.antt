@@ -7,8 +7,8 @@ use mathlib.Core.List.{List}
 use Prim.Native.Nat.{ℕ}
 use lib.Dec.{eqb}
 use Rattle.octets.specs.Parts.{over}
-use Rattle.unicode.specs.Password.{text_of, text_octets}
-use Rattle.unicode.specs.declared.Text.{Text}
+use Rattle.unicode_text.specs.Password.{text_of, text_octets}
+use Rattle.unicode_text.specs.declared.Text.{Text}
 use Rattle.layouts.specs.Call.{numbered}
 use Rattle.layouts.specs.Passwords.{is_encoded_password}
 use Rattle.mschap.specs.Passwords.{text_from, read_refusal}

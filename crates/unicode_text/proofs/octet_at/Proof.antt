@@ -1,0 +1,20 @@
+-- `unicode::octet_at` meets its contract.
+-- Assumes nothing.
+use mathlib.Core.Path.{refl, sym}
+use native.Mathlib.Omega.{arith}
+use borrow.Author.Rules.{rules}
+use lib.ListN.{get_or-eq_default}
+use Rattle.unicode_text.proofs.octet_at.Statement.{statement}
+use Rattle.unicode_text.proofs.octet_at.Tie as tie
+
+cast-result : tie.Need-overflow-cast-result
+cast-result c = omega (arith, c.shared-slice-known.given c.before.before.args.i)
+
+returns : tie.Need-returns
+returns c = (refl, omega (arith, c.shared-slice-known.given c.before.before.args.i))
+
+returns-2 : tie.Need-returns-2
+returns-2 c = (sym (get_or-eq_default c.before.args.s.now 0 c.if1.false), omega arith)
+
+pub octet_at_spec : {M : Type 1} → statement M
+octet_at_spec = tie.close (tie.spec (λ c. search rules) cast-result returns returns-2)
