@@ -30,6 +30,7 @@ use credentials::SCHEDULES_SIZE;
 
 // A hash, or none: what stands in the octets of an absent hash has no effect.
 #[derive(Drop)]
+#[derive(Clone, Copy)]
 pub struct Hash {
     pub present: bool,
     pub octets: [u8; 16],
@@ -37,6 +38,7 @@ pub struct Hash {
 
 // The stored round keys of a hash: three schedules of sixteen, one after the other.
 #[derive(Drop)]
+#[derive(Clone, Copy)]
 pub struct Schedules {
     pub keys: [u64; SCHEDULES_SIZE],
 }
@@ -45,6 +47,7 @@ pub struct Schedules {
 // barred by hours, no dial-in, expired; how many Responses in a row were judged invalid; and beside
 // each hash its round keys.
 #[derive(Drop)]
+#[derive(Clone, Copy)]
 pub struct Account {
     pub nt: Hash,
     pub lm: Hash,
@@ -60,6 +63,7 @@ pub struct Account {
 // A record without its round keys: what a change reads and a conversation keeps. It is short, so
 // that it can be handed on by value.
 #[derive(Drop)]
+#[derive(Clone, Copy)]
 pub struct Entry {
     pub nt: Hash,
     pub lm: Hash,
@@ -72,6 +76,7 @@ pub struct Entry {
 
 // The record of the named account, or none: the account has no effect unless it was found.
 #[derive(Drop)]
+#[derive(Clone, Copy)]
 pub struct Lookup {
     pub found: bool,
     pub account: Account,
@@ -79,6 +84,7 @@ pub struct Lookup {
 
 // The same without the round keys.
 #[derive(Drop)]
+#[derive(Clone, Copy)]
 pub struct EntryLookup {
     pub found: bool,
     pub entry: Entry,

@@ -31,6 +31,7 @@ use verify::{ChangeFault, Terms, uses_nt};
 
 // What a conversation awaits.
 #[derive(Drop)]
+#[derive(Clone, Copy)]
 pub enum Phase {
     Response,
     Change,
@@ -40,6 +41,7 @@ pub enum Phase {
 // What was answered last: the code and the identifier of the packet, and the reply. Before the
 // first answer none is present, and the rest has no effect.
 #[derive(Drop)]
+#[derive(Clone, Copy)]
 pub struct LastAnswer {
     pub present: bool,
     pub code: u8,
@@ -52,6 +54,7 @@ pub struct LastAnswer {
 // awaited the kept record (else a blank one), and the last answer, for a peer that missed it. A
 // change reads hashes and no round keys, so none are kept.
 #[derive(Drop)]
+#[derive(Clone, Copy)]
 pub struct Conversation {
     pub terms: Terms,
     pub id: u8,
@@ -64,6 +67,7 @@ pub struct Conversation {
 
 // What an opening says of the retries, or leaves silent.
 #[derive(Drop)]
+#[derive(Clone, Copy)]
 pub enum Retries {
     Default,
     Count(u8),
@@ -71,6 +75,7 @@ pub enum Retries {
 
 // What an opening says of LM; one that is silent disallows it.
 #[derive(Drop)]
+#[derive(Clone, Copy)]
 pub enum LmChoice {
     Silent,
     Allowed,
@@ -80,6 +85,7 @@ pub enum LmChoice {
 // What an opening says of the change that is awaited after an expired password; one that says
 // nothing awaits version 2's.
 #[derive(Drop)]
+#[derive(Clone, Copy)]
 pub enum ChangeChoice {
     Unspecified,
     VersionOne,
@@ -90,6 +96,7 @@ pub enum ChangeChoice {
 // beside a refusal), how many octets of the reply buffer the Challenge takes, and how many places
 // of the list of issued challenges are used then.
 #[derive(Drop)]
+#[derive(Clone, Copy)]
 pub struct Opened {
     pub refusal: u8,
     pub conversation: Conversation,
@@ -99,6 +106,7 @@ pub struct Opened {
 
 // A reply as a value: Success, or a Failure with its reason and whether a retry is allowed.
 #[derive(Drop)]
+#[derive(Clone, Copy)]
 pub enum Reply {
     Success,
     Failure(u16, bool),
@@ -108,6 +116,7 @@ pub enum Reply {
 // record that is handed out, without its round keys: after a Response the one that was passed, with
 // its count of failures, and after an accepted change the new one.
 #[derive(Drop)]
+#[derive(Clone, Copy)]
 pub struct Verdict {
     pub reply: Reply,
     pub fault: ChangeFault,
@@ -118,6 +127,7 @@ pub struct Verdict {
 // A step's packet was refused with a number; or it repeats the packet last answered and draws the
 // same reply, whose reason is here; or it was judged with a reason (0 is Success).
 #[derive(Drop)]
+#[derive(Clone, Copy)]
 pub enum Kind {
     Refused(u8),
     Repeated(u16),
@@ -129,6 +139,7 @@ pub enum Kind {
 // takes, and the record that is handed out, to be passed with the next packet of that account. The
 // peer is told nothing of the fault, nor of the record.
 #[derive(Drop)]
+#[derive(Clone, Copy)]
 pub struct Answer {
     pub kind: Kind,
     pub fault: ChangeFault,
@@ -140,6 +151,7 @@ pub struct Answer {
 // The same without the round keys of the record. They are long: so the parts of a step that do not
 // read them do not hand them on.
 #[derive(Drop)]
+#[derive(Clone, Copy)]
 pub struct Stepped {
     pub kind: Kind,
     pub fault: ChangeFault,

@@ -6,6 +6,7 @@ ghost use Rattle.blocks.specs.Blocks.{tail_length, tail_of};
 // The octets that follow the last whole block of a message, padding included: the first `used` of
 // them, one block or two.
 #[derive(Drop)]
+#[derive(Clone, Copy)]
 pub struct Tail {
     pub octets: [u8; 128],
     pub used: usize,

@@ -28,6 +28,7 @@ pub const STORED_SIZE: usize = 8 * SCHEDULES_SIZE;
 
 // A hash, or a refusal (8) with sixteen octets 0. 0 is no refusal.
 #[derive(Drop)]
+#[derive(Clone, Copy)]
 pub struct Hashed {
     pub refusal: u8,
     pub hash: [u8; HASH_SIZE],
@@ -35,6 +36,7 @@ pub struct Hashed {
 
 // A sealed password, or a refusal (8, 12) with octets 0. 0 is no refusal.
 #[derive(Drop)]
+#[derive(Clone, Copy)]
 pub struct Sealed {
     pub refusal: u8,
     pub block: [u8; BLOCK_SIZE],
@@ -42,6 +44,7 @@ pub struct Sealed {
 
 // What an opened block holds: a length over 512, an odd length, or a password of this many octets.
 #[derive(Drop)]
+#[derive(Clone, Copy)]
 pub enum Content {
     Over,
     Odd,
@@ -51,6 +54,7 @@ pub enum Content {
 // An opened block: what it holds, and its octets, of which a password is the last. (An enum can
 // hold no array.)
 #[derive(Drop)]
+#[derive(Clone, Copy)]
 pub struct Unsealed {
     pub content: Content,
     pub octets: [u8; LONGEST_NT],

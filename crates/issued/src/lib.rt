@@ -17,6 +17,7 @@ const OCTET_VALUES: usize = 256;
 
 // What spending answers: the refusal (0 is none), and how many places are used then.
 #[derive(Drop)]
+#[derive(Clone, Copy)]
 pub struct Spent {
     pub refusal: u8,
     pub used: usize,
@@ -42,6 +43,7 @@ pub fn is_bad_buffer(buffer: &[u8], used: usize, width: usize) -> bool
 
 // A count for each octet in which an entry may end.
 #[derive(Drop)]
+#[derive(Clone, Copy)]
 pub struct LastOctetCounts {
     pub counts: [u16; OCTET_VALUES],
 }

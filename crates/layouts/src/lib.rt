@@ -33,6 +33,7 @@ use verify::ChangeFault;
 // none: that of a judged Response with its count, or the one that an accepted change updates. The
 // round keys of that record are apart, as bytes.
 #[derive(Drop)]
+#[derive(Clone, Copy)]
 pub struct StepResult {
     pub repeated: bool,
     pub reason: u16,

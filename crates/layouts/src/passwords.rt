@@ -19,6 +19,7 @@ const LENGTH_AT: usize = 2;
 const BYTES_AT: usize = 4;
 
 #[derive(Drop)]
+#[derive(Clone, Copy)]
 pub(crate) struct PasswordValue {
     pub bytes: [u8; PASSWORD_SIZE],
 }

@@ -9,6 +9,7 @@ use std::num::wrapping_add_u32;
 
 // The registers A, B, C and D.
 #[derive(Drop)]
+#[derive(Clone, Copy)]
 struct Registers {
     a: u32,
     b: u32,
@@ -18,6 +19,7 @@ struct Registers {
 
 // The digest, or a refusal: 8 for more than 4,096 octets, with a digest of zeros. 0 is no refusal.
 #[derive(Drop)]
+#[derive(Clone, Copy)]
 pub struct Digested {
     pub refusal: u8,
     pub digest: [u8; 16],

@@ -11,6 +11,7 @@ ghost use Rattle.message.specs.Inner.{IfSome, Small, Eight};
 
 // What a failure calls for.
 #[derive(Drop)]
+#[derive(Clone, Copy)]
 pub enum Call {
     // another Response (691, R=1)
     Retry,
@@ -24,6 +25,7 @@ pub enum Call {
 
 // The fields of a Failure message, and what they call for.
 #[derive(Drop)]
+#[derive(Clone, Copy)]
 pub struct Failed {
     pub e: u64,
     pub r: u64,
@@ -32,6 +34,7 @@ pub struct Failed {
 }
 
 #[derive(Drop)]
+#[derive(Clone, Copy)]
 pub enum Verdict {
     Success,
     Failure(Failed),
@@ -41,12 +44,14 @@ pub enum Verdict {
 // The octets of the field C, where it is given. (They stand beside the verdict, as an enum can hold
 // no array.)
 #[derive(Drop)]
+#[derive(Clone, Copy)]
 pub struct NewChallenge {
     pub given: bool,
     pub octets: [u8; 8],
 }
 
 #[derive(Drop)]
+#[derive(Clone, Copy)]
 pub struct Reading {
     pub verdict: Verdict,
     pub c: NewChallenge,
@@ -55,6 +60,7 @@ pub struct Reading {
 // Where a field begins in the message. One octet will do, as no message over 256 octets is read,
 // and each call of the reading states holds four places.
 #[derive(Drop)]
+#[derive(Clone, Copy)]
 enum Place {
     At(u8),
     Nowhere,
@@ -62,6 +68,7 @@ enum Place {
 
 // What a word is: a field of one of four kinds, or text to be skipped.
 #[derive(Drop)]
+#[derive(Clone, Copy)]
 enum WordKind {
     // E
     Error,
@@ -76,6 +83,7 @@ enum WordKind {
 
 // The first well-formed field of each kind so far.
 #[derive(Drop)]
+#[derive(Clone, Copy)]
 struct Fields {
     e: Place,
     r: Place,

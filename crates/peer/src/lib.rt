@@ -8,6 +8,7 @@ use packets::{CHALLENGE_SIZE, Written};
 
 // The identifier and the challenge of the peer's next packet.
 #[derive(Drop)]
+#[derive(Clone, Copy)]
 pub struct Turn {
     pub id: u8,
     pub challenge: [u8; CHALLENGE_SIZE],
@@ -16,6 +17,7 @@ pub struct Turn {
 // The last packet that the peer sent, if there is one: its identifier, and the challenge of the
 // last Response. Reading leaves it alone, so that a reply may be read again.
 #[derive(Drop)]
+#[derive(Clone, Copy)]
 pub struct Sent {
     pub present: bool,
     pub id: u8,
@@ -24,6 +26,7 @@ pub struct Sent {
 
 // A peer is a value: reading and writing take it and give back the next.
 #[derive(Drop)]
+#[derive(Clone, Copy)]
 pub struct Peer {
     pub sent: Sent,
     pub turn: Turn,
@@ -31,6 +34,7 @@ pub struct Peer {
 
 // A Challenge was read: the refusal (0 is none), and the peer, of fixed values beside a refusal.
 #[derive(Drop)]
+#[derive(Clone, Copy)]
 pub struct ChallengeRead {
     pub refusal: u8,
     pub peer: Peer,
@@ -38,6 +42,7 @@ pub struct ChallengeRead {
 
 // A packet was written: what its writer answers, and the peer, as it was beside a refusal.
 #[derive(Drop)]
+#[derive(Clone, Copy)]
 pub struct PacketWritten {
     pub written: Written,
     pub peer: Peer,
@@ -45,6 +50,7 @@ pub struct PacketWritten {
 
 // A reply was read: what it says, and the peer, as it was beside a refusal.
 #[derive(Drop)]
+#[derive(Clone, Copy)]
 pub struct ReplyRead {
     pub reading: Reading,
     pub peer: Peer,

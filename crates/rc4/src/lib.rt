@@ -7,6 +7,7 @@ use std::num::wrapping_add_u8;
 
 // The permutation and its two indices.
 #[derive(Drop)]
+#[derive(Clone, Copy)]
 pub struct State {
     pub s: [u8; 256],
     pub i: u8,
@@ -15,6 +16,7 @@ pub struct State {
 
 // A key's state. The refusal 8 says that the key has not 1 to 256 octets; 0 is none.
 #[derive(Drop)]
+#[derive(Clone, Copy)]
 pub struct Keyed {
     pub refusal: u8,
     pub state: State,

@@ -10,6 +10,7 @@ use verify::ChangeFault;
 // list that are passed with an opening, the record that is passed with a step, and the one that the
 // last step handed out.
 #[derive(Drop)]
+#[derive(Clone, Copy)]
 pub struct ScriptState {
     conversation: Conversation,
     limit: u8,
@@ -169,6 +170,7 @@ fn put_opened(opening: OpeningLine, reply: &[u8]) {
 
 // An opening's answer, and the list as it left it.
 #[derive(Drop)]
+#[derive(Clone, Copy)]
 struct OpeningLine {
     opened: Opened,
     list: List,

@@ -3,6 +3,7 @@ use script_authenticator::ScriptState;
 
 // How a line is read.
 #[derive(Drop)]
+#[derive(Clone, Copy)]
 enum Section {
     Cases,
     Md4,
@@ -13,6 +14,7 @@ enum Section {
 
 // What goes on from line to line, and from script to script.
 #[derive(Drop)]
+#[derive(Clone, Copy)]
 pub struct Session {
     section: Section,
     state: ScriptState,

@@ -12,6 +12,7 @@ pub use summaries::{count, summarize};
 
 // Where the line of a name starts.
 #[derive(Drop)]
+#[derive(Clone, Copy)]
 pub enum Place {
     // on no line
     Nowhere,
@@ -25,6 +26,7 @@ pub enum Place {
 
 // What a lookup answers: the place, and the record where there is one.
 #[derive(Drop)]
+#[derive(Clone, Copy)]
 pub struct Found {
     pub place: Place,
     pub lookup: accounts::Lookup,
@@ -33,6 +35,7 @@ pub struct Found {
 // How many lines there are, of another form, and of accounts that are disabled, that are expired
 // and that have no NT hash.
 #[derive(Drop)]
+#[derive(Clone, Copy)]
 pub struct Counts {
     pub lines: usize,
     pub bad: usize,
@@ -43,6 +46,7 @@ pub struct Counts {
 
 // What `acctsum` is told by its input: the refusal (0 is none), and the counts.
 #[derive(Drop)]
+#[derive(Clone, Copy)]
 pub struct Summary {
     pub refusal: u8,
     pub counts: Counts,

@@ -72,6 +72,7 @@ const LONGEST_INPUT: usize = 65536;
 
 // What a number was read as.
 #[derive(Drop)]
+#[derive(Clone, Copy)]
 pub(crate) enum Number {
     Value(u32),
     NoNumber,

@@ -19,6 +19,7 @@ pub const TEXT_MAX: usize = 768;
 // The octets of a password: size of them, and zeros behind. Beside a refusal (101, 8) the size and
 // all octets are 0. 0 is no refusal.
 #[derive(Drop)]
+#[derive(Clone, Copy)]
 pub struct Password {
     pub refusal: u8,
     pub size: usize,
@@ -27,6 +28,7 @@ pub struct Password {
 
 // The octets of a text in UTF-8, in the same way.
 #[derive(Drop)]
+#[derive(Clone, Copy)]
 pub struct Text {
     pub refusal: u8,
     pub size: usize,
@@ -36,6 +38,7 @@ pub struct Text {
 // The scalar value with which octets begin, and how many of them tell it: 0 where they are
 // malformed.
 #[derive(Drop)]
+#[derive(Clone, Copy)]
 struct Char {
     width: usize,
     value: u32,
@@ -43,6 +46,7 @@ struct Char {
 
 // The octets of one character: size of them, and zeros behind.
 #[derive(Drop)]
+#[derive(Clone, Copy)]
 struct Encoding {
     size: usize,
     octets: [u8; 4],
