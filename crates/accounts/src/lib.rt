@@ -29,7 +29,6 @@ ghost use Rattle.accounts.specs.Account.{
 use credentials::SCHEDULES_SIZE;
 
 // A hash, or none: what stands in the octets of an absent hash has no effect.
-#[derive(Drop)]
 #[derive(Clone, Copy)]
 pub struct Hash {
     pub present: bool,
@@ -37,7 +36,6 @@ pub struct Hash {
 }
 
 // The stored round keys of a hash: three schedules of sixteen, one after the other.
-#[derive(Drop)]
 #[derive(Clone, Copy)]
 pub struct Schedules {
     pub keys: [u64; SCHEDULES_SIZE],
@@ -46,7 +44,6 @@ pub struct Schedules {
 // An account record: an NT hash or none, an LM hash or none, document 01's four marks: disabled,
 // barred by hours, no dial-in, expired; how many Responses in a row were judged invalid; and beside
 // each hash its round keys.
-#[derive(Drop)]
 #[derive(Clone, Copy)]
 pub struct Account {
     pub nt: Hash,
@@ -62,7 +59,6 @@ pub struct Account {
 
 // A record without its round keys: what a change reads and a conversation keeps. It is short, so
 // that it can be handed on by value.
-#[derive(Drop)]
 #[derive(Clone, Copy)]
 pub struct Entry {
     pub nt: Hash,
@@ -75,7 +71,6 @@ pub struct Entry {
 }
 
 // The record of the named account, or none: the account has no effect unless it was found.
-#[derive(Drop)]
 #[derive(Clone, Copy)]
 pub struct Lookup {
     pub found: bool,
@@ -83,7 +78,6 @@ pub struct Lookup {
 }
 
 // The same without the round keys.
-#[derive(Drop)]
 #[derive(Clone, Copy)]
 pub struct EntryLookup {
     pub found: bool,

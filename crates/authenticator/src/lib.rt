@@ -30,7 +30,6 @@ pub use encode::{reason_of, version};
 use verify::{ChangeFault, Terms, uses_nt};
 
 // What a conversation awaits.
-#[derive(Drop)]
 #[derive(Clone, Copy)]
 pub enum Phase {
     Response,
@@ -40,7 +39,6 @@ pub enum Phase {
 
 // What was answered last: the code and the identifier of the packet, and the reply. Before the
 // first answer none is present, and the rest has no effect.
-#[derive(Drop)]
 #[derive(Clone, Copy)]
 pub struct LastAnswer {
     pub present: bool,
@@ -53,7 +51,6 @@ pub struct LastAnswer {
 // fixed, the awaited identifier, the challenge in force, the retries left, while a change is
 // awaited the kept record (else a blank one), and the last answer, for a peer that missed it. A
 // change reads hashes and no round keys, so none are kept.
-#[derive(Drop)]
 #[derive(Clone, Copy)]
 pub struct Conversation {
     pub terms: Terms,
@@ -66,7 +63,6 @@ pub struct Conversation {
 }
 
 // What an opening says of the retries, or leaves silent.
-#[derive(Drop)]
 #[derive(Clone, Copy)]
 pub enum Retries {
     Default,
@@ -74,7 +70,6 @@ pub enum Retries {
 }
 
 // What an opening says of LM; one that is silent disallows it.
-#[derive(Drop)]
 #[derive(Clone, Copy)]
 pub enum LmChoice {
     Silent,
@@ -84,7 +79,6 @@ pub enum LmChoice {
 
 // What an opening says of the change that is awaited after an expired password; one that says
 // nothing awaits version 2's.
-#[derive(Drop)]
 #[derive(Clone, Copy)]
 pub enum ChangeChoice {
     Unspecified,
@@ -95,7 +89,6 @@ pub enum ChangeChoice {
 // What an opening answers: the refusal (0 is none), the conversation (an ended one of fixed values
 // beside a refusal), how many octets of the reply buffer the Challenge takes, and how many places
 // of the list of issued challenges are used then.
-#[derive(Drop)]
 #[derive(Clone, Copy)]
 pub struct Opened {
     pub refusal: u8,
@@ -105,7 +98,6 @@ pub struct Opened {
 }
 
 // A reply as a value: Success, or a Failure with its reason and whether a retry is allowed.
-#[derive(Drop)]
 #[derive(Clone, Copy)]
 pub enum Reply {
     Success,
@@ -115,7 +107,6 @@ pub enum Reply {
 // How a packet is judged: the reply, what is wrong with a change, the next conversation, and the
 // record that is handed out, without its round keys: after a Response the one that was passed, with
 // its count of failures, and after an accepted change the new one.
-#[derive(Drop)]
 #[derive(Clone, Copy)]
 pub struct Verdict {
     pub reply: Reply,
@@ -126,7 +117,6 @@ pub struct Verdict {
 
 // A step's packet was refused with a number; or it repeats the packet last answered and draws the
 // same reply, whose reason is here; or it was judged with a reason (0 is Success).
-#[derive(Drop)]
 #[derive(Clone, Copy)]
 pub enum Kind {
     Refused(u8),
@@ -138,7 +128,6 @@ pub enum Kind {
 // with it (else NoFault), the next conversation, how many octets of the reply buffer the reply
 // takes, and the record that is handed out, to be passed with the next packet of that account. The
 // peer is told nothing of the fault, nor of the record.
-#[derive(Drop)]
 #[derive(Clone, Copy)]
 pub struct Answer {
     pub kind: Kind,
@@ -150,7 +139,6 @@ pub struct Answer {
 
 // The same without the round keys of the record. They are long: so the parts of a step that do not
 // read them do not hand them on.
-#[derive(Drop)]
 #[derive(Clone, Copy)]
 pub struct Stepped {
     pub kind: Kind,

@@ -5,7 +5,6 @@ ghost use Rattle.blocks.specs.Blocks.{tail_length, tail_of};
 
 // The octets that follow the last whole block of a message, padding included: the first `used` of
 // them, one block or two.
-#[derive(Drop)]
 #[derive(Clone, Copy)]
 pub struct Tail {
     pub octets: [u8; 128],

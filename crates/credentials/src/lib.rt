@@ -27,7 +27,6 @@ pub const SCHEDULES_SIZE: usize = 3 * 16;
 pub const STORED_SIZE: usize = 8 * SCHEDULES_SIZE;
 
 // A hash, or a refusal (8) with sixteen octets 0. 0 is no refusal.
-#[derive(Drop)]
 #[derive(Clone, Copy)]
 pub struct Hashed {
     pub refusal: u8,
@@ -35,7 +34,6 @@ pub struct Hashed {
 }
 
 // A sealed password, or a refusal (8, 12) with octets 0. 0 is no refusal.
-#[derive(Drop)]
 #[derive(Clone, Copy)]
 pub struct Sealed {
     pub refusal: u8,
@@ -43,7 +41,6 @@ pub struct Sealed {
 }
 
 // What an opened block holds: a length over 512, an odd length, or a password of this many octets.
-#[derive(Drop)]
 #[derive(Clone, Copy)]
 pub enum Content {
     Over,
@@ -53,7 +50,6 @@ pub enum Content {
 
 // An opened block: what it holds, and its octets, of which a password is the last. (An enum can
 // hold no array.)
-#[derive(Drop)]
 #[derive(Clone, Copy)]
 pub struct Unsealed {
     pub content: Content,

@@ -16,7 +16,6 @@ const MOST_PLACES: usize = 4096;
 const OCTET_VALUES: usize = 256;
 
 // What spending answers: the refusal (0 is none), and how many places are used then.
-#[derive(Drop)]
 #[derive(Clone, Copy)]
 pub struct Spent {
     pub refusal: u8,
@@ -42,7 +41,6 @@ pub fn is_bad_buffer(buffer: &[u8], used: usize, width: usize) -> bool
 }
 
 // A count for each octet in which an entry may end.
-#[derive(Drop)]
 #[derive(Clone, Copy)]
 pub struct LastOctetCounts {
     pub counts: [u16; OCTET_VALUES],

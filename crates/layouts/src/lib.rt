@@ -32,7 +32,6 @@ use verify::ChangeFault;
 // Success), what is wrong with a change that was judged, and the record that is handed out, or
 // none: that of a judged Response with its count, or the one that an accepted change updates. The
 // round keys of that record are apart, as bytes.
-#[derive(Drop)]
 #[derive(Clone, Copy)]
 pub struct StepResult {
     pub repeated: bool,

@@ -17,15 +17,12 @@ const ROOM_SIZE: usize = 59;
 pub(crate) const TAG_SIZE: usize = 2;
 
 const VALUE_SIZE: usize = 61;
-
-#[derive(Drop)]
 #[derive(Clone, Copy)]
 pub(crate) struct Room {
     pub bytes: [u8; ROOM_SIZE],
 }
 
 // Room behind kind and version.
-#[derive(Drop)]
 #[derive(Clone, Copy)]
 struct Value {
     pub bytes: [u8; VALUE_SIZE],

@@ -7,7 +7,6 @@ use peer::{PacketWritten, Peer};
 const LIMIT: u8 = 10;
 
 // A list of issued challenges, of which so many places are used.
-#[derive(Drop)]
 #[derive(Clone, Copy)]
 pub struct IssuedList {
     pub octets: [u8; 64],
@@ -17,7 +16,6 @@ pub struct IssuedList {
 
 // Both ends: the conversation, the peer, the list as the opening left it, and the record that the
 // last packet handed out.
-#[derive(Drop)]
 #[derive(Clone, Copy)]
 pub struct Loopback {
     pub conversation: Conversation,

@@ -8,7 +8,6 @@ ghost use Rattle.md4.specs.Md4.{plus, rotl, aux_f, aux_g, aux_h, operation, row,
 use std::num::wrapping_add_u32;
 
 // The registers A, B, C and D.
-#[derive(Drop)]
 #[derive(Clone, Copy)]
 struct Registers {
     a: u32,
@@ -18,7 +17,6 @@ struct Registers {
 }
 
 // The digest, or a refusal: 8 for more than 4,096 octets, with a digest of zeros. 0 is no refusal.
-#[derive(Drop)]
 #[derive(Clone, Copy)]
 pub struct Digested {
     pub refusal: u8,

@@ -10,7 +10,6 @@ ghost use Rattle.message.specs.Inner.{digits_at, parsed_at, parsed_in, completed
 ghost use Rattle.message.specs.Inner.{IfSome, Small, Eight};
 
 // What a failure calls for.
-#[derive(Drop)]
 #[derive(Clone, Copy)]
 pub enum Call {
     // another Response (691, R=1)
@@ -24,7 +23,6 @@ pub enum Call {
 }
 
 // The fields of a Failure message, and what they call for.
-#[derive(Drop)]
 #[derive(Clone, Copy)]
 pub struct Failed {
     pub e: u64,
@@ -32,8 +30,6 @@ pub struct Failed {
     pub v: u64,
     pub call: Call,
 }
-
-#[derive(Drop)]
 #[derive(Clone, Copy)]
 pub enum Verdict {
     Success,
@@ -43,14 +39,11 @@ pub enum Verdict {
 
 // The octets of the field C, where it is given. (They stand beside the verdict, as an enum can hold
 // no array.)
-#[derive(Drop)]
 #[derive(Clone, Copy)]
 pub struct NewChallenge {
     pub given: bool,
     pub octets: [u8; 8],
 }
-
-#[derive(Drop)]
 #[derive(Clone, Copy)]
 pub struct Reading {
     pub verdict: Verdict,
@@ -59,7 +52,6 @@ pub struct Reading {
 
 // Where a field begins in the message. One octet will do, as no message over 256 octets is read,
 // and each call of the reading states holds four places.
-#[derive(Drop)]
 #[derive(Clone, Copy)]
 enum Place {
     At(u8),
@@ -67,7 +59,6 @@ enum Place {
 }
 
 // What a word is: a field of one of four kinds, or text to be skipped.
-#[derive(Drop)]
 #[derive(Clone, Copy)]
 enum WordKind {
     // E
@@ -82,7 +73,6 @@ enum WordKind {
 }
 
 // The first well-formed field of each kind so far.
-#[derive(Drop)]
 #[derive(Clone, Copy)]
 struct Fields {
     e: Place,

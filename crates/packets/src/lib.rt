@@ -23,7 +23,6 @@ pub use sizes::{
 };
 
 // The fields of a Response; its name stands beside them, as a part of the packet.
-#[derive(Drop)]
 #[derive(Clone, Copy)]
 pub struct Response {
     pub lm: [u8; ANSWER_SIZE],
@@ -33,7 +32,6 @@ pub struct Response {
 
 // The fields of a version 2 Change Password packet: the new password under the old NT hash, the old
 // NT hash under the new one, the same two for LM, the LM and the NT response, and the flags.
-#[derive(Drop)]
 #[derive(Clone, Copy)]
 pub struct Change {
     pub block: [u8; BLOCK_SIZE],
@@ -47,7 +45,6 @@ pub struct Change {
 
 // The fields of a version 1 Change Password packet: the old and the new LM hash and the old and the
 // new NT hash, each under the challenge, the length of the new password, and the flags.
-#[derive(Drop)]
 #[derive(Clone, Copy)]
 pub struct ChangeOne {
     pub lmold: [u8; HASH_SIZE],
@@ -59,7 +56,6 @@ pub struct ChangeOne {
 }
 
 // What the peer's writers answer: the refusal (0 is none) and how many octets were written.
-#[derive(Drop)]
 #[derive(Clone, Copy)]
 pub struct Written {
     pub refusal: u8,
@@ -67,7 +63,6 @@ pub struct Written {
 }
 
 // What the peer reads in a Challenge; fixed values beside a refusal (0 is none).
-#[derive(Drop)]
 #[derive(Clone, Copy)]
 pub struct ChallengeFields {
     pub refusal: u8,
@@ -77,7 +72,6 @@ pub struct ChallengeFields {
 
 // Where a part of a packet stands: from offset on, length octets. Offset 0 says that it is not in
 // the packet.
-#[derive(Drop)]
 #[derive(Clone, Copy)]
 pub struct Part {
     pub offset: usize,

@@ -7,7 +7,6 @@ use message::Reading;
 use packets::{CHALLENGE_SIZE, Written};
 
 // The identifier and the challenge of the peer's next packet.
-#[derive(Drop)]
 #[derive(Clone, Copy)]
 pub struct Turn {
     pub id: u8,
@@ -16,7 +15,6 @@ pub struct Turn {
 
 // The last packet that the peer sent, if there is one: its identifier, and the challenge of the
 // last Response. Reading leaves it alone, so that a reply may be read again.
-#[derive(Drop)]
 #[derive(Clone, Copy)]
 pub struct Sent {
     pub present: bool,
@@ -25,7 +23,6 @@ pub struct Sent {
 }
 
 // A peer is a value: reading and writing take it and give back the next.
-#[derive(Drop)]
 #[derive(Clone, Copy)]
 pub struct Peer {
     pub sent: Sent,
@@ -33,7 +30,6 @@ pub struct Peer {
 }
 
 // A Challenge was read: the refusal (0 is none), and the peer, of fixed values beside a refusal.
-#[derive(Drop)]
 #[derive(Clone, Copy)]
 pub struct ChallengeRead {
     pub refusal: u8,
@@ -41,7 +37,6 @@ pub struct ChallengeRead {
 }
 
 // A packet was written: what its writer answers, and the peer, as it was beside a refusal.
-#[derive(Drop)]
 #[derive(Clone, Copy)]
 pub struct PacketWritten {
     pub written: Written,
@@ -49,7 +44,6 @@ pub struct PacketWritten {
 }
 
 // A reply was read: what it says, and the peer, as it was beside a refusal.
-#[derive(Drop)]
 #[derive(Clone, Copy)]
 pub struct ReplyRead {
     pub reading: Reading,

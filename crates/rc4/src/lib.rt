@@ -6,7 +6,6 @@ ghost use Rattle.rc4.specs.Rc4.{swapped, upto, started, later_state, ciphered, k
 use std::num::wrapping_add_u8;
 
 // The permutation and its two indices.
-#[derive(Drop)]
 #[derive(Clone, Copy)]
 pub struct State {
     pub s: [u8; 256],
@@ -15,7 +14,6 @@ pub struct State {
 }
 
 // A key's state. The refusal 8 says that the key has not 1 to 256 octets; 0 is none.
-#[derive(Drop)]
 #[derive(Clone, Copy)]
 pub struct Keyed {
     pub refusal: u8,

@@ -9,7 +9,6 @@ use verify::ChangeFault;
 // The current conversation, the limit, the version of the change (0 is silence about it) and the
 // list that are passed with an opening, the record that is passed with a step, and the one that the
 // last step handed out.
-#[derive(Drop)]
 #[derive(Clone, Copy)]
 pub struct ScriptState {
     conversation: Conversation,
@@ -169,7 +168,6 @@ fn put_opened(opening: OpeningLine, reply: &[u8]) {
 }
 
 // An opening's answer, and the list as it left it.
-#[derive(Drop)]
 #[derive(Clone, Copy)]
 struct OpeningLine {
     opened: Opened,

@@ -3,7 +3,6 @@ ghost use Rattle.std.specs.Prelude.{◌≤◌};
 
 // The buffer is the first size octets, and the first number counts are passed with it. What is
 // behind them is 0.
-#[derive(Drop)]
 #[derive(Clone, Copy)]
 pub struct List {
     pub octets: [u8; 1024],

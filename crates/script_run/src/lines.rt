@@ -2,7 +2,6 @@
 use script_authenticator::ScriptState;
 
 // How a line is read.
-#[derive(Drop)]
 #[derive(Clone, Copy)]
 enum Section {
     Cases,
@@ -13,7 +12,6 @@ enum Section {
 }
 
 // What goes on from line to line, and from script to script.
-#[derive(Drop)]
 #[derive(Clone, Copy)]
 pub struct Session {
     section: Section,

@@ -11,7 +11,6 @@ pub use files::{find, locate, offset_of, refusal_of, write_back};
 pub use summaries::{count, summarize};
 
 // Where the line of a name starts.
-#[derive(Drop)]
 #[derive(Clone, Copy)]
 pub enum Place {
     // on no line
@@ -25,7 +24,6 @@ pub enum Place {
 }
 
 // What a lookup answers: the place, and the record where there is one.
-#[derive(Drop)]
 #[derive(Clone, Copy)]
 pub struct Found {
     pub place: Place,
@@ -34,7 +32,6 @@ pub struct Found {
 
 // How many lines there are, of another form, and of accounts that are disabled, that are expired
 // and that have no NT hash.
-#[derive(Drop)]
 #[derive(Clone, Copy)]
 pub struct Counts {
     pub lines: usize,
@@ -45,7 +42,6 @@ pub struct Counts {
 }
 
 // What `acctsum` is told by its input: the refusal (0 is none), and the counts.
-#[derive(Drop)]
 #[derive(Clone, Copy)]
 pub struct Summary {
     pub refusal: u8,

@@ -7,7 +7,6 @@ ghost use Rattle.smbpasswd.specs.Inner.{columns_of};
 
 // Where the fields behind the name begin, and the rest of the line: each right behind a colon or,
 // where there are fewer, beyond the end of the line.
-#[derive(Drop)]
 #[derive(Clone, Copy)]
 pub(crate) struct Columns {
     pub uid: usize,

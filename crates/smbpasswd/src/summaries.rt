@@ -71,7 +71,6 @@ pub fn count(file: &[u8], present: u32, max_age: u32) -> Counts
 const LONGEST_INPUT: usize = 65536;
 
 // What a number was read as.
-#[derive(Drop)]
 #[derive(Clone, Copy)]
 pub(crate) enum Number {
     Value(u32),

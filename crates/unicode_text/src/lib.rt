@@ -18,7 +18,6 @@ pub const TEXT_MAX: usize = 768;
 
 // The octets of a password: size of them, and zeros behind. Beside a refusal (101, 8) the size and
 // all octets are 0. 0 is no refusal.
-#[derive(Drop)]
 #[derive(Clone, Copy)]
 pub struct Password {
     pub refusal: u8,
@@ -27,7 +26,6 @@ pub struct Password {
 }
 
 // The octets of a text in UTF-8, in the same way.
-#[derive(Drop)]
 #[derive(Clone, Copy)]
 pub struct Text {
     pub refusal: u8,
@@ -37,7 +35,6 @@ pub struct Text {
 
 // The scalar value with which octets begin, and how many of them tell it: 0 where they are
 // malformed.
-#[derive(Drop)]
 #[derive(Clone, Copy)]
 struct Char {
     width: usize,
@@ -45,7 +42,6 @@ struct Char {
 }
 
 // The octets of one character: size of them, and zeros behind.
-#[derive(Drop)]
 #[derive(Clone, Copy)]
 struct Encoding {
     size: usize,

@@ -12,7 +12,6 @@ use accounts::{EntryLookup, Hash};
 
 // Which Change Password packet is awaited after an expired password: version 1's or version 2's.
 // V of every Failure is its number.
-#[derive(Drop)]
 #[derive(Clone, Copy)]
 pub enum ChangeVersion {
     One,
@@ -20,7 +19,6 @@ pub enum ChangeVersion {
 }
 
 // What the opening fixes for the whole conversation.
-#[derive(Drop)]
 #[derive(Clone, Copy)]
 pub struct Terms {
     // whether an LM response may count
@@ -33,7 +31,6 @@ pub struct Terms {
 
 // A Response that was checked: the reason that it draws (0 is Success), and what was looked up,
 // with the record's count as the Response leaves it. Its round keys are those that it came with.
-#[derive(Drop)]
 #[derive(Clone, Copy)]
 pub struct CheckedResponse {
     pub reason: u16,
@@ -41,7 +38,6 @@ pub struct CheckedResponse {
 }
 
 // What is wrong with a change that is not accepted: the first that holds, in this order.
-#[derive(Drop)]
 #[derive(Clone, Copy)]
 pub enum ChangeFault {
     NoFault,
@@ -67,7 +63,6 @@ pub enum ChangeFault {
 
 // A change that was checked: what is wrong with it, or none and its new hashes, NT, LM or both
 // (none beside a fault).
-#[derive(Drop)]
 #[derive(Clone, Copy)]
 pub struct CheckedChange {
     pub fault: ChangeFault,
@@ -77,7 +72,6 @@ pub struct CheckedChange {
 
 // The opened block of a version 2 change: the fault of its length, or none and the hash of the
 // password in it (sixteen octets 0 beside a fault).
-#[derive(Drop)]
 #[derive(Clone, Copy)]
 pub(crate) struct CheckedBlock {
     fault: ChangeFault,
