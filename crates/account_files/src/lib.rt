@@ -1,6 +1,8 @@
 // An account file in a buffer of C's: an account looked up, a changed record written back, the
 // accounts counted. What a call returns and leaves is said here; `mschap` exports the three under
 // their names in C. Every public function is total.
+#![tactic(auto)]
+
 ghost use Rattle.std.specs.Prelude.{◌≡◌};
 ghost use Rattle.account_files.specs.Calls.{is_somewhere, FindCall, WriteCall, CountCall};
 ghost use Rattle.account_files.specs.Inner.{AccountCall};

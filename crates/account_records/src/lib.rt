@@ -1,6 +1,8 @@
 // A record in a buffer of C's: made of flags and hashes, read, its count read and set, and its
 // response. What a call returns and leaves is said here; `mschap` exports the five under their
 // names in C. Every public function is total.
+#![tactic(auto)]
+
 ghost use Rattle.std.specs.Prelude.{◌≡◌, cond};
 ghost use Rattle.account_records.specs.Calls.{MakeRecordCall, read_record_arguments};
 ghost use Rattle.account_records.specs.Calls.{ReadRecordCall, record_failures};

@@ -1,6 +1,8 @@
 // Account records: what one holds, what a lookup found, and the only functions that make or update
 // one. Whoever reads a record, from a file or from C, makes it by these. A record holds the round
 // keys of its hashes, so that a Response is judged without making them again.
+#![tactic(auto)]
+
 ghost use Rattle.std.specs.Prelude.{◌≡◌};
 ghost use Rattle.accounts.specs.Account.{
   no_hash,

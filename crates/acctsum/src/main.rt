@@ -1,6 +1,7 @@
 // Counts the accounts of a file in Samba's smbpasswd(5) layout. Standard input has a line with the
 // present time and the maximum age of a password, and then the file. What is counted is said and
 // proved in `smbpasswd`.
+#![tactic(auto)]
 
 // 65,536 octets are read at most; one more tells that there were too many. The array is passed
 // whole, as the check of a slice of one grows with its length.

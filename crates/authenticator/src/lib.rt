@@ -1,6 +1,8 @@
 // The authenticator (document 01's box): a conversation that is opened and takes one step for each
 // packet. A step has three parts: a packet is refused, a repeat or awaited (admit), an awaited one
 // is judged (judge), and the reply is written (encode).
+#![tactic(auto)]
+
 mod admit;
 mod encode;
 mod judge;

@@ -1,5 +1,7 @@
 // The end of a padded message, for a hash over blocks of 64 octets. (The loop over the blocks
 // stands beside each hash, as Rattle has no function parameters; its proof cites the laws here.)
+#![tactic(auto)]
+
 ghost use Rattle.std.specs.Prelude.{◌≡◌};
 ghost use Rattle.blocks.specs.Blocks.{tail_length, tail_of};
 

@@ -1,5 +1,7 @@
 // The challenges that follow one another in a conversation by the 23 rule, and the identifier of
 // the packet that answers a Failure (RFC 2433, section 8 and B.1).
+#![tactic(auto)]
+
 ghost use Rattle.std.specs.Prelude.{◌≡◌};
 ghost use mathlib.Core.List.{flatten};
 ghost use Rattle.challenges.specs.Challenges.{next_id, incremented, challenges_from};

@@ -1,4 +1,6 @@
 // Hashes, responses and the sealed password of MS-CHAP (RFC 2433, appendix A).
+#![tactic(auto)]
+
 ghost use Rattle.std.specs.Prelude.{◌≡◌, cond, ◌++◌, ◌^◌, ◌≤◌, ◌<◌, length};
 ghost use Rattle.octets.specs.Parts.{fixed};
 ghost use Rattle.octets.specs.Numbers.{to_le};

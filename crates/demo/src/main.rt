@@ -2,6 +2,8 @@
 // missed, a change that is not accepted, a version 1 change, and the slips that cost weeks. Each
 // packet is a line: who sends it, its kind, its identifier and its octets; a sentence says what it
 // means.
+#![tactic(auto)]
+
 mod exchanges;
 
 use loopback::say;

@@ -1,5 +1,7 @@
 // DES (FIPS 46-2): a block of eight octets under a key of seven, the 56 bits of a DES key that are
 // not parity.
+#![tactic(auto)]
+
 mod packed;
 mod permutations;
 mod rounds;

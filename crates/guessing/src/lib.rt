@@ -1,5 +1,7 @@
 // A slip of docs/SLIPS.md: a guesser who hangs up and calls back. The record goes from call to
 // call, with its count. (A crate of its own, as the check of `slips` is long enough.)
+#![tactic(auto)]
+
 use authenticator::Retries;
 use loopback::{
     IssuedList, Loopback, account, another_challenge, challenge, empty_list, opening_limited,

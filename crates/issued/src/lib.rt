@@ -1,6 +1,8 @@
 // The list of issued challenges: entries of one width in a caller's buffer, and counts of their
 // last octets. An opening spends entries: they are added, unless one of them was issued before.
 // Every public function is total.
+#![tactic(auto)]
+
 mod counts;
 mod entries;
 

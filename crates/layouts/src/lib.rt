@@ -1,5 +1,7 @@
 // The layouts in which values cross to C: each value is encoded and decoded, bytes are tested for
 // being an encoding, and a buffer is filled with one. Every public function is total.
+#![tactic(auto)]
+
 mod answers;
 mod buffers;
 mod conversations;

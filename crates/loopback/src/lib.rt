@@ -1,5 +1,7 @@
 // A box (the authenticator) and a peer talk to each other in one program: what passes between them
 // is printed, each packet as a line and a sentence that says what it means.
+#![tactic(auto)]
+
 mod ends;
 mod lines;
 

@@ -1,4 +1,6 @@
 // MD4 (RFC 1320).
+#![tactic(auto)]
+
 ghost use Rattle.std.specs.Prelude.{◌≡◌, ◌+◌, ◌*◌, ◌/◌, ◌<◌, ◌≤◌, length};
 ghost use Rattle.octets.specs.Parts.{part};
 ghost use Rattle.octets.specs.Numbers.{from_le};

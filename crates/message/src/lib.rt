@@ -1,5 +1,7 @@
 // The message of a Failure packet (RFC 2433, section 8): what the peer reads in it, and the text
 // that the authenticator writes.
+#![tactic(auto)]
+
 pub mod reasons;
 
 ghost use Rattle.std.specs.Prelude.{◌≡◌, true, map, ◌%◌, ◌≤◌, ◌<◌, length, drop};

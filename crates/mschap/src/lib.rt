@@ -1,5 +1,7 @@
 // MS-CHAP for C: each exported function has its own name there, and host/include/mschap.h declares
 // it.
+#![tactic(auto)]
+
 mod ciphers;
 mod conversations;
 mod files;

@@ -1,5 +1,7 @@
 // The numbers by which C passes and gets what are enums, flags and values here. Every public
 // function is total.
+#![tactic(auto)]
+
 mod flags;
 mod results;
 mod terms;

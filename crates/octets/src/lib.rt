@@ -1,5 +1,7 @@
 // Lists of octets: parts, copies, agreement, numbers of two, four and eight octets, digits. Every
 // function is total.
+#![tactic(auto)]
+
 mod hex;
 
 ghost use Rattle.std.specs.Prelude.{◌≡◌, cond, ◌&&◌, [], ◌∷◌, map, ◌%◌, ◌<◌, min};

@@ -1,4 +1,6 @@
 // The packets of MS-CHAP as records of their fields, read and written. Every function is total.
+#![tactic(auto)]
+
 mod changes;
 mod changes_one;
 mod codes;

@@ -1,4 +1,6 @@
 // The peer: what it keeps from one packet to the next, and what it reads and writes.
+#![tactic(auto)]
+
 mod peers;
 mod turns;
 mod writes;

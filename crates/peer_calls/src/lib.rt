@@ -1,6 +1,8 @@
 // The peer in a buffer of C's: what it reads, and its three packets. The caller keeps its encoding
 // between the calls. What a call returns and leaves is said here; `mschap` exports the five under
 // their names in C. Every public function is total.
+#![tactic(auto)]
+
 ghost use Rattle.std.specs.Prelude.{◌≡◌};
 ghost use Rattle.peer_calls.specs.Calls.{ChallengeCall};
 ghost use Rattle.peer_calls.specs.Calls.{ReplyCall, response_arguments, change_arguments};

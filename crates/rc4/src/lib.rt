@@ -1,5 +1,7 @@
 // RC4: a key of 1 to 256 octets, a state by value, the data in place. No RFC defines RC4; it is
 // checked against the keystreams of RFC 6229.
+#![tactic(auto)]
+
 ghost use Rattle.std.specs.Prelude.{◌≡◌, ◌<◌, length, if◌then◌else◌, nat_eq, slice_index};
 ghost use Rattle.rc4.specs.Rc4.{swapped, upto, started, later_state, ciphered, key_fits, key_refusal, keyed, crypted};
 

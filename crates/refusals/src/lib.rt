@@ -39,6 +39,8 @@
 //    101  a text that is not UTF-8, or characters that are not UTF-16 (`unicode`)
 //    102  an answer that has no record to be stored (`numbers`), or the record of no account
 //    103  a name that is on no line of the account file (`account_files`)
+#![tactic(auto)]
+
 ghost use Rattle.std.specs.Prelude.{◌≡◌, cond, ◌&&◌};
 
 // Two tests in one. As a function, so that a test of several things has one way through it.

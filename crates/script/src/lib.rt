@@ -1,6 +1,8 @@
 // The script language of the vectors (docs/VECTORS.md): the words of a line, octets, numbers and
 // key schedules read from its digits, and what is written to standard output. Of a line that is
 // not well-formed anything may be read.
+#![tactic(auto)]
+
 mod digits;
 mod keys;
 mod words;

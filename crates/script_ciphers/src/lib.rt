@@ -1,5 +1,7 @@
 // The commands of MD4, RC4 and DES, and those of the password hashes, the challenge response, the
 // sealed password and an encrypted hash; and the lines of published vectors.
+#![tactic(auto)]
+
 mod ciphers;
 mod hashes;
 mod published;

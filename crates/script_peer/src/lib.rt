@@ -1,4 +1,6 @@
 // The commands of the peer: what it reads in a Failure message and in packets, and what it writes.
+#![tactic(auto)]
+
 mod failures;
 mod peers;
 

@@ -1,5 +1,7 @@
 // Runs scripts of test vectors, read from files, through the public functions, and writes what
 // they compute: what the programs of the vectors share. The script language: docs/VECTORS.md.
+#![tactic(auto)]
+
 mod lines;
 
 pub use lines::{Session, new_session};

@@ -1,1 +1,2 @@
 // No code: theorems over the definitions of the other crates.
+#![tactic(auto)]

@@ -1,5 +1,6 @@
 // Shows what the peer reads in a Failure message, which is all of standard input: a line end there
 // is part of the message.
+#![tactic(auto)]
 
 // A line with a letter and a number.
 fn show_number(letter: u8, n: u64) {

@@ -1,4 +1,6 @@
 // What students get wrong, and what the box does: the slips of docs/SLIPS.md.
+#![tactic(auto)]
+
 use accounts::Lookup;
 use authenticator::Retries;
 use loopback::{

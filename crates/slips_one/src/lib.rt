@@ -1,5 +1,7 @@
 // What students get wrong in the version 1 change: slips of docs/SLIPS.md. (A crate of its own, as
 // the check of `slips` is long enough.)
+#![tactic(auto)]
+
 use loopback::{
     Loopback, answered, challenge, lm_of, new_one, old_hash, opening_for_one, place, rightly, say,
     title, write_change_one,

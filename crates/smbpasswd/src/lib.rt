@@ -1,5 +1,7 @@
 // An account file in Samba's smbpasswd(5) layout, in a caller's buffer: an account looked up, a
 // changed record written back into its line, the accounts counted. Every public function is total.
+#![tactic(auto)]
+
 mod fields;
 mod files;
 mod lines;

@@ -1,6 +1,8 @@
 // A step in buffers of C's: the authenticator takes one for each packet, and its answer gives the
 // record that is to be stored. What a call returns and leaves is said here; `mschap` exports the
 // two under their names in C. Every public function is total.
+#![tactic(auto)]
+
 ghost use Rattle.std.specs.Prelude.{◌≡◌, cond, length};
 ghost use Rattle.accounts.specs.Account.{account_of};
 ghost use Rattle.layouts.specs.Answers.{answer_size};

@@ -1,6 +1,8 @@
 // An NT password from the text that a user types (UTF-8, RFC 3629), and the text of a password. A
 // password is of 16-bit characters, the least significant octet first (RFC 2433 A.6): UTF-16, with
 // a pair of surrogates for a character over U+FFFF (RFC 2781).
+#![tactic(auto)]
+
 mod utf16;
 mod utf8;
 

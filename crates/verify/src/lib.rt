@@ -2,6 +2,8 @@
 // answered and how the record counts it, and whether a change of the password is accepted or what
 // is wrong with it. No conversation and no packets: the terms, the challenge in force, the record
 // and the fields decide.
+#![tactic(auto)]
+
 mod changes;
 mod changes_one;
 mod faults;
