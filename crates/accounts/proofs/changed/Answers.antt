@@ -1,0 +1,9 @@
+-- `accounts::changed` meets its contract.
+-- Assumes nothing.
+use borrow.Author.Rules.{rules}
+use mathlib.Core.Path.{ap, ◌∙◌}
+use Rattle.accounts.specs.Account.{account_of}
+use Rattle.accounts.proofs.changed.Goals as goal
+
+pub returns : goal.returns
+returns c = c.account_of.ensures ∙ ap account_of c.changed_entry.ensures

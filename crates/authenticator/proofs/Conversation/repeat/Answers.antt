@@ -1,0 +1,39 @@
+-- `authenticator::Conversation::repeat` meets its contract.
+-- Assumes nothing.
+use borrow.Author.Rules.{rules}
+use mathlib.Core.Path.{◌≡◌, ap₂, ◌∙◌, ap}
+use Prim.Native.Nat.{ℕ}
+use lib.ListN.{length}
+use Rattle.accounts.specs.declared.EntryLookup.{EntryLookup}
+use Rattle.verify.specs.declared.ChangeFault.TheVariants.{NoFault}
+use Rattle.authenticator.specs.Encode.{reply_packet}
+use Rattle.authenticator.specs.Judge.{reason_of}
+use Rattle.authenticator.specs.declared.Stepped.{Stepped}
+use Rattle.authenticator.specs.declared.Kind.TheVariants.{Repeated}
+use Rattle.authenticator.proofs.Written.{reply_fits, written_whole}
+use Rattle.authenticator.proofs.Conversation.repeat.Goals as goal
+
+pub returns : goal.returns
+returns c =
+    let e = c in
+    let w = e in
+    let s = w in
+    let a = s.args in
+    let last = a.self.last in
+    let reply = reply_packet a.self.terms last.id last.reply in
+    let answer : ℕ → ℕ → EntryLookup → Stepped =
+    λ reason n l. record {
+      kind = Repeated reason;
+      fault = NoFault;
+      next = a.self;
+      written = n;
+      updated = l;
+    } in
+    let written : w.write_reply-written.result ≡ length reply =
+    w.write_reply-written.ensures.0
+    ∙ written_whole reply a.reply.now (reply_fits a.self.terms last.id last.reply)
+    s.requires in (
+      ap₂ (λ (reason n : ℕ). answer reason n c.no_entry-updated.result) e.reason_of-reason.ensures written
+          ∙ ap (answer (reason_of last.reply) (length reply)) c.no_entry-updated.ensures,
+      w.write_reply-written.ensures.1,
+    )

@@ -1,0 +1,26 @@
+-- `authenticator::opening::spend` meets its contract.
+-- Assumes nothing.
+use mathlib.Core.List.{List}
+use mathlib.Core.Path.{◌≡◌, ap, ◌∙◌}
+use Prim.Native.Nat.{ℕ, ◌+◌, ◌*◌}
+use borrow.Author.Rules.{rules}
+use lib.ListN.{length}
+use Rattle.octets.specs.Parts.{part}
+use Rattle.issued.specs.Issued.{Issued, entries_in, spend_refusal, spent}
+use Rattle.authenticator.proofs.Spends.{challenges_run}
+use Rattle.authenticator.proofs.opening.spend.Goals as goal
+
+eight : (c : goal.Start) → length c.args.challenge ≡ 8
+eight c = search rules
+
+pub returns : goal.returns
+returns c =
+    let k = c in
+    let p = k in
+    let n = p in
+    let s = n.before.before.before in
+    let a = s.args in
+    let i : Issued = record { buffer = a.list.now; used = a.used; counts = a.counts.now } in
+    let run = p.part_of.ensures ∙ ap (part 0 (8 * (a.r + 1))) n.challenges_from-run.ensures in
+    let cs = ap (entries_in 8) run ∙ challenges_run a.r a.challenge s.requires (eight s) in
+    (k.spend.ensures.0 ∙ ap (λ (es : List (List ℕ)). spend_refusal 8 es i) cs, k.spend.ensures.1 ∙ ap (λ (es : List (List ℕ)). spent 8 es i) cs)

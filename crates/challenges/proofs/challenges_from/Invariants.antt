@@ -1,0 +1,16 @@
+-- `challenges::challenges_from` meets its contract. The loop's invariant: what lies in run, with
+-- what follows from next, is all.
+-- Assumes nothing.
+use Rattle.std.proofs.Common.{◌≡◌, ◌-◌, ◌*◌, ◌≤◌, ◌++◌, length, take, sym, refl, ap, ◌∙◌, arith, rules}
+use mathlib.Core.List.{flatten}
+use Rattle.octets.proofs.Parts.{length_over_at}
+use Rattle.challenges.specs.Challenges.{challenges_from}
+use Rattle.challenges.proofs.Laid.{laid_next, laid_all}
+use Rattle.challenges.proofs.challenges_from.Given as goal
+
+abbrev pub invariant-loop-i : goal.invariant-loop-i
+invariant-loop-i l =
+    (l.i ≤ 8) × (length l.run ≡ 64) × (length l.next ≡ 8) × (take (8 * l.i) l.run ++ flatten (challenges_from (8 - l.i) l.next) ≡ flatten (challenges_from 8 l.initial.next))
+
+abbrev pub decreases-loop-i : goal.decreases-loop-i
+decreases-loop-i l = 8 - l.i

@@ -1,0 +1,20 @@
+-- `des::encrypt_three_with` meets its contract.
+-- Assumes nothing.
+use mathlib.Core.Path.{ap₂, ◌∙◌}
+use mathlib.Core.List.{◌++◌}
+use Prim.Native.Nat.{◌-◌, ◌+◌, ◌/◌, ◌%◌, ◌^◌, ◌≤◌}
+use native.Mathlib.Numerals.{add-one}
+use native.Mathlib.Omega.{arith}
+use Rattle.des.specs.Inner.{keys_of}
+use Rattle.des.proofs.Keys.{choice_keys, sixteen}
+use Rattle.des.proofs.Round.{AfterRounds, no_rounds, one_round, encrypted_octets}
+use borrow.Author.Rules.{rules}
+use Rattle.des.proofs.encrypt_three_with.Given as goal
+
+abbrev pub invariant-loop-i : goal.invariant-loop-i
+invariant-loop-i l =
+    (l.i ≤ 16) × AfterRounds (keys_of l.cd1) (l.y / 2 ^ 32) (l.y % 2 ^ 32) l.i l.l1 l.r1 × AfterRounds (keys_of l.cd2) (l.y / 2 ^ 32) (l.y % 2 ^ 32) l.i l.l2 l.r2
+    × AfterRounds (keys_of l.cd3) (l.y / 2 ^ 32) (l.y % 2 ^ 32) l.i l.l3 l.r3
+
+abbrev pub decreases-loop-i : goal.decreases-loop-i
+decreases-loop-i l = 16 - l.i

@@ -1,0 +1,16 @@
+-- `des::encrypt_with` meets its contract.
+-- Assumes nothing.
+use Prim.Native.Nat.{◌-◌, ◌≤◌}
+use native.Mathlib.Numerals.{add-one}
+use native.Mathlib.Omega.{arith}
+use Rattle.des.specs.Inner.{keys_of}
+use Rattle.des.proofs.Keys.{choice_keys, sixteen}
+use Rattle.des.proofs.Round.{AfterRounds, no_rounds, one_round, encrypted_octets}
+use borrow.Author.Rules.{rules}
+use Rattle.des.proofs.encrypt_with.Given as goal
+
+abbrev pub invariant-loop-i : goal.invariant-loop-i
+invariant-loop-i l = (l.i ≤ 16) × AfterRounds (keys_of l.cd) l.initial.l l.initial.r l.i l.l l.r
+
+abbrev pub decreases-loop-i : goal.decreases-loop-i
+decreases-loop-i l = 16 - l.i

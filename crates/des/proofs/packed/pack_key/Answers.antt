@@ -1,0 +1,9 @@
+-- `des::packed::pack_key` meets its contract.
+-- Assumes nothing.
+use Rattle.des.specs.Stored.{pack_key}
+use borrow.Author.Rules.{rules}
+use Rattle.des.proofs.packed.pack_key.Goals as goal
+
+pub returns : goal.returns
+unfolding pack_key
+returns c = cc

@@ -1,0 +1,10 @@
+-- `des::schedule::set_apart` meets its contract.
+-- Assumes nothing.
+use mathlib.Core.Path.{refl}
+use Rattle.des.specs.Inner.{set_apart}
+use borrow.Author.Rules.{rules}
+use Rattle.des.proofs.schedule.set_apart.Goals as goal
+
+pub returns : goal.returns
+unfolding set_apart
+returns c = refl

@@ -1,0 +1,9 @@
+-- `message::text` meets its contract.
+-- Assumes nothing.
+use borrow.Author.Rules.{rules}
+use Rattle.message.specs.Message.{text_of}
+use Rattle.message.proofs.text.Goals as goal
+
+pub returns : goal.returns
+unfolding text_of
+returns c = cc

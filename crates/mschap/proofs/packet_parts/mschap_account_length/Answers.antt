@@ -1,0 +1,9 @@
+-- `mschap::packet_parts::mschap_account_length` meets its contract.
+-- Assumes nothing.
+use mathlib.Core.Path.{ap}
+use borrow.Author.Rules.{rules}
+use Rattle.packets.specs.declared.Part.{Part}
+use Rattle.mschap.proofs.packet_parts.mschap_account_length.Goals as goal
+
+pub returns : goal.returns
+returns c = ap (λ (p : Part). p.length) c.account_part.ensures

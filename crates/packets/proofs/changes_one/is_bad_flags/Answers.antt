@@ -1,0 +1,7 @@
+-- `packets::changes_one::is_bad_flags` meets its contract.
+-- Assumes nothing.
+use borrow.Author.Rules.{rules}
+use Rattle.packets.proofs.changes_one.is_bad_flags.Goals as goal
+
+pub returns : goal.returns
+returns c = simp c.number_at.ensures

@@ -1,0 +1,8 @@
+-- `packets::responses::read_response` meets its contract.
+-- Assumes nothing.
+use borrow.Author.Rules.{rules}
+use Rattle.packets.proofs.Fields.{response_same}
+use Rattle.packets.proofs.responses.read_response.Goals as goal
+
+pub returns : goal.returns
+returns c = response_same c.response_at-lm.ensures c.response_at-nt.ensures c.octet-flag.ensures

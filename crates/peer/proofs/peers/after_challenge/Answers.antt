@@ -1,0 +1,7 @@
+-- `peer::peers::after_challenge` meets its contract.
+-- Assumes nothing.
+use borrow.Author.Rules.{rules}
+use Rattle.peer.proofs.peers.after_challenge.Goals as goal
+
+pub returns : goal.returns
+returns c = rw c.first_turn-turn.ensures

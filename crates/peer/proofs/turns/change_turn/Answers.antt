@@ -1,0 +1,7 @@
+-- `peer::turns::change_turn` meets its contract.
+-- Assumes nothing.
+use borrow.Author.Rules.{rules}
+use Rattle.peer.proofs.turns.change_turn.Goals as goal
+
+pub returns : goal.returns
+returns c = rw c.next_id-id.ensures

@@ -1,0 +1,7 @@
+-- `peer::turns::retry_turn` meets its contract.
+-- Assumes nothing.
+use borrow.Author.Rules.{rules}
+use Rattle.peer.proofs.turns.retry_turn.Goals as goal
+
+pub returns : goal.returns
+returns c = rw (c.next_id-id.ensures, c.retry_challenge-challenge.ensures)

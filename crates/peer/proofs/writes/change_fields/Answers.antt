@@ -1,0 +1,7 @@
+-- `peer::writes::change_fields` meets its contract.
+-- Assumes nothing.
+use borrow.Author.Rules.{rules}
+use Rattle.peer.proofs.writes.change_fields.Goals as goal
+
+pub returns : goal.returns
+returns c = rw (c.old_under_new-verifier.ensures, c.challenge_response-nt.ensures)

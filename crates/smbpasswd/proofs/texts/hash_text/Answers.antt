@@ -1,0 +1,24 @@
+-- `smbpasswd::texts::hash_text` meets its contract.
+-- Assumes nothing.
+use mathlib.Core.Path.{◌≡◌, sym, ◌∙◌}
+use native.Mathlib.Omega.{arith}
+use borrow.Author.Rules.{rules}
+use lib.ListN.{length, replicate}
+use Rattle.octets.specs.Digits.{hex_text}
+use Rattle.octets.proofs.HexText.{length_hex}
+use Rattle.octets.proofs.Laid.{filled}
+use Rattle.smbpasswd.specs.Line.{letter_x}
+use Rattle.smbpasswd.proofs.texts.hash_text.Goals as goal
+
+sixteen : (s : goal.Start) → length s.args.hash.octets ≡ 16
+sixteen s = search rules
+
+pub returns-then-hash : goal.returns-then-hash
+returns-then-hash c =
+    let p = c in
+    let h = p.args.hash.octets in
+    let long : length (hex_text h) ≡ 32 = omega (arith, length_hex h, sixteen p.before) in
+    c.encode_hex.ensures ∙ filled (hex_text h) (replicate 32 letter_x) (sym long) ∙ rw p.if-hash.true
+
+pub returns-else-hash : goal.returns-else-hash
+returns-else-hash c = rw c.if-hash.false

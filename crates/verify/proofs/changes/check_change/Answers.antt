@@ -1,0 +1,64 @@
+-- `verify::changes::check_change` meets its contract: each test is the definition's, and what was
+-- found in the block stands in their order.
+-- Assumes nothing.
+use borrow.Author.Rules.{rules}
+use mathlib.Core.Bool.{cond, not}
+use mathlib.Core.Path.{sym, ap, ap₂, ◌∙◌, subst}
+use Prim.Native.Nat.{◌%◌}
+use lib.Dec.{eqb, ltb}
+use Rattle.credentials.specs.Credentials.{ValidLength, content_for, unsealed_as}
+use Rattle.credentials.specs.declared.Unsealed.{Unsealed}
+use Rattle.credentials.proofs.Laws.{sound_unsealed}
+use Rattle.accounts.specs.Account.{no_hash, hash_of}
+use Rattle.verify.specs.Accepted.{length_for}
+use Rattle.verify.specs.Faults.{is_faultless}
+use Rattle.verify.specs.Change.{checked_with, bad_verifier, bad_response, change_fault}
+use Rattle.verify.specs.Change.{checked_change}
+use Rattle.verify.specs.Inner.{checked_block}
+use Rattle.verify.specs.declared.ChangeFault.{ChangeFault}
+use Rattle.verify.specs.declared.ChangeFault.TheVariants.{NoNtHash, NoNtResponse}
+use Rattle.verify.specs.declared.CheckedBlock.{CheckedBlock}
+use Rattle.verify.specs.declared.CheckedChange.{CheckedChange}
+use Rattle.verify.proofs.Checked.{composed, by_tests}
+use Rattle.verify.proofs.changes.check_change.Goals as goal
+
+pub checked_block-found-requires : goal.checked_block-found-requires
+checked_block-found-requires c =
+    subst ValidLength (ap (λ (o : Unsealed). o.content) (sym c.unseal.ensures.0))
+    (sound_unsealed _ _)
+
+pub returns : goal.returns
+unfolding checked_change change_fault content_for unsealed_as
+returns c =
+    let none = c in
+    let made = none in
+    let present = made in
+    let bit = present in
+    let length = bit in
+    let proof = length in
+    let inside = proof in
+    let a = inside.args in
+    let f = a.fields in
+    let n = length_for a.kept f in
+    let o = unsealed_as a.kept.nt.octets f.block in
+    let absent = not a.kept.nt.present in
+    let clear = not (eqb (f.flags % 2) 1) in
+    let found = inside.checked_block-found.result in
+    let whole : CheckedBlock → CheckedChange =
+    λ v. checked_with (composed absent clear v.fault (bad_verifier a.kept f v.hash)
+    (bad_response a.challenge f v.hash)) (hash_of v.hash) no_hash in
+    c.checked_with.ensures
+    ∙ ap₂ (checked_with present.fault_if-fault.result) made.hash_of.ensures
+    none.no_hash.ensures
+    ∙ ap (λ (x : ChangeFault). checked_with x (hash_of found.hash) no_hash)
+    (present.fault_if-fault.ensures
+    ∙ ap (cond absent NoNtHash)
+    (bit.fault_if-sent.ensures
+    ∙ ap (cond clear NoNtResponse)
+    (length.fault_before-inside.ensures
+    ∙ ap (λ (x : ChangeFault). cond (is_faultless found.fault) x found.fault)
+    proof.proof_fault-proof.ensures)))
+    ∙ ap whole
+    (inside.checked_block-found.ensures ∙ ap checked_block inside.unseal.ensures.0)
+    ∙ by_tests absent clear (ltb 512 n) (eqb (n % 2) 1) n o (bad_verifier a.kept f)
+    (bad_response a.challenge f)

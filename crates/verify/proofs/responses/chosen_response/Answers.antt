@@ -1,0 +1,20 @@
+-- `verify::responses::chosen_response` meets its contract.
+-- Assumes nothing.
+use borrow.Author.Rules.{rules}
+use mathlib.Core.Path.{◌≡◌, ap, ◌∙◌}
+use mathlib.Core.Bool.{cond, ◌&&◌}
+use mathlib.Core.List.{List}
+use Prim.Native.Nat.{ℕ}
+use lib.ListN.{length}
+use Rattle.octets.proofs.Laid.{filled}
+use Rattle.verify.proofs.responses.chosen_response.Goals as goal
+
+same-lengths : (c : goal.Start) → length c.args.other ≡ length c.args.both
+same-lengths c = search rules
+
+pub returns : goal.returns
+returns c =
+    let s = c.before.before.before.before in
+    let a = s.args in
+    let whole = filled a.both a.other (same-lengths s) in
+    c.copy_if_both.ensures ∙ ap (λ (x : List ℕ). cond (a.a && a.b) x a.other) whole
