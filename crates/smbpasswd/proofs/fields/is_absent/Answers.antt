@@ -2,7 +2,6 @@
 -- Assumes nothing.
 use mathlib.Core.Bool.{Bool, ◌||◌}
 use mathlib.Core.Path.{sym, ap, ◌∙◌}
-use borrow.Author.Rules.{rules}
 use Rattle.smbpasswd.specs.Line.{begins, no_password}
 use Rattle.smbpasswd.proofs.fields.is_absent.Goals as goal
 

@@ -1,6 +1,5 @@
 -- `smbpasswd::fields::is_flags` meets its contract.
 -- Assumes nothing.
-use borrow.Author.Rules.{rules}
 use borrow.Author.Tests.{eq-eqb, ne_eqb}
 use Rattle.smbpasswd.proofs.fields.is_flags.Goals as goal
 

@@ -1,7 +1,6 @@
 -- `smbpasswd::fields::is_hash` meets its contract.
 -- Assumes nothing.
 use mathlib.Core.Path.{sym, ◌∙◌}
-use borrow.Author.Rules.{rules}
 use borrow.Author.Tests.{eq-eqb, ne_eqb}
 use Rattle.smbpasswd.proofs.fields.is_hash.Goals as goal
 

@@ -1,7 +1,6 @@
 -- `smbpasswd::files::find` meets its contract.
 -- Assumes nothing.
 use mathlib.Core.Path.{sym, ap, ap₂, ◌∙◌, subst}
-use borrow.Author.Rules.{rules}
 use Rattle.accounts.specs.declared.Lookup.{Lookup}
 use Rattle.smbpasswd.specs.File.{lookup_at, find_in}
 use Rattle.smbpasswd.specs.Inner.{LineThere}
@@ -21,4 +20,4 @@ returns c =
     let a = l.args in
     let e = l.locate-place.ensures in
     ap₂ (λ (p : Place) (x : Lookup). record { place = p; lookup = x }) e
-    (c.lookup_at-lookup.ensures ∙ ap (lookup_at a.present a.max-age a.file.now) e)
+    (c.lookup_at-lookup.ensures ∙ ap (lookup_at a.present a.max_age a.file.now) e)

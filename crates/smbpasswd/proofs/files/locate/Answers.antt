@@ -1,22 +1,13 @@
 use mathlib.Core.List.{List}
-use mathlib.Core.Path.{◌≡◌, sym, ap, ap₂, ◌∙◌}
-use Prim.Native.Nat.{ℕ, ◌+◌, ◌-◌, ◌≤◌}
+use mathlib.Core.Path.{sym, ap, ap₂, ◌∙◌}
+use Prim.Native.Nat.{ℕ, ◌+◌, ◌≤◌}
 use native.Mathlib.Omega.{arith}
-use borrow.Author.Rules.{rules}
 use lib.ListN.{length}
-use Rattle.smbpasswd.specs.File.{place_of}
 use Rattle.smbpasswd.specs.Inner.{after_line, searched}
 use Rattle.smbpasswd.specs.declared.Place.{Place}
 use Rattle.smbpasswd.proofs.LineLaws.{placed_at, line_short}
 use Rattle.smbpasswd.proofs.Search.{searched_step, searched_end, searched_place}
 use Rattle.smbpasswd.proofs.files.locate.Goals as goal
-use Rattle.smbpasswd.proofs.files.locate.Goals.{After-after_line-place}
-
--- the line ends within the file, which is shorter than 2 ^ 63
-ends : (c : After-after_line-place)
-    → let h = c in
-    h.loop-at.at + length c.line_at-line.result.now ≤ length h.args.file.now
-ends c = let t = c in line_short _ _ _ c.line_at-line.ensures t.loop-at-test.true
 
 pub loop-at-preserved : goal.loop-at-preserved
 loop-at-preserved c =
@@ -38,10 +29,22 @@ pub loop-at-init : goal.loop-at-init
 loop-at-init c = searched_place _ _
 
 pub overflow_add-at : goal.overflow_add-at
-overflow_add-at c = record { fits = omega (arith, ends c, c.well-formed.0.1) }
+overflow_add-at c =
+    let ends : let h = c in
+    h.loop-at.at + length c.line_at-line.result.now ≤ length h.args.file.now =
+    let t = c in line_short _ _ _ c.line_at-line.ensures t.loop-at-test.true in
+    record { fits = omega (arith, ends, c.well_formed.0.1) }
 
 pub overflow_add-at-in-loop-at : goal.overflow_add-at-in-loop-at
-overflow_add-at-in-loop-at c = record { fits = omega (arith, ends c, c.well-formed.0.1) }
+overflow_add-at-in-loop-at c =
+    let ends : let h = c in
+    h.loop-at.at + length c.line_at-line.result.now ≤ length h.args.file.now =
+    let t = c in line_short _ _ _ c.line_at-line.ensures t.loop-at-test.true in
+    record { fits = omega (arith, ends, c.well_formed.0.1) }
 
 pub loop-at-smaller : goal.loop-at-smaller
-loop-at-smaller c = omega (arith, ends c)
+loop-at-smaller c =
+    let ends : let h = c in
+    h.loop-at.at + length c.line_at-line.result.now ≤ length h.args.file.now =
+    let t = c in line_short _ _ _ c.line_at-line.ensures t.loop-at-test.true in
+    omega (arith, ends)

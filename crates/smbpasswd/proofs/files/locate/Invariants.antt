@@ -1,16 +1,11 @@
 -- `smbpasswd::files::locate` meets its contract.
 -- Assumes nothing.
-use mathlib.Core.List.{List}
-use mathlib.Core.Path.{◌≡◌, sym, ap, ap₂, ◌∙◌}
-use Prim.Native.Nat.{ℕ, ◌+◌, ◌-◌, ◌≤◌}
-use native.Mathlib.Omega.{arith}
-use borrow.Author.Rules.{rules}
+use mathlib.Core.Path.{◌≡◌}
+use Prim.Native.Nat.{◌-◌}
 use lib.ListN.{length}
 use Rattle.smbpasswd.specs.File.{place_of}
-use Rattle.smbpasswd.specs.Inner.{after_line, searched}
-use Rattle.smbpasswd.specs.declared.Place.{Place}
-use Rattle.smbpasswd.proofs.LineLaws.{placed_at, line_short}
-use Rattle.smbpasswd.proofs.Search.{searched_step, searched_end, searched_place}
+use Rattle.smbpasswd.specs.Inner.{searched}
+use Rattle.smbpasswd.proofs.LineLaws.{placed_at}
 use Rattle.smbpasswd.proofs.files.locate.Given as goal
 
 abbrev pub invariant-loop-at : goal.invariant-loop-at

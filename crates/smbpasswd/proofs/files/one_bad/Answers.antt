@@ -1,6 +1,5 @@
 -- `smbpasswd::files::one_bad` meets its contract.
 -- Assumes nothing.
-use borrow.Author.Rules.{rules}
 use Rattle.smbpasswd.proofs.files.one_bad.Goals as goal
 
 pub returns-in-Nowhere : goal.returns-in-Nowhere
@@ -13,4 +12,4 @@ pub returns-in-Doubled : goal.returns-in-Doubled
 returns-in-Doubled c = rw c.in-Doubled.is
 
 pub returns-in-Malformed : goal.returns-in-Malformed
-returns-in-Malformed c = rw c.place.given.1
+returns-in-Malformed c = rw c.in-Malformed.is

@@ -1,7 +1,6 @@
 -- `smbpasswd::files::write_back` meets its contract.
 -- Assumes nothing.
 use mathlib.Core.Path.{sym, ap, ◌∙◌, subst}
-use borrow.Author.Rules.{rules}
 use Rattle.smbpasswd.specs.Write.{written_at, written_in}
 use Rattle.smbpasswd.specs.Inner.{LineThere}
 use Rattle.smbpasswd.specs.declared.Place.{Place}

@@ -1,7 +1,6 @@
 -- `smbpasswd::lines::line_at` meets its contract.
 -- Assumes nothing.
 use mathlib.Core.Path.{ap, ◌∙◌}
-use borrow.Author.Rules.{rules}
 use Rattle.octets.specs.Split.{before}
 use Rattle.octets.proofs.Parts.{part_rest}
 use Rattle.smbpasswd.specs.Line.{lf}

@@ -4,7 +4,6 @@ use mathlib.Core.List.{List}
 use mathlib.Core.Path.{◌≡◌, ap, ◌∙◌}
 use Prim.Native.Nat.{ℕ, ◌+◌, ◌<◌, ◌≤◌, ◌^◌}
 use native.Mathlib.Omega.{arith}
-use borrow.Author.Rules.{rules}
 use lib.ListN.{length, drop, length-drop}
 use Rattle.octets.specs.Parts.{part}
 use Rattle.octets.specs.Split.{before}
@@ -27,7 +26,7 @@ overflow_add-result c =
     record {
       fits = omega (
         arith,
-        short s.args.at s.args.line.now c.part_of.ensures c.up_to-field.ensures s.requires (omega (arith, s.well-formed.0.1)),
+        short s.args.at s.args.line.now c.part_of.ensures c.up_to-field.ensures s.requires (omega (arith, s.well_formed.0.1)),
       );
     }
 
@@ -35,7 +34,7 @@ pub overflow_add-result-2 : goal.overflow_add-result-2
 overflow_add-result-2 c =
     let s = c in
     record {
-      fits = short s.args.at s.args.line.now c.part_of.ensures c.up_to-field.ensures s.requires (omega (arith, s.well-formed.0.1));
+      fits = short s.args.at s.args.line.now c.part_of.ensures c.up_to-field.ensures s.requires (omega (arith, s.well_formed.0.1));
     }
 
 pub returns : goal.returns

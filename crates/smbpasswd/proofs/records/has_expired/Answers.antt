@@ -1,7 +1,6 @@
 -- `smbpasswd::records::has_expired` meets its contract.
 -- Assumes nothing.
 use mathlib.Core.Path.{ap, ap₂, ◌∙◌}
-use borrow.Author.Rules.{rules}
 use Rattle.smbpasswd.specs.Line.{letter_x, is_time}
 use Rattle.smbpasswd.specs.Record.{has_flag, time_in, is_expired}
 use Rattle.smbpasswd.proofs.FieldLaws.{laid, form}
@@ -14,7 +13,7 @@ returns c =
     let s = f in
     let at = laid s.requires.0 in
     c.is_expired.ensures
-    ∙ ap₂ (is_expired s.args.present s.args.max-age)
+    ∙ ap₂ (is_expired s.args.present s.args.max_age)
     (f.has_flag-never.ensures ∙ ap (has_flag letter_x) (f.field.ensures ∙ at.flags_field))
     (t.time_in.ensures ∙ ap time_in (t.field-2.ensures ∙ at.time_field))
 

@@ -1,7 +1,6 @@
 -- `smbpasswd::records::has_flag` meets its contract.
 -- Assumes nothing.
 use mathlib.Core.Path.{refl, sym, ap, ap₂, ◌∙◌}
-use borrow.Author.Rules.{rules}
 use lib.Dec.{ltb}
 use lib.ListN.{length}
 use Rattle.octets.specs.Split.{holds}

@@ -1,7 +1,6 @@
 -- `smbpasswd::records::hash_in` meets its contract.
 -- Assumes nothing.
 use mathlib.Core.Path.{sym, ap, ◌∙◌}
-use borrow.Author.Rules.{rules}
 use Rattle.accounts.specs.Account.{hash_of}
 use Rattle.smbpasswd.proofs.Digits.{decoded, hash_digits}
 use Rattle.smbpasswd.proofs.records.hash_in.Goals as goal

@@ -1,7 +1,6 @@
 -- `smbpasswd::records::is_disabled` meets its contract.
 -- Assumes nothing.
 use mathlib.Core.Path.{ap, ◌∙◌}
-use borrow.Author.Rules.{rules}
 use Rattle.smbpasswd.specs.Line.{letter_d}
 use Rattle.smbpasswd.specs.Record.{has_flag}
 use Rattle.smbpasswd.proofs.FieldLaws.{laid}

@@ -1,7 +1,6 @@
 -- `smbpasswd::records::lacks_nt` meets its contract.
 -- Assumes nothing.
 use mathlib.Core.Path.{ap, ◌∙◌}
-use borrow.Author.Rules.{rules}
 use Rattle.smbpasswd.specs.Line.{is_absent}
 use Rattle.smbpasswd.proofs.FieldLaws.{laid}
 use Rattle.smbpasswd.proofs.records.lacks_nt.Goals as goal

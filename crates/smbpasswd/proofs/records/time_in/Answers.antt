@@ -14,20 +14,15 @@ use Rattle.octets.proofs.Listed.{written}
 use Rattle.octets.proofs.Parts.{part_rest}
 use Rattle.smbpasswd.proofs.Digits.{decoded, time_digits}
 use Rattle.smbpasswd.proofs.records.time_in.Goals as goal
-use Rattle.smbpasswd.proofs.records.time_in.Goals.{After-octets-2-1}
 
--- the octets of the digits
-octets : (c : After-octets-2-1)
-    → c.decode_hex.new.1.0 ≡ pairs (map digit_of (drop 4 c.args.s.now))
-octets c =
+pub returns : goal.returns
+returns c =
+    let octets : c.decode_hex.new.out ≡ pairs (map digit_of (drop 4 c.args.s.now)) =
     let s = c in
     let d = time_digits s.args.s.now s.requires in
     let whole = c.part_of.ensures ∙ part_rest 4 s.args.s.now in
     c.decode_hex.ensures
     ∙ ap (λ (f : List ℕ). cond (all_below 16 (map digit_of f)) (over (pairs (map digit_of f)) (replicate 4 0)) (replicate 4 0)) whole
-    ∙ decoded 4 (drop 4 s.args.s.now) (omega (arith, length-drop 4 s.args.s.now, d.long)) d.digits
-
-pub returns : goal.returns
-returns c =
-    let out = c.decode_hex.new.1.0 in
-    c.u32_from_be.ensures ∙ ap from_be (sym (written 4 out (search rules))) ∙ ap from_be (octets c.before)
+    ∙ decoded 4 (drop 4 s.args.s.now) (omega (arith, length-drop 4 s.args.s.now, d.long)) d.digits in
+    let out = c.decode_hex.new.out in
+    c.u32_from_be.ensures ∙ ap from_be (sym (written 4 out (search rules))) ∙ ap from_be octets

@@ -1,17 +1,11 @@
 -- `smbpasswd::summaries::count` meets its contract.
 -- Assumes nothing.
-use mathlib.Core.List.{List}
-use mathlib.Core.Path.{◌≡◌, sym, ap, ap₂, ◌∙◌, subst}
-use Prim.Native.Nat.{ℕ, ◌+◌, ◌-◌, ◌≤◌, ◌^◌}
-use native.Mathlib.Omega.{arith}
-use borrow.Author.Rules.{rules}
+use mathlib.Core.Path.{◌≡◌}
+use Prim.Native.Nat.{◌+◌, ◌-◌, ◌≤◌}
 use lib.ListN.{length}
-use Rattle.smbpasswd.specs.File.{line_at}
 use Rattle.smbpasswd.specs.Summary.{counts_of}
-use Rattle.smbpasswd.specs.Inner.{count_line, count_lines, Within}
-use Rattle.smbpasswd.specs.declared.Counts.{Counts}
-use Rattle.smbpasswd.proofs.LineLaws.{placed_at, line_short}
-use Rattle.smbpasswd.proofs.Counting.{counted_file, count_step, count_end, count_within}
+use Rattle.smbpasswd.specs.Inner.{count_lines, Within}
+use Rattle.smbpasswd.proofs.LineLaws.{placed_at}
 use Rattle.smbpasswd.proofs.summaries.count.Given as goal
 
 abbrev pub invariant-loop-at : goal.invariant-loop-at

@@ -1,21 +1,12 @@
 use mathlib.Core.Bool.{true}
 use mathlib.Core.List.{map}
 use mathlib.Core.Path.{◌≡◌, sym, ◌∙◌}
-use Prim.Native.Nat.{◌-◌, ◌≤◌}
+use Prim.Native.Nat.{◌≤◌}
 use native.Mathlib.Omega.{arith}
-use borrow.Author.Rules.{rules}
-use borrow.Author.Tests.{not-true, not-false}
 use lib.ListN.{length}
 use Rattle.octets.specs.Digits.{digit_of, all_below}
-use Rattle.smbpasswd.proofs.Numbers.{Read, none_empty, none_other, none_large, a_number, none_read, digit_small, too_large, one_read, all_read}
+use Rattle.smbpasswd.proofs.Numbers.{none_empty, none_other, none_large, a_number, none_read, digit_small, too_large, one_read, all_read}
 use Rattle.smbpasswd.proofs.summaries.number_in.Goals as goal
-use Rattle.smbpasswd.proofs.summaries.number_in.Goals.{Else-not-are_digits, Else-s-eq0}
-
-some : (c : Else-s-eq0) → 1 ≤ length c.args.s.now
-some c = omega (arith, c.if-s-eq0.false)
-
-digits : (c : Else-not-are_digits) → all_below 10 (map digit_of c.args.s.now) ≡ true
-digits c = sym c.are_digits.ensures ∙ c.if-not-are_digits.false
 
 pub returns-then-s-eq0 : goal.returns-then-s-eq0
 returns-then-s-eq0 c = none_empty c.args.s.now c.if-s-eq0.true
@@ -25,10 +16,14 @@ returns-then-not-are_digits c = none_other c.args.s.now (sym c.are_digits.ensure
 
 pub returns-then-value-gt4294967295 : goal.returns-then-value-gt4294967295
 returns-then-value-gt4294967295 c =
+    let some : 1 ≤ length c.args.s.now =
+    omega (arith, c.if-s-eq0.false) in
+    let digits : all_below 10 (map digit_of c.args.s.now) ≡ true =
+    sym c.are_digits.ensures ∙ c.if-not-are_digits.false in
     let d = c in
     let t = d in
-    let p = t.before.before in
-    none_large p.args.s.now (some p.before.before) (digits p)
+    let p = t in
+    none_large p.args.s.now some digits
     (too_large t.loop-i.invariant t.loop-i-test.true d.digit_value.ensures (omega (arith, c.if-value-gt4294967295.true)))
 
 pub overflow_mul-value : goal.overflow_mul-value
@@ -50,10 +45,17 @@ loop-i-preserved c =
 
 pub returns : goal.returns
 returns c =
+    let some : 1 ≤ length c.args.s.now =
+    omega (arith, c.if-s-eq0.false) in
+    let digits : all_below 10 (map digit_of c.args.s.now) ≡ true =
+    sym c.are_digits.ensures ∙ c.if-not-are_digits.false in
     let h = c in
-    let p = h.before in
-    a_number p.args.s.now (some p.before.before) (digits p)
+    let p = h in
+    a_number p.args.s.now some digits
     (all_read h.loop-i.invariant c.loop-i-test.false) h.loop-i.invariant.small
 
 pub loop-i-init : goal.loop-i-init
-loop-i-init c = none_read _ (digits c)
+loop-i-init c =
+    let digits : all_below 10 (map digit_of c.args.s.now) ≡ true =
+    sym c.are_digits.ensures ∙ c.if-not-are_digits.false in
+    none_read _ digits

@@ -1,7 +1,6 @@
 -- `smbpasswd::summaries::refused` meets its contract.
 -- Assumes nothing.
 use mathlib.Core.Path.{ap}
-use borrow.Author.Rules.{rules}
 use Rattle.smbpasswd.specs.declared.Counts.{Counts}
 use Rattle.smbpasswd.proofs.summaries.refused.Goals as goal
 

@@ -10,14 +10,13 @@ use Rattle.octets.proofs.Laid.{filled}
 use Rattle.smbpasswd.specs.Line.{letter_x}
 use Rattle.smbpasswd.proofs.texts.hash_text.Goals as goal
 
-sixteen : (s : goal.Start) → length s.args.hash.octets ≡ 16
-sixteen s = search rules
-
 pub returns-then-hash : goal.returns-then-hash
 returns-then-hash c =
+    let sixteen : length c.args.hash.octets ≡ 16 =
+    search rules in
     let p = c in
     let h = p.args.hash.octets in
-    let long : length (hex_text h) ≡ 32 = omega (arith, length_hex h, sixteen p.before) in
+    let long : length (hex_text h) ≡ 32 = omega (arith, length_hex h, sixteen) in
     c.encode_hex.ensures ∙ filled (hex_text h) (replicate 32 letter_x) (sym long) ∙ rw p.if-hash.true
 
 pub returns-else-hash : goal.returns-else-hash
