@@ -1,6 +1,6 @@
 -- `md4::compress` meets its contract.
 -- Assumes nothing.
-use Rattle.std.proofs.Common.{◌≡◌, ℕ, List, ap, ◌∙◌, ap₂, rules}
+use Rattle.std.proofs.Common.{◌≡◌, ℕ, List, ap, ◌∙◌, ap₂}
 use Rattle.md4.specs.Md4.{words_of, round1, round2, round3, increased, block}
 use Rattle.md4.proofs.compress.Goals as goal
 

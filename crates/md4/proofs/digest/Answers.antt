@@ -1,6 +1,6 @@
 -- `md4::digest` meets its contract.
 -- Assumes nothing.
-use Rattle.std.proofs.Common.{◌≡◌, ℕ, ◌*◌, List, length, sym, ap, ◌∙◌, length-take-le, rules}
+use Rattle.std.proofs.Common.{◌≡◌, ℕ, ◌*◌, ◌≤◌, List, length, sym, ap, ◌∙◌, length-take-le, rules}
 use Rattle.octets.specs.Numbers.{to_le}
 use Rattle.octets.proofs.Numbers.{length-to_le}
 use Rattle.blocks.specs.Blocks.{tail_of}
@@ -15,7 +15,10 @@ slice_bounds-end-end c =
 
 pub slice_bounds-whole_blocks-end : goal.slice_bounds-whole_blocks-end
 slice_bounds-whole_blocks-end c =
-    sym (length-take-le c.tail_of-tail.result.used c.tail_of-tail.result.octets (array-share-prefix-end c.before))
+    let n : length c.tail_of-tail.result.octets ≡ 128 = search rules in
+    let fits : c.tail_of-tail.result.used ≤ length c.tail_of-tail.result.octets =
+    rw (n, c.tail_of-tail.ensures) (tail_fits _ _ (ap length c.u64_to_le.ensures)) in
+    sym (length-take-le c.tail_of-tail.result.used c.tail_of-tail.result.octets fits)
 
 pub returns : goal.returns
 unfolding md4_of initial_registers

@@ -1,6 +1,6 @@
 -- `md4::first_round` meets its contract.
 -- Assumes nothing.
-use Rattle.std.proofs.Common.{ℕ, get_or, rules}
+use Rattle.std.proofs.Common.{ℕ, get_or}
 use Rattle.md4.specs.declared.Registers.{Registers}
 use Rattle.md4.specs.Md4.{aux_f, row, operations, table1, round1}
 use Rattle.md4.proofs.Rounds.{four}

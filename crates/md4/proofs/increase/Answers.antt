@@ -1,6 +1,5 @@
 -- `md4::increase` meets its contract.
 -- Assumes nothing.
-use Rattle.std.proofs.Common.{rules}
 use Rattle.md4.specs.Md4.{increased}
 use Rattle.md4.proofs.increase.Goals as goal
 

@@ -1,6 +1,6 @@
 -- `md4::majority` meets its contract.
 -- Assumes nothing.
-use Rattle.std.proofs.Common.{◌∙◌, rules}
+use Rattle.std.proofs.Common.{◌∙◌}
 use Rattle.md4.proofs.Rounds.{majority_right}
 use Rattle.md4.proofs.majority.Goals as goal
 

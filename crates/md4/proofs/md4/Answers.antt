@@ -1,6 +1,6 @@
 -- `md4::md4` meets its contract.
 -- Assumes nothing.
-use Rattle.std.proofs.Common.{ℕ, List, sym, ap, ◌∙◌, rules}
+use Rattle.std.proofs.Common.{ℕ, List, sym, ap, ◌∙◌}
 use Rattle.md4.proofs.Laws.{answered, refused}
 use Rattle.md4.proofs.md4.Goals as goal
 

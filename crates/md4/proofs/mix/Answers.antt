@@ -1,6 +1,5 @@
 -- `md4::mix` meets its contract.
 -- Assumes nothing.
-use Rattle.std.proofs.Common.{rules}
 use Rattle.md4.proofs.mix.Goals as goal
 
 pub returns : goal.returns

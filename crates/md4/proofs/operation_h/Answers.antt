@@ -1,6 +1,5 @@
 -- `md4::operation_h` meets its contract.
 -- Assumes nothing.
-use Rattle.std.proofs.Common.{rules}
 use Rattle.md4.specs.Md4.{operation}
 use Rattle.md4.proofs.operation_h.Goals as goal
 

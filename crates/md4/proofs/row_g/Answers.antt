@@ -1,6 +1,6 @@
 -- `md4::row_g` meets its contract.
 -- Assumes nothing.
-use Rattle.std.proofs.Common.{ℕ, rules}
+use Rattle.std.proofs.Common.{ℕ}
 use Rattle.md4.specs.declared.Registers.{Registers}
 use Rattle.md4.specs.Md4.{aux_g, operation, row}
 use Rattle.md4.proofs.Rounds.{four}

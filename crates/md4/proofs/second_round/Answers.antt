@@ -1,6 +1,6 @@
 -- `md4::second_round` meets its contract.
 -- Assumes nothing.
-use Rattle.std.proofs.Common.{ℕ, get_or, rules}
+use Rattle.std.proofs.Common.{ℕ, get_or}
 use Rattle.md4.specs.declared.Registers.{Registers}
 use Rattle.md4.specs.Md4.{aux_g, row, operations, table2, round2}
 use Rattle.md4.proofs.Rounds.{four}

@@ -1,4 +1,4 @@
-use Rattle.std.proofs.Common.{◌≡◌, ℕ, ◌+◌, ◌-◌, ◌/◌, ◌≤◌, length, drop, sym, ap, ◌∙◌, arith, length-drop, length-take-le}
+use Rattle.std.proofs.Common.{ℕ, ◌+◌, ◌-◌, ◌/◌, length, drop, sym, ap, ◌∙◌, arith, length-drop, length-take-le}
 use native.Mathlib.Nat.{sub-zero}
 use Rattle.blocks.specs.Blocks.{run_blocks}
 use Rattle.blocks.proofs.Run.{run_end, run_turn}

@@ -1,10 +1,8 @@
 -- `md4::whole_blocks` meets its contract. The loop's invariant: the blocks that are left, from the
 -- registers as they are, give what is asked.
 -- Assumes nothing.
-use Rattle.std.proofs.Common.{◌≡◌, ℕ, ◌+◌, ◌-◌, ◌/◌, ◌≤◌, length, drop, sym, ap, ◌∙◌, arith, length-drop, length-take-le}
-use native.Mathlib.Nat.{sub-zero}
+use Rattle.std.proofs.Common.{◌≡◌, ◌-◌, ◌/◌, ◌≤◌, length, drop}
 use Rattle.blocks.specs.Blocks.{run_blocks}
-use Rattle.blocks.proofs.Run.{run_end, run_turn}
 use Rattle.md4.specs.Md4.{block}
 use Rattle.md4.proofs.whole_blocks.Given as goal
 

@@ -1,6 +1,5 @@
 -- `md4::words` meets its contract.
 -- Assumes nothing.
-use Rattle.std.proofs.Common.{rules}
 use Rattle.md4.specs.Md4.{words_of}
 use Rattle.md4.proofs.words.Goals as goal
 
