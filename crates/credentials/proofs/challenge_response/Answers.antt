@@ -1,6 +1,5 @@
 -- `credentials::challenge_response` meets its contract.
 -- Assumes nothing.
-use borrow.Author.Rules.{rules}
 use Rattle.credentials.specs.Credentials.{response_of}
 use Rattle.credentials.proofs.challenge_response.Goals as goal
 

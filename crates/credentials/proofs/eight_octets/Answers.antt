@@ -1,6 +1,5 @@
 -- `credentials::eight_octets` meets its contract.
 -- Assumes nothing.
-use borrow.Author.Rules.{rules}
 use Rattle.credentials.proofs.eight_octets.Goals as goal
 
 pub returns : goal.returns

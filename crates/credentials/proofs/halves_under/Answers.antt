@@ -7,14 +7,13 @@ use Rattle.des.specs.Des.{des_encrypt}
 use Rattle.credentials.proofs.Padded.{halves_joined}
 use Rattle.credentials.proofs.halves_under.Goals as goal
 
-sixteen : (c : goal.Start) → length c.args.hash ≡ 16
-sixteen c = search rules
-
 pub returns : goal.returns
 returns c =
+    let sixteen : length c.args.hash ≡ 16 =
+    search rules in
     let e₂ = c in
     let e₁ = e₂ in
-    let start = e₁.before.before.before in
+    let start = e₁ in
     halves_joined (des_encrypt start.args.first) (des_encrypt start.args.second)
-    start.args.hash (sixteen start) c.joined.ensures e₁.encrypt-a.ensures
+    start.args.hash sixteen c.joined.ensures e₁.encrypt-a.ensures
     e₂.encrypt-b.ensures e₁.eight_at.ensures e₂.eight_at-2.ensures

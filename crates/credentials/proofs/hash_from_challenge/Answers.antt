@@ -13,18 +13,17 @@ use Rattle.credentials.specs.Credentials.{hash_from_challenge}
 use Rattle.credentials.proofs.Padded.{halves_joined}
 use Rattle.credentials.proofs.hash_from_challenge.Goals as goal
 
-sizes : (c : goal.Start) → (length c.args.field ≡ 16) × (length c.args.challenge ≡ 8)
-sizes c = (search rules, search rules)
-
 pub returns : goal.returns
 unfolding hash_from_challenge
 returns c =
+    let sizes : (length c.args.field ≡ 16) × (length c.args.challenge ≡ 8) =
+    (search rules, search rules) in
     let e₂ = c in
     let e₁ = e₂ in
     let k = e₁ in
-    let start = k.before.before in
+    let start = k in
     let key = k.seven_at-key.result in
-    let n = sizes start in
+    let n = sizes in
     halves_joined (des_decrypt key) (des_decrypt key) start.args.field n.0 c.joined.ensures
     e₁.decrypt-a.ensures e₂.decrypt-b.ensures e₁.eight_at.ensures
     e₂.eight_at-2.ensures

@@ -1,6 +1,5 @@
 -- `credentials::hash_schedules` meets its contract.
 -- Assumes nothing.
-use borrow.Author.Rules.{rules}
 use Rattle.credentials.specs.Credentials.{schedules_of}
 use Rattle.credentials.proofs.hash_schedules.Goals as goal
 

@@ -10,14 +10,13 @@ use Rattle.octets.proofs.Parts.{fixed_part}
 use Rattle.credentials.specs.Credentials.{halves_under, hash_under_challenge}
 use Rattle.credentials.proofs.hash_under_challenge.Goals as goal
 
-eight : (c : goal.Start) → length c.args.challenge ≡ 8
-eight c = search rules
-
 pub returns : goal.returns
 unfolding hash_under_challenge
 returns c =
+    let eight : length c.args.challenge ≡ 8 =
+    search rules in
     let k = c in
-    let start = k.before.before in
+    let start = k in
     c.halves_under.ensures
     ∙ ap (λ (x : List ℕ). halves_under x x start.args.hash)
-    (k.seven_at-key.ensures ∙ fixed_part 0 7 start.args.challenge (omega (arith, eight start)))
+    (k.seven_at-key.ensures ∙ fixed_part 0 7 start.args.challenge (omega (arith, eight)))

@@ -1,11 +1,11 @@
 use mathlib.Core.List.{List}
 use mathlib.Core.Path.{◌≡◌, refl, sym, ap, ◌∙◌, subst}
-use Prim.Native.Nat.{ℕ, suc, ◌*◌, ◌-◌, ◌^◌, ◌≤◌, ◌<◌}
+use Prim.Native.Nat.{ℕ, suc, ◌*◌, ◌^◌, ◌≤◌, ◌<◌}
 use native.Mathlib.Nat.{zero-add}
 use native.Mathlib.Numerals.{add-one}
 use native.Mathlib.Omega.{arith}
 use lib.Dec.{lit<}
-use lib.ListN.{length, take, get_or, replicate, length-replicate}
+use lib.ListN.{length, take, get_or}
 use lib.Seq.{take_all}
 use borrow.Author.Rules.{rules}
 use Rattle.octets.specs.Numbers.{to_le}
@@ -18,9 +18,6 @@ use Rattle.credentials.specs.Credentials.{encode_keys}
 use Rattle.credentials.proofs.KeyOctets.{length_encoded, encoded_more, length_encoded_front}
 use Rattle.credentials.proofs.KeyOctets.{keys_in_back, below_more}
 use Rattle.credentials.proofs.key_octets.Goals as goal
-
-numbers : (c : goal.Start) → length c.args.keys ≡ 48
-numbers c = search rules
 
 -- one more number laid behind those before it
 laid : (i : ℕ) (keys r₀ : List ℕ) {r b : List ℕ} → i < length keys
@@ -45,13 +42,15 @@ loop-i-init c = (search rules, refl, refl, refl, λ i. lit< tt)
 
 pub loop-i-preserved : goal.loop-i-preserved
 loop-i-preserved c =
+    let numbers : length c.args.keys ≡ 48 =
+    search rules in
     let put = c in
     let made = put in
     let h = made in
-    let s = h.before in
+    let s = h in
     let keys = s.args.keys in
     let i = h.loop-i.i in
-    let n = numbers s in
+    let n = numbers in
     let inv = h.loop-i.invariant in (
       search rules,
       inv.1,
@@ -64,11 +63,13 @@ loop-i-preserved c =
 
 pub returns : goal.returns
 returns c =
+    let numbers : length c.args.keys ≡ 48 =
+    search rules in
     let h = c in
-    let s = h.before in
+    let s = h in
     let keys = s.args.keys in
     let i = h.loop-i.i in
-    let n = numbers s in
+    let n = numbers in
     let inv = h.loop-i.invariant in
     let whole = all_laid i keys _ (omega arith) n inv.1 inv.3 in (
       whole,

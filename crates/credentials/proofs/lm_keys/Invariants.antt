@@ -1,15 +1,11 @@
 -- `credentials::lm_keys` meets its contract. The loop's invariant: what is upper-cased, and the
 -- rest with upper case, is what is asked.
 -- Assumes nothing.
-use mathlib.Core.Path.{◌≡◌, refl, sym, ap, ◌∙◌}
+use mathlib.Core.Path.{◌≡◌}
 use mathlib.Core.List.{◌++◌, map}
-use Prim.Native.Nat.{◌+◌, ◌-◌, ◌≤◌}
-use native.Mathlib.Numerals.{add-one}
-use native.Mathlib.Omega.{arith}
-use borrow.Author.Rules.{rules}
-use lib.ListN.{length, take, drop, length-set}
+use Prim.Native.Nat.{◌-◌, ◌≤◌}
+use lib.ListN.{length, take, drop}
 use Rattle.credentials.specs.Credentials.{upper}
-use Rattle.credentials.proofs.Padded.{map_turn, map_end, keys_padded}
 use Rattle.credentials.proofs.lm_keys.Given as goal
 
 abbrev pub invariant-loop-i : goal.invariant-loop-i

@@ -10,16 +10,15 @@ use Rattle.octets.proofs.Parts.{fixed_part}
 use Rattle.credentials.specs.Credentials.{halves_under, old_under_new}
 use Rattle.credentials.proofs.old_under_new.Goals as goal
 
-sixteen : (c : goal.Start) → length c.args.new ≡ 16
-sixteen c = search rules
-
 pub returns : goal.returns
 unfolding old_under_new
 returns c =
+    let sixteen : length c.args.new ≡ 16 =
+    search rules in
     let k₂ = c in
     let k₁ = k₂ in
-    let start = k₁.before.before in
-    let n = sixteen start in
+    let start = k₁ in
+    let n = sixteen in
     c.halves_under.ensures
     ∙ ap₂ (λ (x y : List ℕ). halves_under x y start.args.old)
     (k₁.seven_at-first.ensures ∙ fixed_part 0 7 start.args.new (omega (arith, n)))

@@ -1,6 +1,5 @@
 -- `credentials::plain_block` meets its contract.
 -- Assumes nothing.
-use borrow.Author.Rules.{rules}
 use Rattle.credentials.proofs.Plain.{block_filled}
 use Rattle.credentials.proofs.plain_block.Goals as goal
 

@@ -1,6 +1,5 @@
 -- `credentials::scheduled_response` meets its contract.
 -- Assumes nothing.
-use borrow.Author.Rules.{rules}
 use Rattle.credentials.specs.Credentials.{response_under}
 use Rattle.credentials.proofs.scheduled_response.Goals as goal
 

@@ -1,6 +1,5 @@
 -- `credentials::seal_refusal` meets its contract.
 -- Assumes nothing.
-use borrow.Author.Rules.{rules}
 use Rattle.credentials.specs.Credentials.{seal_refusal}
 use Rattle.credentials.proofs.seal_refusal.Goals as goal
 

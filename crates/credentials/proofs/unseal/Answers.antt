@@ -16,21 +16,17 @@ use Rattle.credentials.proofs.Laws.{length_told_lem}
 use Rattle.credentials.specs.declared.Content.{Content}
 use Rattle.credentials.proofs.unseal.Goals as goal
 
-whole : (c : goal.Start) → length c.args.block ≡ 516
-whole c = search rules
-
 pub returns : goal.returns
 unfolding unsealed_as
 returns c =
-    let copied = c in
-    let told = copied in
-    let plain = told in
-    let s = plain.before.before.before in
-    let size : length plain.rc4.new.1.0 ≡ 516 = ap length plain.rc4.ensures.1 ∙ length_crypted s.args.old s.args.block ∙ whole s in
+    let whole : length c.args.block ≡ 516 =
+    search rules in
+    let s = c in
+    let size : length c.rc4.new.«data» ≡ 516 = ap length c.rc4.ensures.1 ∙ length_crypted s.args.old s.args.block ∙ whole in
     let n = length_in (crypted s.args.old s.args.block) in
-    let content : told.content_of-content.result ≡ content_for n =
-    told.content_of-content.ensures ∙ ap content_for (told.u32_from_le.ensures ∙ ap from_le (sym (part_written 4 512 plain.rc4.new.1.0 (omega arith))) ∙ ap length_in plain.rc4.ensures.1) in (
+    let content : c.content_of-content.result ≡ content_for n =
+    c.content_of-content.ensures ∙ ap content_for (c.u32_from_le.ensures ∙ ap from_le (sym (part_written 4 512 c.rc4.new.«data» (omega arith))) ∙ ap length_in c.rc4.ensures.1) in (
       ap₂ (λ (k : Content) (x : List ℕ). record { content = k; octets = x }) content
-          (copied.copy.ensures ∙ ap (λ (x : List ℕ). over x (replicate 512 0)) plain.rc4.ensures.1),
+          (c.copy.ensures ∙ ap (λ (x : List ℕ). over x (replicate 512 0)) c.rc4.ensures.1),
       ap length_told content ∙ length_told_lem n,
     )

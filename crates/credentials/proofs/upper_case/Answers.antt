@@ -1,6 +1,5 @@
 -- `credentials::upper_case` meets its contract.
 -- Assumes nothing.
-use borrow.Author.Rules.{rules}
 use borrow.Author.Tests.{le-leb, lt-leb}
 use Rattle.credentials.proofs.upper_case.Goals as goal
 
