@@ -1,6 +1,5 @@
 -- `accounts::account_of` meets its contract.
 -- Assumes nothing.
-use borrow.Author.Rules.{rules}
 use mathlib.Core.Path.{ap₂, ◌∙◌}
 use Rattle.accounts.specs.Account.{with_schedules}
 use Rattle.accounts.specs.declared.Schedules.{Schedules}

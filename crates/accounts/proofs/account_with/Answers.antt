@@ -1,6 +1,5 @@
 -- `accounts::account_with` meets its contract.
 -- Assumes nothing.
-use borrow.Author.Rules.{rules}
 use mathlib.Core.Path.{ap, ◌∙◌}
 use Rattle.accounts.specs.Account.{account_of}
 use Rattle.accounts.proofs.account_with.Goals as goal

@@ -1,6 +1,5 @@
 -- `accounts::blank_account` meets its contract.
 -- Assumes nothing.
-use borrow.Author.Rules.{rules}
 use mathlib.Core.Path.{ap, ◌∙◌}
 use Rattle.accounts.specs.Account.{account_of}
 use Rattle.accounts.proofs.blank_account.Goals as goal

@@ -1,6 +1,5 @@
 -- `accounts::blank_entry` meets its contract.
 -- Assumes nothing.
-use borrow.Author.Rules.{rules}
 use mathlib.Core.Bool.{false}
 use mathlib.Core.Path.{ap₂, ◌∙◌}
 use Rattle.accounts.specs.Account.{entry_with}

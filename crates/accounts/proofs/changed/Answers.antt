@@ -1,6 +1,5 @@
 -- `accounts::changed` meets its contract.
 -- Assumes nothing.
-use borrow.Author.Rules.{rules}
 use mathlib.Core.Path.{ap, ◌∙◌}
 use Rattle.accounts.specs.Account.{account_of}
 use Rattle.accounts.proofs.changed.Goals as goal

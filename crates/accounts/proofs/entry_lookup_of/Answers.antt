@@ -1,6 +1,5 @@
 -- `accounts::entry_lookup_of` meets its contract.
 -- Assumes nothing.
-use borrow.Author.Rules.{rules}
 use mathlib.Core.Path.{ap}
 use Rattle.accounts.specs.declared.Entry.{Entry}
 use Rattle.accounts.specs.declared.EntryLookup.{EntryLookup}

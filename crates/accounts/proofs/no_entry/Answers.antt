@@ -1,6 +1,5 @@
 -- `accounts::no_entry` meets its contract.
 -- Assumes nothing.
-use borrow.Author.Rules.{rules}
 use mathlib.Core.Bool.{false}
 use mathlib.Core.Path.{ap}
 use Rattle.accounts.specs.declared.Entry.{Entry}

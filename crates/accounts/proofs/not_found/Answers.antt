@@ -1,6 +1,5 @@
 -- `accounts::not_found` meets its contract.
 -- Assumes nothing.
-use borrow.Author.Rules.{rules}
 use mathlib.Core.Bool.{false}
 use mathlib.Core.Path.{ap, ◌∙◌}
 use Rattle.accounts.specs.Account.{lookup_of}

@@ -1,8 +1,6 @@
 -- `accounts::with_failures` meets its contract.
 -- Assumes nothing.
-use borrow.Author.Rules.{rules}
 use mathlib.Core.Path.{ap, ◌∙◌}
-use Prim.Native.Nat.{ℕ}
 use Rattle.accounts.specs.Account.{entry_failures, with_schedules}
 use Rattle.accounts.specs.declared.Entry.{Entry}
 use Rattle.accounts.proofs.with_failures.Goals as goal
