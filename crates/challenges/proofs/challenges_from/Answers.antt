@@ -1,4 +1,4 @@
-use Rattle.std.proofs.Common.{◌≡◌, ◌-◌, ◌*◌, ◌≤◌, ◌++◌, length, take, sym, refl, ap, ◌∙◌, arith, rules}
+use Rattle.std.proofs.Common.{◌*◌, length, sym, refl, ap, ◌∙◌, arith, rules}
 use mathlib.Core.List.{flatten}
 use Rattle.octets.proofs.Parts.{length_over_at}
 use Rattle.challenges.specs.Challenges.{challenges_from}

@@ -1,11 +1,9 @@
 -- `challenges::challenges_from` meets its contract. The loop's invariant: what lies in run, with
 -- what follows from next, is all.
 -- Assumes nothing.
-use Rattle.std.proofs.Common.{◌≡◌, ◌-◌, ◌*◌, ◌≤◌, ◌++◌, length, take, sym, refl, ap, ◌∙◌, arith, rules}
+use Rattle.std.proofs.Common.{◌≡◌, ◌-◌, ◌*◌, ◌≤◌, ◌++◌, length, take}
 use mathlib.Core.List.{flatten}
-use Rattle.octets.proofs.Parts.{length_over_at}
 use Rattle.challenges.specs.Challenges.{challenges_from}
-use Rattle.challenges.proofs.Laid.{laid_next, laid_all}
 use Rattle.challenges.proofs.challenges_from.Given as goal
 
 abbrev pub invariant-loop-i : goal.invariant-loop-i

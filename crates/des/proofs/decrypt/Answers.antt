@@ -4,7 +4,6 @@ use mathlib.Core.Path.{ap, ap₂, ◌∙◌}
 use mathlib.Core.List.{reverse}
 use Rattle.octets.specs.Numbers.{to_be}
 use Rattle.des.specs.Des.{crypt, des_decrypt}
-use borrow.Author.Rules.{rules}
 use Rattle.des.proofs.decrypt.Goals as goal
 
 pub returns : goal.returns

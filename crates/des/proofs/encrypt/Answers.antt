@@ -1,7 +1,6 @@
 -- `des::encrypt` meets its contract.
 -- Assumes nothing.
 use Rattle.des.specs.Des.{des_encrypt}
-use borrow.Author.Rules.{rules}
 use Rattle.des.proofs.encrypt.Goals as goal
 
 pub returns : goal.returns

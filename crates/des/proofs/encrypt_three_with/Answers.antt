@@ -1,11 +1,9 @@
 use mathlib.Core.Path.{ap₂, ◌∙◌}
 use mathlib.Core.List.{◌++◌}
-use Prim.Native.Nat.{◌-◌, ◌+◌, ◌/◌, ◌%◌, ◌^◌, ◌≤◌}
 use native.Mathlib.Numerals.{add-one}
 use native.Mathlib.Omega.{arith}
-use Rattle.des.specs.Inner.{keys_of}
 use Rattle.des.proofs.Keys.{choice_keys, sixteen}
-use Rattle.des.proofs.Round.{AfterRounds, no_rounds, one_round, encrypted_octets}
+use Rattle.des.proofs.Round.{no_rounds, one_round, encrypted_octets}
 use borrow.Author.Rules.{rules}
 use Rattle.des.proofs.encrypt_three_with.Goals as goal
 

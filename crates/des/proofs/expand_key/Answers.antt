@@ -6,7 +6,6 @@ use Rattle.octets.specs.Numbers.{from_be, to_be}
 use Rattle.octets.proofs.Numbers.{to_be-from_be}
 use Rattle.des.specs.Des.{expand_key}
 use Rattle.des.proofs.Sizes.{length_expand, octets_expand}
-use borrow.Author.Rules.{rules}
 use Rattle.des.proofs.expand_key.Goals as goal
 
 pub returns : goal.returns

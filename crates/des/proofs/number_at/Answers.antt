@@ -8,7 +8,6 @@ use lib.ListN.{length, get_or}
 use Rattle.octets.specs.Parts.{part}
 use Rattle.octets.specs.Numbers.{from_be, from_le}
 use Rattle.des.proofs.StoredOctets.{listed_from, part_from_lem}
-use borrow.Author.Rules.{rules}
 use Rattle.des.proofs.number_at.Goals as goal
 
 -- the most significant octet last, and first

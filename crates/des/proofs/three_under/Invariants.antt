@@ -1,22 +1,9 @@
 -- `des::three_under` meets its contract.
 -- Assumes nothing.
-use mathlib.Core.Path.{◌≡◌, refl, sym, ap, ap₂, ◌∙◌}
-use mathlib.Core.List.{◌++◌}
-use mathlib.Core.List.{List}
-use Prim.Native.Nat.{ℕ, ◌+◌, ◌-◌, ◌*◌, ◌/◌, ◌%◌, ◌^◌, ◌≤◌, ◌<◌}
-use native.Mathlib.Nat.{zero-add}
-use native.Mathlib.Numerals.{add-one}
-use native.Mathlib.Omega.{arith}
-use lib.ListN.{length, get_or}
-use Rattle.octets.specs.Numbers.{from_le}
-use Rattle.octets.specs.Parts.{part}
-use Rattle.des.specs.Tables.{ip}
-use Rattle.des.specs.Des.{permute}
-use Rattle.des.specs.Stored.{unpack_key, decode_keys}
-use Rattle.des.proofs.StoredOctets.{length_decoded, decoded_at}
-use Rattle.des.proofs.Round.{AfterRounds, no_rounds, one_round, encrypted_octets}
-use Rattle.des.proofs.Stored.{of_schedule, length_of_schedule, key_of_schedule}
-use borrow.Author.Rules.{rules}
+use Prim.Native.Nat.{◌-◌, ◌/◌, ◌%◌, ◌^◌, ◌≤◌}
+use Rattle.des.specs.Stored.{decode_keys}
+use Rattle.des.proofs.Round.{AfterRounds}
+use Rattle.des.proofs.Stored.{of_schedule}
 use Rattle.des.proofs.three_under.Given as goal
 
 abbrev pub invariant-loop-i : goal.invariant-loop-i

@@ -1,6 +1,6 @@
-use Rattle.std.proofs.Common.{ℕ, ◌+◌, ◌-◌, ◌%◌, length, get_or, ap, arith, length-set, rules}
+use Rattle.std.proofs.Common.{ℕ, get_or, ap, arith, length-set, rules}
 use Rattle.rc4.specs.declared.State.{State}
-use Rattle.rc4.proofs.Turns.{Ready, ready_at, ready_turn, step_turn, Done, none_done, one_done, all_done}
+use Rattle.rc4.proofs.Turns.{ready_at, ready_turn, step_turn, none_done, one_done, all_done}
 use Rattle.rc4.proofs.apply.Goals as goal
 
 pub loop-n-init : goal.loop-n-init

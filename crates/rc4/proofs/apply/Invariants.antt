@@ -1,9 +1,8 @@
 -- `rc4::apply` meets its contract. The loop's invariant: doing the rest from here gives what is
 -- asked, and a is the entry that the next turn begins with.
 -- Assumes nothing.
-use Rattle.std.proofs.Common.{ℕ, ◌+◌, ◌-◌, ◌%◌, length, get_or, ap, arith, length-set, rules}
-use Rattle.rc4.specs.declared.State.{State}
-use Rattle.rc4.proofs.Turns.{Ready, ready_at, ready_turn, step_turn, Done, none_done, one_done, all_done}
+use Rattle.std.proofs.Common.{◌+◌, ◌-◌, ◌%◌, length}
+use Rattle.rc4.proofs.Turns.{Ready, Done}
 use Rattle.rc4.proofs.apply.Given as goal
 
 abbrev pub invariant-loop-n : goal.invariant-loop-n

@@ -1,4 +1,4 @@
-use Rattle.std.proofs.Common.{◌≡◌, ◌-◌, ◌≤◌, length, take, refl, le_antisymm, arith, take_all, rules}
+use Rattle.std.proofs.Common.{◌≤◌, length, refl, le_antisymm, arith, take_all, rules}
 use Rattle.rc4.specs.Rc4.{upto}
 use Rattle.rc4.proofs.Turns.{upto_turn}
 use Rattle.rc4.proofs.identity.Goals as goal

@@ -1,8 +1,7 @@
 -- `rc4::identity` meets its contract. The loop's invariant: the first i entries are 0, 1, .. i - 1.
 -- Assumes nothing.
-use Rattle.std.proofs.Common.{◌≡◌, ◌-◌, ◌≤◌, length, take, refl, le_antisymm, arith, take_all, rules}
+use Rattle.std.proofs.Common.{◌≡◌, ◌-◌, ◌≤◌, length, take}
 use Rattle.rc4.specs.Rc4.{upto}
-use Rattle.rc4.proofs.Turns.{upto_turn}
 use Rattle.rc4.proofs.identity.Given as goal
 
 abbrev pub invariant-loop-i : goal.invariant-loop-i

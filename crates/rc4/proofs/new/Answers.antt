@@ -1,6 +1,6 @@
 -- `rc4::new` meets its contract.
 -- Assumes nothing.
-use Rattle.std.proofs.Common.{sym, ◌∙◌, rules}
+use Rattle.std.proofs.Common.{sym, ◌∙◌}
 use Rattle.rc4.specs.Rc4.{key_refusal, started, keyed}
 use Rattle.rc4.proofs.Laws.{fits_bounds}
 use Rattle.rc4.proofs.new.Goals as goal

@@ -1,6 +1,6 @@
 -- `rc4::put` meets its contract.
 -- Assumes nothing.
-use Rattle.std.proofs.Common.{refl, rules}
+use Rattle.std.proofs.Common.{refl}
 use Rattle.rc4.specs.Rc4.{swapped}
 use Rattle.rc4.proofs.put.Goals as goal
 

@@ -1,7 +1,7 @@
-use Rattle.std.proofs.Common.{◌≡◌, ℕ, ◌-◌, ◌%◌, ◌≤◌, List, length, get_or, sym, ap, mod-lt, mod-eq_of_lt, le_antisymm, rules}
+use Rattle.std.proofs.Common.{ℕ, List, length, get_or, sym, ap, mod-lt, mod-eq_of_lt, le_antisymm, rules}
 use Rattle.rc4.specs.declared.State.{State}
 use Rattle.rc4.specs.Rc4.{upto, mixed, started}
-use Rattle.rc4.proofs.Turns.{Ready, ready_at, ready_turn, mixed_turn}
+use Rattle.rc4.proofs.Turns.{ready_at, ready_turn, mixed_turn}
 use Rattle.rc4.proofs.schedule.Goals as goal
 
 pub loop-n-init : goal.loop-n-init

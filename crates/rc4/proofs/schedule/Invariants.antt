@@ -1,10 +1,10 @@
 -- `rc4::schedule` meets its contract. The loop's invariant: n rounds are done, and a is the entry
 -- that the next begins with; after the last that is entry 0.
 -- Assumes nothing.
-use Rattle.std.proofs.Common.{◌≡◌, ℕ, ◌-◌, ◌%◌, ◌≤◌, List, length, get_or, sym, ap, mod-lt, mod-eq_of_lt, le_antisymm, rules}
+use Rattle.std.proofs.Common.{◌≡◌, ◌-◌, ◌%◌, ◌≤◌}
 use Rattle.rc4.specs.declared.State.{State}
-use Rattle.rc4.specs.Rc4.{upto, mixed, started}
-use Rattle.rc4.proofs.Turns.{Ready, ready_at, ready_turn, mixed_turn}
+use Rattle.rc4.specs.Rc4.{mixed}
+use Rattle.rc4.proofs.Turns.{Ready}
 use Rattle.rc4.proofs.schedule.Given as goal
 
 abbrev pub invariant-loop-n : goal.invariant-loop-n

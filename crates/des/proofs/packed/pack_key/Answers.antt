@@ -1,7 +1,6 @@
 -- `des::packed::pack_key` meets its contract.
 -- Assumes nothing.
 use Rattle.des.specs.Stored.{pack_key}
-use borrow.Author.Rules.{rules}
 use Rattle.des.proofs.packed.pack_key.Goals as goal
 
 pub returns : goal.returns

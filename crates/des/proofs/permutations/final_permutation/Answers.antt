@@ -1,7 +1,6 @@
 -- `des::permutations::final_permutation` meets its contract.
 -- Assumes nothing.
 use Rattle.des.proofs.Swaps.{fp_swaps_lem}
-use borrow.Author.Rules.{rules}
 use Rattle.des.proofs.permutations.final_permutation.Goals as goal
 
 pub returns : goal.returns

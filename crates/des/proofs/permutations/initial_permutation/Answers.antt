@@ -1,7 +1,6 @@
 -- `des::permutations::initial_permutation` meets its contract.
 -- Assumes nothing.
 use Rattle.des.proofs.Swaps.{ip_swaps_lem}
-use borrow.Author.Rules.{rules}
 use Rattle.des.proofs.permutations.initial_permutation.Goals as goal
 
 pub returns : goal.returns

@@ -2,7 +2,6 @@
 -- Assumes nothing.
 use mathlib.Core.Path.{refl}
 use Rattle.des.specs.Inner.{bits_swapped}
-use borrow.Author.Rules.{rules}
 use Rattle.des.proofs.permutations.swap_bits.Goals as goal
 
 pub returns : goal.returns

@@ -1,7 +1,6 @@
 -- `des::rounds::cipher_function` meets its contract.
 -- Assumes nothing.
 use Rattle.des.proofs.Round.{joined_right}
-use borrow.Author.Rules.{rules}
 use Rattle.des.proofs.rounds.cipher_function.Goals as goal
 
 pub returns : goal.returns

@@ -1,8 +1,7 @@
 use mathlib.Core.Path.{refl}
-use Prim.Native.Nat.{◌-◌, ◌≤◌}
 use native.Mathlib.Numerals.{add-one}
 use native.Mathlib.Omega.{arith}
-use Rattle.des.proofs.Round.{AfterRounds, no_rounds, one_round, all_rounds}
+use Rattle.des.proofs.Round.{no_rounds, one_round, all_rounds}
 use borrow.Author.Rules.{rules}
 use Rattle.des.proofs.rounds.crypt_block.Goals as goal
 

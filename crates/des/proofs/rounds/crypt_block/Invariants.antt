@@ -1,11 +1,7 @@
 -- `des::rounds::crypt_block` meets its contract.
 -- Assumes nothing.
-use mathlib.Core.Path.{refl}
 use Prim.Native.Nat.{◌-◌, ◌≤◌}
-use native.Mathlib.Numerals.{add-one}
-use native.Mathlib.Omega.{arith}
-use Rattle.des.proofs.Round.{AfterRounds, no_rounds, one_round, all_rounds}
-use borrow.Author.Rules.{rules}
+use Rattle.des.proofs.Round.{AfterRounds}
 use Rattle.des.proofs.rounds.crypt_block.Given as goal
 
 abbrev pub invariant-loop-i : goal.invariant-loop-i

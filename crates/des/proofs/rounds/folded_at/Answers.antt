@@ -6,7 +6,6 @@ use Prim.Native.Nat.{ℕ, ◌+◌, ◌*◌, ◌%◌}
 use native.Mathlib.Nat.{mod-lt, zero-lt-suc}
 use lib.ListN.{get_or}
 use Rattle.des.proofs.Folded.{entry_of}
-use borrow.Author.Rules.{rules}
 use Rattle.des.proofs.rounds.folded_at.Goals as goal
 
 pub returns : goal.returns

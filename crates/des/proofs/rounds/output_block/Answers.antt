@@ -4,7 +4,6 @@ use mathlib.Core.Path.{ap, ap₂, ◌∙◌}
 use Prim.Native.Nat.{ℕ, ◌+◌, ◌*◌, ◌^◌}
 use Rattle.des.specs.Tables.{fp}
 use Rattle.des.specs.Des.{permute}
-use borrow.Author.Rules.{rules}
 use Rattle.des.proofs.rounds.output_block.Goals as goal
 
 pub returns : goal.returns

@@ -1,7 +1,6 @@
 -- `des::rounds::stored_cipher_function` meets its contract.
 -- Assumes nothing.
 use Rattle.des.proofs.Stored.{stored_right}
-use borrow.Author.Rules.{rules}
 use Rattle.des.proofs.rounds.stored_cipher_function.Goals as goal
 
 pub returns : goal.returns

@@ -3,7 +3,6 @@
 use mathlib.Core.Path.{ap, ◌∙◌}
 use Rattle.des.specs.Tables.{pc1}
 use Rattle.des.specs.Des.{permute}
-use borrow.Author.Rules.{rules}
 use Rattle.des.proofs.schedule.choice_of.Goals as goal
 
 pub returns : goal.returns

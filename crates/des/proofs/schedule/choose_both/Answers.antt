@@ -6,7 +6,6 @@ use native.Mathlib.Nat.{div-one}
 use lib.Bits.{bit_xor}
 use Rattle.des.specs.Inner.{chosen_at}
 use Rattle.des.proofs.Choices.{sevens}
-use borrow.Author.Rules.{rules}
 use Rattle.des.proofs.schedule.choose_both.Goals as goal
 
 pub returns : goal.returns

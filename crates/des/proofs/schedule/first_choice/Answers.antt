@@ -3,7 +3,6 @@
 use mathlib.Core.Path.{ap, ◌∙◌}
 use Rattle.des.specs.Inner.{arranged}
 use Rattle.des.proofs.Choices.{rows}
-use borrow.Author.Rules.{rules}
 use Rattle.des.proofs.schedule.first_choice.Goals as goal
 
 pub returns : goal.returns

@@ -2,7 +2,6 @@
 -- Assumes nothing.
 use mathlib.Core.Path.{◌∙◌}
 use Rattle.des.proofs.Keys.{key_at_place}
-use borrow.Author.Rules.{rules}
 use Rattle.des.proofs.schedule.round_key.Goals as goal
 
 pub returns : goal.returns

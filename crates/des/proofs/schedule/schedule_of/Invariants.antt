@@ -1,15 +1,9 @@
 -- `des::schedule::schedule_of` meets its contract.
 -- Assumes nothing.
-use mathlib.Core.Path.{◌≡◌, refl, sym, ap₂, ◌∙◌}
-use mathlib.Core.List.{List, [], ◌∷◌, ◌++◌}
-use Prim.Native.Nat.{ℕ, ◌-◌, ◌≤◌}
-use native.Mathlib.Numerals.{add-one}
-use native.Mathlib.Omega.{arith}
-use lib.ListN.{length, take, length-set}
-use lib.Seq.{take-suc, take-suc-set, take_all}
+use mathlib.Core.Path.{◌≡◌}
+use Prim.Native.Nat.{◌-◌, ◌≤◌}
+use lib.ListN.{length, take}
 use Rattle.des.specs.Inner.{keys_of}
-use Rattle.des.proofs.Keys.{choice_keys, sixteen}
-use borrow.Author.Rules.{rules}
 use Rattle.des.proofs.schedule.schedule_of.Given as goal
 
 abbrev pub invariant-loop-i : goal.invariant-loop-i

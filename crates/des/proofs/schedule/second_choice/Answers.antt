@@ -1,7 +1,6 @@
 -- `des::schedule::second_choice` meets its contract.
 -- Assumes nothing.
 use Rattle.des.proofs.Choices.{by_halves_lem}
-use borrow.Author.Rules.{rules}
 use Rattle.des.proofs.schedule.second_choice.Goals as goal
 
 pub returns : goal.returns

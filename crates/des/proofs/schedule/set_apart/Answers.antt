@@ -2,7 +2,6 @@
 -- Assumes nothing.
 use mathlib.Core.Path.{refl}
 use Rattle.des.specs.Inner.{set_apart}
-use borrow.Author.Rules.{rules}
 use Rattle.des.proofs.schedule.set_apart.Goals as goal
 
 pub returns : goal.returns
