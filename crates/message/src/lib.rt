@@ -32,6 +32,7 @@ pub struct Failed {
     pub v: u64,
     pub call: Call,
 }
+
 #[derive(Clone, Copy)]
 pub enum Verdict {
     Success,
@@ -46,6 +47,7 @@ pub struct NewChallenge {
     pub given: bool,
     pub octets: [u8; 8],
 }
+
 #[derive(Clone, Copy)]
 pub struct Reading {
     pub verdict: Verdict,

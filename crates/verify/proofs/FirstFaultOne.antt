@@ -1,14 +1,13 @@
 -- "its reason the first of ..": what is told of a version 1 change holds, and none before it does;
 -- a change is accepted exactly where none is told, and what its record then gets.
 -- Assumes nothing.
-use mathlib.Core.Bool.{Bool, true, false, cond, not, true≢false, false≢true}
+use mathlib.Core.Bool.{Bool, true, false, cond, not, false≢true}
 use mathlib.Core.List.{List}
-use mathlib.Core.Logic.{◌⊎◌, inl, inr}
+use mathlib.Core.Logic.{inl, inr}
 use mathlib.Core.Path.{◌≡◌, refl, sym, ap, ◌∙◌, subst}
 use Prim.Native.Nat.{ℕ, ◌%◌, ◌<◌}
 use native.Mathlib.Omega.{arith}
 use borrow.Author.Tests.{eq-eqb, ne_eqb, eqb-true, eqb-false, le-ltb, ltb-true, ltb-false}
-use lib.Dec.{eqb, ltb}
 use Rattle.octets.proofs.Parts.{agrees_equal}
 use Rattle.credentials.specs.Credentials.{challenge_key, hash_under_challenge, hash_from_challenge}
 use Rattle.accounts.specs.Account.{no_hash}
@@ -37,7 +36,6 @@ use Rattle.verify.specs.declared.ChangeFault.TheVariants.{LengthOver, LengthOdd}
 use Rattle.verify.specs.declared.ChangeFault.TheVariants.{OldHashWrong, ResponseWrong}
 use Rattle.verify.specs.declared.ChangeFault.TheVariants.{LmNotAllowed, LengthOverLm}
 use Rattle.verify.specs.declared.ChangeFault.TheVariants.{HashAbsent, HashWrong}
-use Rattle.verify.specs.declared.CheckedChange.{CheckedChange}
 use Rattle.verify.specs.declared.Terms.{Terms}
 use Rattle.verify.proofs.Accepted.{denied, agreed}
 use Rattle.verify.proofs.FirstFault.{

@@ -1,6 +1,5 @@
 -- `issued::is_bad_buffer` meets its contract.
 -- Assumes nothing.
-use borrow.Author.Rules.{rules}
 use borrow.Author.Tests.{eq-eqb, ne_eqb, lt-ltb, le-ltb}
 use Rattle.issued.specs.Issued.{bad_buffer}
 use Rattle.issued.proofs.is_bad_buffer.Goals as goal

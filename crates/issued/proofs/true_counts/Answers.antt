@@ -1,13 +1,10 @@
 -- `issued::true_counts` meets its contract.
 -- Assumes nothing.
-use mathlib.Core.Bool.{Bool, cond, true, false}
-use mathlib.Core.List.{List}
-use mathlib.Core.Path.{◌≡◌, sym, ap, ◌∙◌}
+use mathlib.Core.Path.{sym, ◌∙◌}
 use Prim.Native.Nat.{ℕ}
 use native.Mathlib.Omega.{arith}
-use borrow.Author.Rules.{rules}
 use lib.ListN.{length-replicate}
-use Rattle.issued.specs.Issued.{bad_buffer, entries, true_counts}
+use Rattle.issued.specs.Issued.{entries}
 use Rattle.issued.proofs.Counting.{counted, zeros_room}
 use Rattle.issued.proofs.Spending.{sound, places_fit}
 use Rattle.issued.proofs.true_counts.Goals as goal

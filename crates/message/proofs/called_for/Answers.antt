@@ -1,6 +1,5 @@
 -- `message::called_for` meets its contract.
 -- Assumes nothing.
-use borrow.Author.Rules.{rules}
 use borrow.Author.Tests.{eq-eqb, ne_eqb, le-leb, lt-leb, lt-ltb}
 use Rattle.message.specs.Reasons.{authentication_failure, password_expired}
 use Rattle.message.specs.Message.{called_for}

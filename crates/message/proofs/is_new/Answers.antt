@@ -1,7 +1,6 @@
 -- `message::is_new` meets its contract.
 -- Assumes nothing.
 use mathlib.Core.Path.{ap, ◌∙◌}
-use borrow.Author.Rules.{rules}
 use Rattle.message.specs.Inner.{lacks}
 use Rattle.message.proofs.is_new.Goals as goal
 

@@ -1,7 +1,6 @@
 -- `message::is_nowhere` meets its contract. (The check finds this proof by itself. It stands here
 -- so that the edit `last_counts` is refused at the promise that it breaks.)
 -- Assumes nothing.
-use borrow.Author.Rules.{rules}
 use Rattle.message.proofs.is_nowhere.Goals as goal
 
 pub returns-in-At : goal.returns-in-At

@@ -5,7 +5,6 @@ use mathlib.Core.List.{List}
 use mathlib.Core.Option.{Option, none, some}
 use Prim.Native.Nat.{ℕ}
 use lib.Dec.{lit<, lit≤}
-use borrow.Author.Rules.{rules}
 use Rattle.message.specs.declared.Place.{Place}
 use Rattle.octets.specs.Digits.{number_from}
 use Rattle.message.specs.Message.{words, digits_of, first_field, field_e, field_r, field_v, field_c, number_or, new_challenge_from}
@@ -18,59 +17,45 @@ SmallAt base o = IfSome (Small base) o
 
 pub number_or-e-requires : goal.number_or-e-requires
 number_or-e-requires c =
-    let s = c in
-    let ws = words s.args.message.now in
-    let here = sym (ap (λ (p : ParsedFields). p.e) s.requires) in
-    (lit< tt, subst (SmallAt 10) here (first_small 69 10 1 10 ws (lit< tt) (lit≤ tt)))
+    let here = sym (ap (λ (p : ParsedFields). p.e) c.requires) in
+    (lit< tt, subst (SmallAt 10) here (first_small 69 10 1 10 (words c.args.message.now) (lit< tt) (lit≤ tt)))
 
 pub number_or-r-requires : goal.number_or-r-requires
 number_or-r-requires c =
-    let s = c in
-    let ws = words s.args.message.now in
-    let here = sym (ap (λ (p : ParsedFields). p.r) s.requires) in
-    (lit< tt, subst (SmallAt 2) here (first_small 82 2 1 1 ws (lit< tt) (lit≤ tt)))
+    let here = sym (ap (λ (p : ParsedFields). p.r) c.requires) in
+    (lit< tt, subst (SmallAt 2) here (first_small 82 2 1 1 (words c.args.message.now) (lit< tt) (lit≤ tt)))
 
 pub number_or-v-requires : goal.number_or-v-requires
 number_or-v-requires c =
-    let s = c in
-    let ws = words s.args.message.now in
-    let here = sym (ap (λ (p : ParsedFields). p.v) s.requires) in
-    (lit< tt, subst (SmallAt 10) here (first_small 86 10 1 10 ws (lit< tt) (lit≤ tt)))
+    let here = sym (ap (λ (p : ParsedFields). p.v) c.requires) in
+    (lit< tt, subst (SmallAt 10) here (first_small 86 10 1 10 (words c.args.message.now) (lit< tt) (lit≤ tt)))
 
 pub new_challenge_at-c-requires : goal.new_challenge_at-c-requires
 new_challenge_at-c-requires c =
-    let s = c in
-    let here = sym (ap (λ (p : ParsedFields). p.c) s.requires) in
-    subst (IfSome Eight) here (first_eight (words s.args.message.now))
+    let here = sym (ap (λ (p : ParsedFields). p.c) c.requires) in
+    subst (IfSome Eight) here (first_eight (words c.args.message.now))
 
 pub returns-in-At : goal.returns-in-At
 returns-in-At c =
-    let at-v = c in
-    let at-r = at-v in
-    let at-e = at-r in
-    let told = at-e in
-    let s = told in
-    let m = s.args.message.now in
+    let m = c.args.message.now in
     let ws = words m in
-    let place = told.in-At.given in
-    let ds : List ℕ = digits_of (word_at m place.0.0) in
+    let at = c.in-At.is in
+    let ds : List ℕ = digits_of (word_at m c.in-At.field-0) in
     let fe : first_field field_e ws ≡ some ds =
-    sym (ap (λ (p : ParsedFields). p.e) s.requires) ∙ ap (digits_at m) place.1 in
-    let e : at-e.number_or-e.result ≡ number_from 10 0 ds =
-    at-e.number_or-e.ensures ∙ ap (λ (p : Place). number_or 10 0 (digits_at m p)) place.1 in
-    let r : at-r.number_or-r.result ≡ number_or 2 0 (first_field field_r ws) =
-    at-r.number_or-r.ensures ∙ ap (λ (p : ParsedFields). number_or 2 0 p.r) s.requires in
-    let v : at-v.number_or-v.result ≡ number_or 10 1 (first_field field_v ws) =
-    at-v.number_or-v.ensures ∙ ap (λ (p : ParsedFields). number_or 10 1 p.v) s.requires in
+    sym (ap (λ (p : ParsedFields). p.e) c.requires) ∙ ap (digits_at m) at in
+    let e : c.number_or-e.result ≡ number_from 10 0 ds =
+    c.number_or-e.ensures ∙ ap (λ (p : Place). number_or 10 0 (digits_at m p)) at in
+    let r : c.number_or-r.result ≡ number_or 2 0 (first_field field_r ws) =
+    c.number_or-r.ensures ∙ ap (λ (p : ParsedFields). number_or 2 0 p.r) c.requires in
+    let v : c.number_or-v.result ≡ number_or 10 1 (first_field field_v ws) =
+    c.number_or-v.ensures ∙ ap (λ (p : ParsedFields). number_or 10 1 p.v) c.requires in
     let g : c.new_challenge_at-c.result ≡ new_challenge_from (first_field field_c ws) =
-    c.new_challenge_at-c.ensures ∙ ap (λ (p : ParsedFields). new_challenge_from p.c) s.requires in
+    c.new_challenge_at-c.ensures ∙ ap (λ (p : ParsedFields). new_challenge_from p.c) c.requires in
     rw fe (cc)
 
 pub returns-in-Nowhere : goal.returns-in-Nowhere
 returns-in-Nowhere c =
-    let told = c in
-    let s = told in
-    let m = s.args.message.now in
+    let m = c.args.message.now in
     let e : first_field field_e (words m) ≡ none =
-    sym (ap (λ (p : ParsedFields). p.e) s.requires) ∙ ap (digits_at m) told.in-Nowhere.is in
+    sym (ap (λ (p : ParsedFields). p.e) c.requires) ∙ ap (digits_at m) c.in-Nowhere.is in
     rw e c.refused_with.ensures

@@ -1,7 +1,6 @@
 -- `message::kind_of` meets its contract.
 -- Assumes nothing.
 use mathlib.Core.Path.{sym, ◌∙◌}
-use borrow.Author.Rules.{rules}
 use Rattle.message.specs.Message.{field_of}
 use Rattle.message.specs.Inner.{word_kind_of}
 use Rattle.message.proofs.kind_of.Goals as goal

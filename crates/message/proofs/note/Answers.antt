@@ -1,7 +1,6 @@
 -- `message::note` meets its contract.
 -- Assumes nothing.
 use mathlib.Core.Path.{ap, ◌∙◌}
-use borrow.Author.Rules.{rules}
 use Rattle.message.specs.declared.WordKind.{WordKind}
 use Rattle.message.specs.declared.Place.TheVariants.{At}
 use Rattle.message.specs.declared.Fields.{Fields}

@@ -1,8 +1,5 @@
-use Prim.Native.Nat.{◌-◌}
 use native.Mathlib.Omega.{arith}
-use borrow.Author.Rules.{rules}
-use lib.ListN.{length}
-use Rattle.message.proofs.Loops.{Counted, none_counted, number_fits, one_counted, all_counted}
+use Rattle.message.proofs.Loops.{none_counted, number_fits, one_counted, all_counted}
 use Rattle.message.proofs.number.Goals as goal
 
 pub loop-i-init : goal.loop-i-init

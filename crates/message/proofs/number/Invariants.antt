@@ -2,10 +2,8 @@
 -- digits.
 -- Assumes nothing.
 use Prim.Native.Nat.{◌-◌}
-use native.Mathlib.Omega.{arith}
-use borrow.Author.Rules.{rules}
 use lib.ListN.{length}
-use Rattle.message.proofs.Loops.{Counted, none_counted, number_fits, one_counted, all_counted}
+use Rattle.message.proofs.Loops.{Counted}
 use Rattle.message.proofs.number.Given as goal
 
 abbrev pub invariant-loop-i : goal.invariant-loop-i

@@ -4,7 +4,6 @@ use mathlib.Core.Path.{sym, ap, subst, ◌∙◌}
 use mathlib.Core.List.{List}
 use mathlib.Core.Option.{Option}
 use Prim.Native.Nat.{ℕ}
-use borrow.Author.Rules.{rules}
 use Rattle.message.specs.Message.{number_or}
 use Rattle.message.specs.Inner.{IfSome, Small}
 use Rattle.message.proofs.Formed.{found}
@@ -12,17 +11,12 @@ use Rattle.message.proofs.number_or.Goals as goal
 
 pub number-requires : goal.number-requires
 number-requires c =
-    let p = c in
-    let s = p in
-    let m = s.args.message.now in
-    let here = found m p.place.given.1 c.word_at.ensures c.digits_of.ensures in
-    (s.requires.0, subst (λ (o : Option (List ℕ)). IfSome (Small s.args.base) o) here s.requires.1)
+    let a = c.args in
+    let here = found a.message.now c.in-At.is c.word_at.ensures c.digits_of.ensures in
+    (c.requires.0, subst (λ (o : Option (List ℕ)). IfSome (Small a.base) o) here c.requires.1)
 
 pub returns-in-At : goal.returns-in-At
 returns-in-At c =
-    let p = c in
-    let s = p in
-    let d = c in
-    let m = s.args.message.now in
-    let here = found m p.place.given.1 d.word_at.ensures d.digits_of.ensures in
-    c.number.ensures ∙ sym (ap (number_or s.args.base s.args.missing) here)
+    let a = c.args in
+    let here = found a.message.now c.in-At.is c.word_at.ensures c.digits_of.ensures in
+    c.number.ensures ∙ sym (ap (number_or a.base a.missing) here)

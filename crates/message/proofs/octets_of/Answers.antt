@@ -1,7 +1,6 @@
 -- `message::octets_of` meets its contract.
 -- Assumes nothing.
 use mathlib.Core.Path.{◌∙◌}
-use borrow.Author.Rules.{rules}
 use Rattle.message.proofs.Loops.{eight_pairs}
 use Rattle.message.proofs.octets_of.Goals as goal
 

@@ -1,7 +1,6 @@
 -- `message::read` meets its contract.
 -- Assumes nothing.
 use mathlib.Core.Path.{◌≡◌, sym, ◌∙◌}
-use borrow.Author.Rules.{rules}
 use borrow.Author.Tests.{lt-ltb, le-ltb}
 use Rattle.message.specs.Message.{read_message}
 use Rattle.message.proofs.Laws.{message_told}

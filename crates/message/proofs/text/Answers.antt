@@ -1,6 +1,5 @@
 -- `message::text` meets its contract.
 -- Assumes nothing.
-use borrow.Author.Rules.{rules}
 use Rattle.message.specs.Message.{text_of}
 use Rattle.message.proofs.text.Goals as goal
 

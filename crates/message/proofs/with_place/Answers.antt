@@ -1,6 +1,5 @@
 -- `message::with_place` meets its contract.
 -- Assumes nothing.
-use borrow.Author.Rules.{rules}
 use Rattle.message.proofs.with_place.Goals as goal
 
 pub returns-in-Error : goal.returns-in-Error

@@ -1,7 +1,6 @@
 -- `message::word_at` meets its contract.
 -- Assumes nothing.
 use mathlib.Core.Path.{ap, ◌∙◌}
-use borrow.Author.Rules.{rules}
 use Rattle.octets.specs.Split.{before}
 use Rattle.message.proofs.Words.{word_before}
 use Rattle.message.proofs.word_at.Goals as goal

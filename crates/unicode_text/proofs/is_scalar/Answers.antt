@@ -1,6 +1,5 @@
 -- `unicode::is_scalar` meets its contract.
 -- Assumes nothing.
-use borrow.Author.Rules.{rules}
 use borrow.Author.Tests.{lt-ltb, le-ltb}
 use Rattle.unicode_text.proofs.is_scalar.Goals as goal
 

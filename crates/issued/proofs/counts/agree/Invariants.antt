@@ -1,16 +1,12 @@
 -- `issued::counts::agree` meets its contract. The loop's invariant: nothing differed yet and the
 -- rest agrees, exactly where the whole agrees.
 -- Assumes nothing.
-use mathlib.Core.Path.{◌≡◌, refl, sym, ◌∙◌}
+use mathlib.Core.Path.{◌≡◌}
 use mathlib.Core.Bool.{◌&&◌}
 use Prim.Native.Nat.{◌-◌, ◌≤◌}
-use native.Mathlib.Numerals.{add-one}
-use native.Mathlib.Omega.{arith}
-use borrow.Author.Rules.{rules}
 use lib.Dec.{eqb}
 use lib.ListN.{length, drop}
 use Rattle.octets.specs.Parts.{agrees}
-use Rattle.octets.proofs.Parts.{agrees_turn, agrees_end, agrees_lengths}
 use Rattle.issued.proofs.counts.agree.Given as goal
 
 abbrev pub invariant-loop-i : goal.invariant-loop-i

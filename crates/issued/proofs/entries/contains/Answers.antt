@@ -3,12 +3,11 @@ use mathlib.Core.List.{List}
 use mathlib.Core.Path.{◌≡◌, refl, sym, ap, ◌∙◌}
 use Prim.Native.Nat.{ℕ, ◌-◌, ◌<◌}
 use native.Mathlib.Omega.{arith}
-use borrow.Author.Rules.{rules}
 use lib.ListN.{length, take, drop}
 use lib.Seq.{length-take-le}
 use Rattle.octets.specs.Parts.{agrees}
 use Rattle.issued.specs.Issued.{entries, contains}
-use Rattle.issued.proofs.Listing.{Lie, entries_next, rest_part, first_fits, rest_lies}
+use Rattle.issued.proofs.Listing.{entries_next, rest_part, first_fits, rest_lies}
 use Rattle.issued.proofs.entries.contains.Goals as goal
 
 -- the first that is left is the entry, or it stands behind that one

@@ -1,17 +1,10 @@
 -- `issued::entries::contains` meets its contract. The loop's invariant: the entry stands among
 -- those that are left exactly where it stands among all.
 -- Assumes nothing.
-use mathlib.Core.Bool.{Bool, true, false, ◌||◌}
-use mathlib.Core.List.{List}
-use mathlib.Core.Path.{◌≡◌, refl, sym, ap, ◌∙◌}
-use Prim.Native.Nat.{ℕ, ◌-◌, ◌<◌}
-use native.Mathlib.Omega.{arith}
-use borrow.Author.Rules.{rules}
-use lib.ListN.{length, take, drop}
-use lib.Seq.{length-take-le}
-use Rattle.octets.specs.Parts.{agrees}
+use mathlib.Core.Path.{◌≡◌}
+use lib.ListN.{length}
 use Rattle.issued.specs.Issued.{entries, contains}
-use Rattle.issued.proofs.Listing.{Lie, entries_next, rest_part, first_fits, rest_lies}
+use Rattle.issued.proofs.Listing.{Lie}
 use Rattle.issued.proofs.entries.contains.Given as goal
 
 abbrev pub invariant-loop-left : goal.invariant-loop-left

@@ -1,10 +1,7 @@
 use mathlib.Core.Path.{refl, sym, ◌∙◌}
 use native.Mathlib.Omega.{arith}
-use borrow.Author.Rules.{rules}
-use Rattle.issued.specs.Issued.{entries}
-use Rattle.issued.specs.Inner.{raised}
 use Rattle.issued.proofs.Listing.{first_fits}
-use Rattle.issued.proofs.Counting.{Uncounted, raise_fits, raise_next, all_counted}
+use Rattle.issued.proofs.Counting.{raise_fits, raise_next, all_counted}
 use Rattle.issued.proofs.entries.count.Goals as goal
 
 pub loop-left-init : goal.loop-left-init

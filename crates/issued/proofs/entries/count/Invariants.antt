@@ -1,13 +1,9 @@
 -- `issued::entries::count` meets its contract. The loop's invariant: the entries that are left are
 -- still to be counted.
 -- Assumes nothing.
-use mathlib.Core.Path.{refl, sym, ◌∙◌}
-use native.Mathlib.Omega.{arith}
-use borrow.Author.Rules.{rules}
 use Rattle.issued.specs.Issued.{entries}
 use Rattle.issued.specs.Inner.{raised}
-use Rattle.issued.proofs.Listing.{first_fits}
-use Rattle.issued.proofs.Counting.{Uncounted, raise_fits, raise_next, all_counted}
+use Rattle.issued.proofs.Counting.{Uncounted}
 use Rattle.issued.proofs.entries.count.Given as goal
 
 abbrev pub invariant-loop-left : goal.invariant-loop-left

@@ -3,8 +3,6 @@
 use mathlib.Core.Path.{sym}
 use Prim.Native.Nat.{◌-◌}
 use native.Mathlib.Omega.{arith}
-use borrow.Author.Rules.{rules}
-use borrow.Author.Tests.{not-true}
 use lib.ListN.{length}
 use Rattle.issued.proofs.Counting.{none_contains}
 use Rattle.issued.proofs.entries.is_sought.Goals as goal

@@ -2,11 +2,9 @@ use mathlib.Core.Bool.{false}
 use mathlib.Core.Path.{refl, sym, ap, ◌∙◌}
 use Prim.Native.Nat.{◌-◌}
 use native.Mathlib.Omega.{arith}
-use borrow.Author.Rules.{rules}
 use lib.ListN.{length, length-replicate}
-use Rattle.issued.specs.Issued.{entries}
 use Rattle.issued.proofs.Listing.{first_fits}
-use Rattle.issued.proofs.Marking.{Unmarked, marked_next, marked_all}
+use Rattle.issued.proofs.Marking.{marked_next, marked_all}
 use Rattle.issued.proofs.entries.mark.Goals as goal
 
 pub loop-left-init : goal.loop-left-init

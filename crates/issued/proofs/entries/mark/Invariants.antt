@@ -1,15 +1,8 @@
 -- `issued::entries::mark` meets its contract. The loop's invariant: the entries that are left are
 -- still to be marked.
 -- Assumes nothing.
-use mathlib.Core.Bool.{false}
-use mathlib.Core.Path.{refl, sym, ap, ◌∙◌}
-use Prim.Native.Nat.{◌-◌}
-use native.Mathlib.Omega.{arith}
-use borrow.Author.Rules.{rules}
-use lib.ListN.{length, length-replicate}
 use Rattle.issued.specs.Issued.{entries}
-use Rattle.issued.proofs.Listing.{first_fits}
-use Rattle.issued.proofs.Marking.{Unmarked, marked_next, marked_all}
+use Rattle.issued.proofs.Marking.{Unmarked}
 use Rattle.issued.proofs.entries.mark.Given as goal
 
 abbrev pub invariant-loop-left : goal.invariant-loop-left

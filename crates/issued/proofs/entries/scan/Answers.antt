@@ -1,35 +1,14 @@
-use mathlib.Core.Bool.{◌||◌}
-use mathlib.Core.List.{List}
 use mathlib.Core.Path.{◌≡◌, refl, sym, ap, ◌∙◌, subst}
 use Prim.Native.Nat.{ℕ, ◌*◌, ◌≤◌, ◌<◌}
 use native.Mathlib.Omega.{arith}
-use borrow.Author.Rules.{rules}
 use lib.ListN.{length, take}
 use lib.Seq.{length-take-le}
-use Rattle.issued.specs.Issued.{entries, contains, contains_any}
-use Rattle.issued.specs.Inner.{raised, Marked}
+use Rattle.issued.specs.Issued.{entries, contains}
+use Rattle.issued.specs.Inner.{Marked}
 use Rattle.issued.proofs.Listing.{first_fits}
-use Rattle.issued.proofs.Counting.{Uncounted, raise_fits, raise_next, all_counted}
+use Rattle.issued.proofs.Counting.{raise_fits, raise_next, all_counted}
 use Rattle.issued.proofs.Marking.{met_next, met_all}
 use Rattle.issued.proofs.entries.scan.Goals as goal
-use Rattle.issued.proofs.entries.scan.Goals.{In-loop-left}
-
--- ---- the places
-abbrev Loop : Type 0
-Loop = In-loop-left
-
-abbrev width : Loop → ℕ
-width c = c.args.width
-
-abbrev rest : Loop → List ℕ
-rest c = c.loop-left.rest.now
-
--- ---- inside the loop, the first entry that is left fits
-fits : (c : Loop) → width c ≤ length (rest c)
-fits c = first_fits _ _ _ (omega arith) c.loop-left.invariant.0.lie
-
-first_length : (c : Loop) → length (take (width c) (rest c)) ≡ width c
-first_length c = length-take-le (width c) (rest c) (fits c)
 
 pub loop-left-init : goal.loop-left-init
 loop-left-init c =
@@ -43,52 +22,54 @@ loop-left-init c =
       refl,
     )
 
+-- ---- inside the loop, the first entry that is left fits
 pub bounds-rest-width : goal.bounds-rest-width
-bounds-rest-width c = let l = c.before.before in omega
-    (arith, fits l, l.loop-left.invariant.0.lie.positive)
+bounds-rest-width c =
+    let h = c.loop-left.invariant.0 in
+    omega (arith, first_fits _ _ _ (omega arith) h.lie, h.lie.positive)
 
 pub raise-requires : goal.raise-requires
 raise-requires c = raise_fits _ _ _ _ _ (omega arith) c.loop-left.invariant.0 _
 
 pub slice_bounds-is_sought-end : goal.slice_bounds-is_sought-end
-slice_bounds-is_sought-end c = sym (first_length c.before.before.before.before.before.before)
+slice_bounds-is_sought-end c =
+    sym (length-take-le c.args.width c.loop-left.rest.now
+    (first_fits _ _ _ (omega arith) c.loop-left.invariant.0.lie))
 
 pub is_sought-requires : goal.is_sought-requires
 is_sought-requires c =
-    let l = c.before.before.before.before.before.before in
-    let s = l in
+    let a = c.args in
+    let p = c.requires in
     subst
-    (λ (k : ℕ). (0 < k) × (k * s.args.n ≤ length s.args.run.now)
-    × (length s.args.marks.now ≡ 256)
-    × Marked s.args.marks.now (entries k s.args.n s.args.run.now))
-    (sym (first_length l)) (s.pre.0, s.pre.2, s.pre.3, s.pre.4)
+    (λ (k : ℕ). (0 < k) × (k * a.n ≤ length a.run.now)
+    × (length a.marks.now ≡ 256)
+    × Marked a.marks.now (entries k a.n a.run.now))
+    (sym (length-take-le a.width c.loop-left.rest.now
+    (first_fits _ _ _ (omega arith) c.loop-left.invariant.0.lie)))
+    (p.0, p.2, p.3, p.4)
 
 pub slice_bounds-rest-count : goal.slice_bounds-rest-count
-slice_bounds-rest-count c = fits c.before.before.before.before.before.before.before.before
+slice_bounds-rest-count c = first_fits _ _ _ (omega arith) c.loop-left.invariant.0.lie
 
 pub slice_bounds-rest-start : goal.slice_bounds-rest-start
-slice_bounds-rest-start c = fits c.before.before.before.before.before.before.before.before
+slice_bounds-rest-start c = first_fits _ _ _ (omega arith) c.loop-left.invariant.0.lie
 
 pub loop-left-preserved : goal.loop-left-preserved
 loop-left-preserved c =
-    let e = c in
-    let o = e in
-    let k = o in
-    let l = k.before.before.before in
-    let h = l.loop-left in
-    let s = l in
-    let run = s.args.run.now in
-    let one = o.is_sought.ensures
-    ∙ ap (λ (n : ℕ). contains (entries n s.args.n run) (take (width l) (rest l)))
-    (first_length l) in (
-      raise_next _ _ _ _ _ (omega arith) h.inv.0 k.raise.ensures,
-      met_next (width l) h.left (rest l) (entries (width l) s.args.n run) h.met
-          (omega arith) e.either-met.ensures one ∙ h.inv.1,
+    let a = c.args in
+    let h = c.loop-left in
+    let run = a.run.now in
+    let one = c.is_sought.ensures
+    ∙ ap (λ (n : ℕ). contains (entries n a.n run) (take a.width h.rest.now))
+    (length-take-le a.width h.rest.now (first_fits _ _ _ (omega arith) h.invariant.0.lie)) in (
+      raise_next _ _ _ _ _ (omega arith) h.invariant.0 c.raise.ensures,
+      met_next a.width h.left h.rest.now (entries a.width a.n run) h.met
+          (omega arith) c.either-met.ensures one ∙ h.invariant.1,
     )
 
 -- ---- behind the loop
 pub shape_of-counts : goal.shape_of-counts
-shape_of-counts c = c.loop-left.invariant.0.size ∙ sym c.pre.5
+shape_of-counts c = c.loop-left.invariant.0.size ∙ sym c.requires.5
 
 pub returns : goal.returns
 returns c =

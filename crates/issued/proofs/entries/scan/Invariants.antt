@@ -2,18 +2,10 @@
 -- still to be counted, and one of them is sought, or one was met, exactly where one of all is.
 -- Assumes nothing.
 use mathlib.Core.Bool.{◌||◌}
-use mathlib.Core.List.{List}
-use mathlib.Core.Path.{◌≡◌, refl, sym, ap, ◌∙◌, subst}
-use Prim.Native.Nat.{ℕ, ◌*◌, ◌≤◌, ◌<◌}
-use native.Mathlib.Omega.{arith}
-use borrow.Author.Rules.{rules}
-use lib.ListN.{length, take}
-use lib.Seq.{length-take-le}
-use Rattle.issued.specs.Issued.{entries, contains, contains_any}
-use Rattle.issued.specs.Inner.{raised, Marked}
-use Rattle.issued.proofs.Listing.{first_fits}
-use Rattle.issued.proofs.Counting.{Uncounted, raise_fits, raise_next, all_counted}
-use Rattle.issued.proofs.Marking.{met_next, met_all}
+use mathlib.Core.Path.{◌≡◌}
+use Rattle.issued.specs.Issued.{entries, contains_any}
+use Rattle.issued.specs.Inner.{raised}
+use Rattle.issued.proofs.Counting.{Uncounted}
 use Rattle.issued.proofs.entries.scan.Given as goal
 
 abbrev pub invariant-loop-left : goal.invariant-loop-left

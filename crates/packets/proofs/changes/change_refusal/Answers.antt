@@ -1,6 +1,5 @@
 -- `packets::changes::change_refusal` meets its contract.
 -- Assumes nothing.
-use borrow.Author.Rules.{rules}
 use Rattle.packets.specs.Change.{change_refusal}
 use Rattle.packets.proofs.changes.change_refusal.Goals as goal
 

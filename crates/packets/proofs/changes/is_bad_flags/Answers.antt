@@ -1,6 +1,5 @@
 -- `packets::changes::is_bad_flags` meets its contract.
 -- Assumes nothing.
-use borrow.Author.Rules.{rules}
 use Rattle.packets.proofs.changes.is_bad_flags.Goals as goal
 
 pub returns : goal.returns

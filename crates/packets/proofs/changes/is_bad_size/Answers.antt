@@ -1,6 +1,5 @@
 -- `packets::changes::is_bad_size` meets its contract.
 -- Assumes nothing.
-use borrow.Author.Rules.{rules}
 use Rattle.packets.proofs.changes.is_bad_size.Goals as goal
 
 pub returns : goal.returns

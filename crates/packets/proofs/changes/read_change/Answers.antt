@@ -1,6 +1,5 @@
 -- `packets::changes::read_change` meets its contract.
 -- Assumes nothing.
-use borrow.Author.Rules.{rules}
 use Rattle.packets.proofs.Fields.{change_same}
 use Rattle.packets.proofs.changes.read_change.Goals as goal
 

@@ -1,6 +1,5 @@
 -- `packets::changes_one::change_one_refusal` meets its contract.
 -- Assumes nothing.
-use borrow.Author.Rules.{rules}
 use Rattle.packets.specs.ChangeOne.{change_one_refusal}
 use Rattle.packets.proofs.changes_one.change_one_refusal.Goals as goal
 

@@ -3,7 +3,6 @@
 use mathlib.Core.List.{List, ◌++◌}
 use mathlib.Core.Path.{ap, ap₂, ◌∙◌}
 use Prim.Native.Nat.{ℕ}
-use borrow.Author.Rules.{rules}
 use lib.ListN.{length}
 use Rattle.octets.specs.Parts.{over_at}
 use Rattle.octets.proofs.Laid as laid

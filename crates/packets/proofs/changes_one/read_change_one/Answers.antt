@@ -1,6 +1,5 @@
 -- `packets::changes_one::read_change_one` meets its contract.
 -- Assumes nothing.
-use borrow.Author.Rules.{rules}
 use Rattle.packets.proofs.Fields.{change_one_same}
 use Rattle.packets.proofs.changes_one.read_change_one.Goals as goal
 

@@ -1,32 +1,24 @@
 -- `packets::changes_one::write_change_one` meets its contract.
 -- Assumes nothing.
 use mathlib.Core.Path.{◌≡◌, sym, ◌∙◌}
-use borrow.Author.Rules.{rules}
 use Rattle.packets.specs.ChangeOne.{change_one_packet, change_one_write_refusal, change_one_written, change_one_out}
 use Rattle.packets.proofs.Writing.{nothing_written, packet_written, change_one_fits}
 use Rattle.packets.proofs.changes_one.write_change_one.Goals as goal
-use Rattle.packets.proofs.changes_one.write_change_one.Goals.{After-refuse_if-refusal}
-
-told : (c : After-refuse_if-refusal) → c.refuse_if-refusal.result ≡ change_one_write_refusal c.args.out.now
-unfolding change_one_write_refusal
-told c = cc
 
 pub put_change_one-length-requires : goal.put_change_one-length-requires
+unfolding change_one_write_refusal
 put_change_one-length-requires c =
-    let t = c.before.before in
-    change_one_fits t.args.out.now (sym (told t) ∙ c.if-refusal-ne0.false)
+    let told : c.refuse_if-refusal.result ≡ change_one_write_refusal c.args.out.now = cc in
+    change_one_fits c.args.out.now (sym told ∙ c.if-refusal-ne0.false)
 
 pub returns-then-refusal-ne0 : goal.returns-then-refusal-ne0
-unfolding change_one_written change_one_out
+unfolding change_one_written change_one_out change_one_write_refusal
 returns-then-refusal-ne0 c =
-    let t = c.before in
-    let a = t.args in
-    nothing_written (change_one_packet a.id a.fields) a.out.now (change_one_write_refusal a.out.now) (told t) c.if-refusal-ne0.true
+    let a = c.args in
+    nothing_written (change_one_packet a.id a.fields) a.out.now (change_one_write_refusal a.out.now) (cc) c.if-refusal-ne0.true
 
 pub returns : goal.returns
-unfolding change_one_written change_one_out
+unfolding change_one_written change_one_out change_one_write_refusal
 returns c =
-    let put = c in
-    let passed = put in
-    let a = passed.args in
-    packet_written (change_one_packet a.id a.fields) a.out.now (change_one_write_refusal a.out.now) (told passed.before) passed.if-refusal-ne0.false put.put_change_one-length.ensures
+    let a = c.args in
+    packet_written (change_one_packet a.id a.fields) a.out.now (change_one_write_refusal a.out.now) (cc) c.if-refusal-ne0.false c.put_change_one-length.ensures

@@ -1,6 +1,5 @@
 -- `packets::frames::is_bad_id` meets its contract.
 -- Assumes nothing.
-use borrow.Author.Rules.{rules}
 use Rattle.packets.proofs.frames.is_bad_id.Goals as goal
 
 pub returns : goal.returns

@@ -1,7 +1,6 @@
 -- `packets::frames::octet` meets its contract.
 -- Assumes nothing.
 use mathlib.Core.Path.{sym}
-use borrow.Author.Rules.{rules}
 use lib.ListN.{get_or-eq_default}
 use Rattle.packets.proofs.frames.octet.Goals as goal
 

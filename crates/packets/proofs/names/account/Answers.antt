@@ -1,7 +1,6 @@
 -- `packets::names::account` meets its contract.
 -- Assumes nothing.
 use mathlib.Core.Path.{ap, ◌∙◌}
-use borrow.Author.Rules.{rules}
 use Rattle.packets.specs.declared.Part.{Part}
 use Rattle.packets.proofs.Places.{cut, account_cut}
 use Rattle.packets.proofs.names.account.Goals as goal

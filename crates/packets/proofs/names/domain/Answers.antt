@@ -1,7 +1,6 @@
 -- `packets::names::domain` meets its contract.
 -- Assumes nothing.
 use mathlib.Core.Path.{sym, ap, ◌∙◌}
-use borrow.Author.Rules.{rules}
 use Rattle.packets.specs.declared.Part.{Part}
 use Rattle.packets.proofs.Places.{cut, domain_cut, domain_home, domain_unfit}
 use Rattle.packets.proofs.names.domain.Goals as goal

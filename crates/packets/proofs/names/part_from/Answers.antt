@@ -1,6 +1,5 @@
 -- `packets::names::part_from` meets its contract.
 -- Assumes nothing.
-use borrow.Author.Rules.{rules}
 use Rattle.packets.proofs.names.part_from.Goals as goal
 
 pub returns : goal.returns

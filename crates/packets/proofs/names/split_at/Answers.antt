@@ -1,7 +1,6 @@
 -- `packets::names::split_at` meets its contract.
 -- Assumes nothing.
 use mathlib.Core.Path.{ap}
-use borrow.Author.Rules.{rules}
 use lib.ListN.{length}
 use Rattle.packets.proofs.names.split_at.Goals as goal
 

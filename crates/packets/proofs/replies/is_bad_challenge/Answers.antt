@@ -2,8 +2,6 @@
 -- Assumes nothing.
 use native.Mathlib.Omega.{arith}
 use borrow.Author.Tests.{lt-ltb, le-ltb, eq-eqb, ne_eqb}
-use borrow.Author.Rules.{rules}
-use lib.ListN.{length}
 use Rattle.packets.specs.Frame.{octet, length_of}
 use Rattle.packets.proofs.replies.is_bad_challenge.Goals as goal
 

@@ -1,7 +1,5 @@
 -- `packets::responses::is_bad_flag` meets its contract.
 -- Assumes nothing.
-use borrow.Author.Rules.{rules}
-use Rattle.packets.specs.Frame.{octet}
 use Rattle.packets.proofs.responses.is_bad_flag.Goals as goal
 
 pub returns : goal.returns

@@ -2,10 +2,8 @@
 -- Assumes nothing.
 use native.Mathlib.Omega.{arith}
 use borrow.Author.Tests.{lt-ltb, le-ltb}
-use borrow.Author.Rules.{rules}
-use lib.ListN.{length}
 use Rattle.packets.specs.Sizes.{shortest_response, longest_response}
-use Rattle.packets.specs.Frame.{octet, length_of}
+use Rattle.packets.specs.Frame.{length_of}
 use Rattle.packets.proofs.responses.is_bad_size.Goals as goal
 
 pub returns-then-n-lt-SHORTEST_RESPONSE : goal.returns-then-n-lt-SHORTEST_RESPONSE

@@ -11,34 +11,22 @@ use Rattle.octets.proofs.Laid as laid
 use Rattle.packets.proofs.Writing as writing
 use Rattle.packets.proofs.responses.put_response.Goals as goal
 
-lm : (c : goal.Start) → length c.args.fields.lm ≡ 24
-lm c = search rules
-
-nt : (c : goal.Start) → length c.args.fields.nt ≡ 24
-nt c = search rules
-
 pub overflow_cast-n : goal.overflow_cast-n
 overflow_cast-n c = let short = c.requires.0 in omega arith
 
 pub returns : goal.returns
 unfolding response_packet
 returns c =
-    let c₆ = c in
-    let c₅ = c₆ in
-    let c₄ = c₅ in
-    let c₃ = c₄ in
-    let c₂ = c₃ in
-    let c₁ = c₂ in
-    let h = c₁ in
-    let start = h.before.before.before in
-    let f = start.args.fields in
-    let name = start.args.name.now in
-    let s₁ = laid.first 4 (ap length h.head-first.ensures) c₁.copy_at.ensures in
-    let s₂ = laid.next s₁ (49 ∷ []) 1 refl c₂.copy_at-2.ensures in
-    let s₃ = laid.next s₂ f.lm 24 (lm start) c₃.copy_at-3.ensures in
-    let s₄ = laid.next s₃ f.nt 24 (nt start) c₄.copy_at-4.ensures in
-    let s₅ = laid.next s₄ (f.flag ∷ []) 1 refl c₅.copy_at-5.ensures in
-    let s₆ = laid.next s₅ name (length name) refl c₆.copy_at-6.ensures in
-    let order = writing.response_order h.head-first.result f.lm f.nt name 49 f.flag in
-    let done = writing.framed_laid 2 start.args.id (49 ∷ (f.lm ++ (f.nt ++ (f.flag ∷ name)))) s₆ h.head-first.ensures order start.pre.1 in
+    let f = c.args.fields in
+    let name = c.args.name.now in
+    let lm : length f.lm ≡ 24 = search rules in
+    let nt : length f.nt ≡ 24 = search rules in
+    let s₁ = laid.first 4 (ap length c.head-first.ensures) c.copy_at.ensures in
+    let s₂ = laid.next s₁ (49 ∷ []) 1 refl c.copy_at-2.ensures in
+    let s₃ = laid.next s₂ f.lm 24 lm c.copy_at-3.ensures in
+    let s₄ = laid.next s₃ f.nt 24 nt c.copy_at-4.ensures in
+    let s₅ = laid.next s₄ (f.flag ∷ []) 1 refl c.copy_at-5.ensures in
+    let s₆ = laid.next s₅ name (length name) refl c.copy_at-6.ensures in
+    let order = writing.response_order c.head-first.result f.lm f.nt name 49 f.flag in
+    let done = writing.framed_laid 2 c.args.id (49 ∷ (f.lm ++ (f.nt ++ (f.flag ∷ name)))) s₆ c.head-first.ensures order c.requires.1 in
     (sym done.0, done.1.1)

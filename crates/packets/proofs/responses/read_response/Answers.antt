@@ -1,6 +1,5 @@
 -- `packets::responses::read_response` meets its contract.
 -- Assumes nothing.
-use borrow.Author.Rules.{rules}
 use Rattle.packets.proofs.Fields.{response_same}
 use Rattle.packets.proofs.responses.read_response.Goals as goal
 

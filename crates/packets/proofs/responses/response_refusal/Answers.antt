@@ -1,6 +1,5 @@
 -- `packets::responses::response_refusal` meets its contract.
 -- Assumes nothing.
-use borrow.Author.Rules.{rules}
 use Rattle.packets.specs.Response.{response_refusal}
 use Rattle.packets.proofs.responses.response_refusal.Goals as goal
 

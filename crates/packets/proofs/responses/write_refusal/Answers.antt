@@ -1,6 +1,5 @@
 -- `packets::responses::write_refusal` meets its contract.
 -- Assumes nothing.
-use borrow.Author.Rules.{rules}
 use Rattle.packets.specs.Response.{response_write_refusal}
 use Rattle.packets.proofs.responses.write_refusal.Goals as goal
 

@@ -8,7 +8,6 @@ use borrow.Author.Tests.{lt-ltb, le-ltb}
 use lib.Dec.{leb}
 use Rattle.unicode_text.specs.Utf16.{is_high, is_low}
 use Rattle.unicode_text.proofs.Ranges.{between_both}
-use borrow.Author.Rules.{rules}
 use Rattle.unicode_text.proofs.utf16.char_from_units.Goals as goal
 use Rattle.unicode_text.proofs.utf16.char_from_units.Goals.{After-both, Then-both}
 

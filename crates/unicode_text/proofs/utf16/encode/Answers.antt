@@ -1,7 +1,6 @@
 -- `unicode::utf16::encode` meets its contract.
 -- Assumes nothing.
 use mathlib.Core.Path.{sym, ap, ◌∙◌}
-use borrow.Author.Rules.{rules}
 use borrow.Author.Tests.{lt-ltb}
 use Rattle.octets.specs.Parts.{over}
 use Rattle.unicode_text.specs.Scalars.{encoding_of}

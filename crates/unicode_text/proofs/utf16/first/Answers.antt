@@ -7,7 +7,6 @@ use Rattle.unicode_text.specs.declared.Char.{Char}
 use Rattle.unicode_text.specs.Utf16.{char_from_units, utf16_first}
 use Rattle.unicode_text.specs.Inner.{NotWidened}
 use Rattle.unicode_text.proofs.CodecUtf16.{not_widened}
-use borrow.Author.Rules.{rules}
 use Rattle.unicode_text.proofs.utf16.first.Goals as goal
 
 pub returns : goal.returns

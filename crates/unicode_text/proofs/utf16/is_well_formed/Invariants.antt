@@ -1,15 +1,10 @@
 -- `unicode::utf16::is_well_formed` meets its contract. The loop's invariant: what is left is
 -- well-formed exactly where all is.
 -- Assumes nothing.
-use mathlib.Core.Path.{◌≡◌, refl, sym, ◌∙◌}
-use Prim.Native.Nat.{◌≤◌}
-use native.Mathlib.Omega.{arith}
-use borrow.Author.Rules.{rules}
+use mathlib.Core.Path.{◌≡◌}
 use lib.ListN.{length}
 use Rattle.unicode_text.specs.Scalars.{well_formed}
 use Rattle.unicode_text.specs.Utf16.{utf16_first}
-use Rattle.unicode_text.proofs.Texts.{shorter, told_fits, formed_bad, formed_next, formed_end}
-use Rattle.unicode_text.proofs.CodecUtf16.{utf16_codec}
 use Rattle.unicode_text.proofs.utf16.is_well_formed.Given as goal
 
 abbrev pub invariant-loop-rest : goal.invariant-loop-rest

@@ -1,7 +1,6 @@
 -- `unicode::utf16::pair` meets its contract.
 -- Assumes nothing.
 use mathlib.Core.Path.{refl}
-use borrow.Author.Rules.{rules}
 use Rattle.octets.specs.Parts.{over}
 use Rattle.unicode_text.proofs.utf16.pair.Goals as goal
 

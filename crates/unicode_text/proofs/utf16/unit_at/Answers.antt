@@ -1,7 +1,6 @@
 -- `unicode::utf16::unit_at` meets its contract.
 -- Assumes nothing.
 use native.Mathlib.Omega.{arith}
-use borrow.Author.Rules.{rules}
 use Rattle.unicode_text.proofs.utf16.unit_at.Goals as goal
 
 pub overflow_mul-result : goal.overflow_mul-result

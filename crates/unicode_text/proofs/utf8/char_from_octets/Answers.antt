@@ -2,7 +2,6 @@
 -- Assumes nothing.
 use mathlib.Core.Bool.{Bool, ◌&&◌}
 use mathlib.Core.Path.{sym, ap, ap₂, ◌∙◌}
-use borrow.Author.Rules.{rules}
 use borrow.Author.Tests.{lt-ltb}
 use Rattle.unicode_text.specs.Utf8.{char_if_valid}
 use Rattle.unicode_text.proofs.CodecUtf8.{value_two, value_three, value_four, from_two}

@@ -2,7 +2,6 @@
 -- Assumes nothing.
 use mathlib.Core.Bool.{Bool, ◌&&◌}
 use mathlib.Core.Path.{◌≡◌, sym, ap, ◌∙◌}
-use borrow.Author.Rules.{rules}
 use lib.Dec.{leb}
 use Rattle.unicode_text.specs.Scalars.{is_scalar}
 use Rattle.unicode_text.proofs.utf8.char_if_valid.Goals as goal

@@ -3,7 +3,6 @@
 use borrow.Author.Tests.{lt-ltb, le-ltb}
 use Rattle.octets.specs.Parts.{over}
 use Rattle.unicode_text.specs.Utf8.{utf8_of}
-use borrow.Author.Rules.{rules}
 use Rattle.unicode_text.proofs.utf8.encode.Goals as goal
 
 pub returns-then-n-lt128 : goal.returns-then-n-lt128

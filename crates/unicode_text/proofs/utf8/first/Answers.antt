@@ -4,7 +4,6 @@ use mathlib.Core.Path.{ap₂, ◌∙◌}
 use Prim.Native.Nat.{ℕ}
 use lib.ListN.{get_or}
 use Rattle.unicode_text.specs.Utf8.{char_from_octets, utf8_first}
-use borrow.Author.Rules.{rules}
 use Rattle.unicode_text.proofs.utf8.first.Goals as goal
 
 pub returns : goal.returns

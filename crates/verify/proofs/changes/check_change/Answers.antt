@@ -1,7 +1,6 @@
 -- `verify::changes::check_change` meets its contract: each test is the definition's, and what was
 -- found in the block stands in their order.
 -- Assumes nothing.
-use borrow.Author.Rules.{rules}
 use mathlib.Core.Bool.{cond, not}
 use mathlib.Core.Path.{sym, ap, ap₂, ◌∙◌, subst}
 use Prim.Native.Nat.{◌%◌}
@@ -30,35 +29,27 @@ checked_block-found-requires c =
 pub returns : goal.returns
 unfolding checked_change change_fault content_for unsealed_as
 returns c =
-    let none = c in
-    let made = none in
-    let present = made in
-    let bit = present in
-    let length = bit in
-    let proof = length in
-    let inside = proof in
-    let a = inside.args in
+    let a = c.args in
     let f = a.fields in
     let n = length_for a.kept f in
     let o = unsealed_as a.kept.nt.octets f.block in
     let absent = not a.kept.nt.present in
     let clear = not (eqb (f.flags % 2) 1) in
-    let found = inside.checked_block-found.result in
+    let found = c.checked_block-found.result in
     let whole : CheckedBlock → CheckedChange =
     λ v. checked_with (composed absent clear v.fault (bad_verifier a.kept f v.hash)
     (bad_response a.challenge f v.hash)) (hash_of v.hash) no_hash in
     c.checked_with.ensures
-    ∙ ap₂ (checked_with present.fault_if-fault.result) made.hash_of.ensures
-    none.no_hash.ensures
+    ∙ ap₂ (checked_with c.fault_if-fault.result) c.hash_of.ensures c.no_hash.ensures
     ∙ ap (λ (x : ChangeFault). checked_with x (hash_of found.hash) no_hash)
-    (present.fault_if-fault.ensures
+    (c.fault_if-fault.ensures
     ∙ ap (cond absent NoNtHash)
-    (bit.fault_if-sent.ensures
+    (c.fault_if-sent.ensures
     ∙ ap (cond clear NoNtResponse)
-    (length.fault_before-inside.ensures
+    (c.fault_before-inside.ensures
     ∙ ap (λ (x : ChangeFault). cond (is_faultless found.fault) x found.fault)
-    proof.proof_fault-proof.ensures)))
+    c.proof_fault-proof.ensures)))
     ∙ ap whole
-    (inside.checked_block-found.ensures ∙ ap checked_block inside.unseal.ensures.0)
+    (c.checked_block-found.ensures ∙ ap checked_block c.unseal.ensures.0)
     ∙ by_tests absent clear (ltb 512 n) (eqb (n % 2) 1) n o (bad_verifier a.kept f)
     (bad_response a.challenge f)

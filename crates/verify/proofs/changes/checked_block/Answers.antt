@@ -20,24 +20,17 @@ hashable Over v = (omega arith, refl)
 hashable Odd v = (omega arith, refl)
 hashable (Password n) v = v
 
-whole : (c : goal.Start) → length c.args.unsealed.octets ≡ 512
-whole c = search rules
-
 pub hash_of_last-hash-requires : goal.hash_of_last-hash-requires
 hash_of_last-hash-requires c =
-    let s = c.before.before.before in
-    let k = s.args.unsealed.content in
-    let n = subst Hashable (sym c.content_length.ensures) (hashable k s.requires) in
-    (whole s, n.0, n.1)
+    let whole : length c.args.unsealed.octets ≡ 512 = search rules in
+    let n = subst Hashable (sym c.content_length.ensures)
+    (hashable c.args.unsealed.content c.requires) in
+    (whole, n.0, n.1)
 
 pub returns : goal.returns
 unfolding password_in
 returns c =
-    let fault = c in
-    let hash = fault in
-    let size = hash in
-    let o = size.args.unsealed in
     c.block_with.ensures
-    ∙ ap₂ block_with fault.content_fault.ensures
-    (hash.hash_of_last-hash.ensures
-    ∙ ap (λ (n : ℕ). nt_hash_of (password_in o n)) size.content_length.ensures)
+    ∙ ap₂ block_with c.content_fault.ensures
+    (c.hash_of_last-hash.ensures
+    ∙ ap (λ (n : ℕ). nt_hash_of (password_in c.args.unsealed n)) c.content_length.ensures)

@@ -1,6 +1,5 @@
 -- `verify::changes::proof_fault` meets its contract.
 -- Assumes nothing.
-use borrow.Author.Rules.{rules}
 use mathlib.Core.Bool.{Bool, cond, not}
 use mathlib.Core.Path.{ap, ap₂, ◌∙◌}
 use Rattle.octets.specs.Parts.{agrees}

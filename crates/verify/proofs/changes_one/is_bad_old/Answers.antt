@@ -1,6 +1,5 @@
 -- `verify::changes_one::is_bad_old` meets its contract.
 -- Assumes nothing.
-use borrow.Author.Rules.{rules}
 use mathlib.Core.Bool.{not}
 use mathlib.Core.Path.{ap, ◌∙◌}
 use Rattle.octets.specs.Parts.{agrees}

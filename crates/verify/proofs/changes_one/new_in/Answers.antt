@@ -1,6 +1,5 @@
 -- `verify::changes_one::new_in` meets its contract.
 -- Assumes nothing.
-use borrow.Author.Rules.{rules}
 use mathlib.Core.Path.{ap, ◌∙◌}
 use Rattle.accounts.specs.Account.{hash_of}
 use Rattle.verify.proofs.changes_one.new_in.Goals as goal

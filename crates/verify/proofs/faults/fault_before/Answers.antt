@@ -1,6 +1,5 @@
 -- `verify::faults::fault_before` meets its contract.
 -- Assumes nothing.
-use borrow.Author.Rules.{rules}
 use mathlib.Core.Bool.{Bool, cond}
 use mathlib.Core.Path.{sym, ap, ◌∙◌}
 use Rattle.verify.proofs.faults.fault_before.Goals as goal

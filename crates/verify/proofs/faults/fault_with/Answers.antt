@@ -1,7 +1,6 @@
 -- `verify::faults::fault_with` meets its contract: the choices, from the last to the first, are the
 -- definition's.
 -- Assumes nothing.
-use borrow.Author.Rules.{rules}
 use mathlib.Core.Bool.{cond}
 use mathlib.Core.Path.{ap, ◌∙◌}
 use lib.Dec.{eqb}

@@ -1,6 +1,5 @@
 -- `verify::lockout::failures_after` meets its contract: the choices are the definition's.
 -- Assumes nothing.
-use borrow.Author.Rules.{rules}
 use mathlib.Core.Bool.{cond}
 use mathlib.Core.Path.{ap₂, ◌∙◌}
 use Prim.Native.Nat.{ℕ}

@@ -1,6 +1,5 @@
 -- `verify::responses::check_response` meets its contract.
 -- Assumes nothing.
-use borrow.Author.Rules.{rules}
 use mathlib.Core.Bool.{Bool, not, ◌&&◌}
 use mathlib.Core.Path.{ap, ap₂, ◌∙◌}
 use Prim.Native.Nat.{ℕ}
@@ -18,18 +17,14 @@ checked found reason entry =
 pub returns : goal.returns
 unfolding response_reason
 returns c =
-    let r = c in
-    let n = r in
-    let v = n in
-    let l = v in
-    let a = l.args in
+    let a = c.args in
     let entry = a.lookup.entry in
     let found = a.lookup.found in
-    let reason = r.first_reason-reason.ensures
-    ∙ ap₂ (λ (t u : Bool). first_reason (found && (not t && u)) entry) l.is_locked-locked.ensures
-    v.is_valid-valid.ensures in
-    let failures = n.failures_after-failures.ensures
-    ∙ ap₂ (λ (t u : Bool). failures_after t u entry.failures) l.is_locked-locked.ensures
-    v.is_valid-valid.ensures in
+    let reason = c.first_reason-reason.ensures
+    ∙ ap₂ (λ (t u : Bool). first_reason (found && (not t && u)) entry) c.is_locked-locked.ensures
+    c.is_valid-valid.ensures in
+    let failures = c.failures_after-failures.ensures
+    ∙ ap₂ (λ (t u : Bool). failures_after t u entry.failures) c.is_locked-locked.ensures
+    c.is_valid-valid.ensures in
     let after = c.entry_failures-after.ensures ∙ ap (λ (k : ℕ). entry_failures k entry) failures in
     ap₂ (checked found) reason after

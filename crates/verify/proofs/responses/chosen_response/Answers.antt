@@ -9,12 +9,9 @@ use lib.ListN.{length}
 use Rattle.octets.proofs.Laid.{filled}
 use Rattle.verify.proofs.responses.chosen_response.Goals as goal
 
-same-lengths : (c : goal.Start) → length c.args.other ≡ length c.args.both
-same-lengths c = search rules
-
 pub returns : goal.returns
 returns c =
-    let s = c.before.before.before.before in
-    let a = s.args in
-    let whole = filled a.both a.other (same-lengths s) in
-    c.copy_if_both.ensures ∙ ap (λ (x : List ℕ). cond (a.a && a.b) x a.other) whole
+    let a = c.args in
+    let same : length a.other ≡ length a.both = search rules in
+    c.copy_if_both.ensures
+    ∙ ap (λ (x : List ℕ). cond (a.a && a.b) x a.other) (filled a.both a.other same)

@@ -1,7 +1,6 @@
 -- `verify::responses::first_reason` meets its contract: the choices, from the last to the first,
 -- are the definition's.
 -- Assumes nothing.
-use borrow.Author.Rules.{rules}
 use Rattle.verify.specs.Response.{first_reason}
 use Rattle.verify.proofs.responses.first_reason.Goals as goal
 

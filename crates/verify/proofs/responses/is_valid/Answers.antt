@@ -1,7 +1,6 @@
 -- `verify::responses::is_valid` meets its contract: one response is chosen first, and
 -- what the definition asks of either is asked of the chosen one.
 -- Assumes nothing.
-use borrow.Author.Rules.{rules}
 use mathlib.Core.Path.{◌≡◌, refl, ap₂, ◌∙◌}
 use mathlib.Core.Bool.{Bool, true, false, cond, ◌&&◌, ◌||◌, and_assoc}
 use mathlib.Core.List.{List}
@@ -25,8 +24,7 @@ chosen_first false p lm q of = and_assoc lm q (of false)
 pub returns : goal.returns
 unfolding valid answers
 returns c =
-    let e = c in
-    let a = e.args in
+    let a = c.args in
     let challenge = a.challenge in
     let keys = keys_in a.keys.now in
     let flagged = eqb a.fields.flag 1 in
@@ -37,6 +35,6 @@ returns c =
     let answer : Bool → List ℕ = λ b. cond b a.fields.nt a.fields.lm in
     let of : Bool → Bool = λ b. agrees (answer b) (response_under keys challenge) in
     c.agree_if_both.ensures
-    ∙ ap₂ (λ (x y : List ℕ). counts && agrees x y) e.chosen_response-response.ensures
-    e.scheduled_response-expected.ensures
+    ∙ ap₂ (λ (x y : List ℕ). counts && agrees x y) c.chosen_response-response.ensures
+    c.scheduled_response-expected.ensures
     ∙ chosen_first flagged nt.present allowed lm.present of
