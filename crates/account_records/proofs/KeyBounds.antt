@@ -3,16 +3,13 @@
 -- Assumes nothing.
 use mathlib.Core.Bool.{Bool, true, false, cond}
 use mathlib.Core.List.{List, [], ◌∷◌, ◌++◌, map}
-use mathlib.Core.Path.{◌≡◌, refl, sym, ap, ◌∙◌, subst}
-use Prim.Native.Nat.{ℕ, zero, suc, ◌+◌, ◌*◌, ◌/◌, ◌%◌, ◌^◌, ◌≤◌, ◌<◌}
+use mathlib.Core.Path.{◌≡◌, ap, ◌∙◌}
+use Prim.Native.Nat.{ℕ, zero, suc, ◌/◌, ◌^◌, ◌<◌}
 use native.Mathlib.Nat.{mod-lt}
 use native.Mathlib.Omega.{arith}
-use borrow.Author.Tests.{eq-eqb}
-use lib.Dec.{eqb, lit<}
-use lib.ListN.{length, take, drop, get_or, replicate, length-replicate, length-append}
-use lib.Seq.{take_at, drop_at, take_all}
+use lib.Dec.{lit<}
+use lib.ListN.{length, replicate, length-replicate}
 use Rattle.octets.specs.Parts.{part, fixed}
-use Rattle.octets.specs.Numbers.{from_digits}
 use Rattle.octets.proofs.Numbers.{Below, digits_below}
 use Rattle.des.specs.Des.{schedule_of}
 use Rattle.des.specs.Stored.{six, pack_key, stored_schedule, three_schedules}

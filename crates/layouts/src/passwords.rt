@@ -17,6 +17,7 @@ const PASSWORD_VERSION: u8 = 1;
 const LENGTH_AT: usize = 2;
 
 const BYTES_AT: usize = 4;
+
 #[derive(Clone, Copy)]
 pub(crate) struct PasswordValue {
     pub bytes: [u8; PASSWORD_SIZE],

@@ -17,6 +17,7 @@ const ROOM_SIZE: usize = 59;
 pub(crate) const TAG_SIZE: usize = 2;
 
 const VALUE_SIZE: usize = 61;
+
 #[derive(Clone, Copy)]
 pub(crate) struct Room {
     pub bytes: [u8; ROOM_SIZE],

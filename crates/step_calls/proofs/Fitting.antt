@@ -4,13 +4,13 @@
 use mathlib.Core.Bool.{Bool, true, false, cond}
 use mathlib.Core.List.{List, ◌++◌}
 use mathlib.Core.Path.{◌≡◌, refl, sym, ap, ap₂, ◌∙◌, subst}
-use Prim.Native.Nat.{ℕ, suc, ◌*◌, ◌<◌}
+use Prim.Native.Nat.{ℕ, suc, ◌<◌}
 use native.Mathlib.Omega.{arith}
 use lib.Dec.{eqb}
-use lib.ListN.{length, take, replicate}
-use lib.Seq.{take_all, take_at, drop_at}
+use lib.ListN.{length, take}
+use lib.Seq.{take_all, drop_at}
 use Rattle.octets.proofs.Parts.{length_part}
-use Rattle.credentials.specs.Credentials.{encode_keys, unsealed_as, password_in}
+use Rattle.credentials.specs.Credentials.{unsealed_as, password_in}
 use Rattle.credentials.proofs.Laws.{length_nt}
 use Rattle.credentials.proofs.UnderChallenge.{length_from}
 use Rattle.message.specs.Reasons.{password_expired, changing_password}
@@ -19,21 +19,7 @@ use Rattle.packets.specs.Change.{read_change}
 use Rattle.packets.specs.ChangeOne.{read_change_one}
 use Rattle.packets.specs.declared.ChangeOne.{ChangeOne}
 use Rattle.authenticator.proofs.Spends.{length_incremented}
-use Rattle.accounts.specs.Account.{
-  no_hash,
-  hash_of,
-  blank_entry,
-  not_found,
-  found,
-  changed,
-  stored_in,
-  schedules_for,
-  with_schedules,
-  account_of,
-  entry_of,
-  lookup_of,
-  entry_lookup_of,
-}
+use Rattle.accounts.specs.Account.{no_hash, hash_of, blank_entry, not_found, found, changed, stored_in, with_schedules, account_of, entry_of, lookup_of, entry_lookup_of}
 use Rattle.authenticator.specs.Conversation.{ended, retried}
 use Rattle.authenticator.proofs.Steps.{Case, refused, repeated, judged, case_of}
 use Rattle.authenticator.proofs.Steps as steps-laws
@@ -60,7 +46,6 @@ use Rattle.verify.proofs.Reasons.{three_digits, response_reason_lem}
 use Rattle.accounts.specs.declared.Entry.{Entry}
 use Rattle.accounts.specs.declared.Hash.{Hash}
 use Rattle.accounts.specs.declared.EntryLookup.{EntryLookup}
-use Rattle.accounts.specs.declared.Schedules.{Schedules}
 use Rattle.accounts.specs.declared.Lookup.{Lookup}
 use Rattle.authenticator.specs.declared.Conversation.{Conversation}
 use Rattle.authenticator.specs.declared.Phase.{Phase}
@@ -70,8 +55,8 @@ use Rattle.layouts.specs.Conversations.{is_encoded_conversation}
 use Rattle.layouts.specs.Keys.{keys_size, both_keys_size, keys_at, encode_schedules}
 use Rattle.layouts.specs.Answers.{answer_head_size, answer_head, encode_answer, decode_answer}
 use Rattle.layouts.specs.Answers.{answer_keys, is_encoded_answer}
-use Rattle.layouts.specs.Records.{record_head_size, record_size, nt_keys_at, lm_keys_at, record_head}
-use Rattle.layouts.specs.Records.{record_keys, encode_record, decode_head, decode_record}
+use Rattle.layouts.specs.Records.{record_head_size, record_size, record_head}
+use Rattle.layouts.specs.Records.{record_keys, decode_record}
 use Rattle.layouts.specs.Records.{is_encoded_record}
 use Rattle.layouts.specs.Call.{value_or}
 use Rattle.layouts.proofs.Filling.{both, valid_call}
@@ -79,9 +64,8 @@ use Rattle.layouts.specs.declared.StepResult.{StepResult}
 use Rattle.numbers.specs.Results.{result_of}
 use Rattle.step_calls.specs.Calls.{step_of, step_arguments, handed_keys, StepCall, answer_fault}
 use Rattle.step_calls.specs.Calls.{AnswerRecordCall}
-use Rattle.layouts.proofs.RecordLaws.{SizedEntry, decoded_head_sized, record_fits, head_back}
-use Rattle.layouts.proofs.RecordLaws.{length_head, length_encoded_record}
-use Rattle.credentials.proofs.KeyOctets.{length_encoded}
+use Rattle.layouts.proofs.RecordLaws.{SizedEntry, decoded_head_sized, record_fits}
+use Rattle.layouts.proofs.RecordLaws.{length_encoded_record}
 use Rattle.layouts.proofs.AnswerLaws.{decoded_answer_sized, length_result, length_encoded_answer}
 use Rattle.layouts.proofs.AnswerLaws.{answer_fits, answer_back}
 use Rattle.numbers.proofs.FlagLaws.{made_keys}

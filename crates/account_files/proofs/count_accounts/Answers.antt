@@ -1,7 +1,6 @@
 -- `account_files::count_accounts` meets its contract.
 -- Assumes nothing.
 use mathlib.Core.Path.{refl, ap}
-use borrow.Author.Rules.{rules}
 use Rattle.smbpasswd.specs.declared.Counts.{Counts}
 use Rattle.account_files.proofs.count_accounts.Goals as goal
 

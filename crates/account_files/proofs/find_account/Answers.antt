@@ -1,7 +1,6 @@
 -- `account_files::find_account` meets its contract.
 -- Assumes nothing.
 use mathlib.Core.Path.{refl, ap, ◌∙◌}
-use borrow.Author.Rules.{rules}
 use borrow.Author.Tests.{eq-eqb, ne_eqb}
 use Rattle.layouts.specs.Records.{encode_record}
 use Rattle.layouts.proofs.Filling.{fills_as, refused_argument}

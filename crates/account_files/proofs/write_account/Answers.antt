@@ -4,7 +4,6 @@ use mathlib.Core.Bool.{true}
 use mathlib.Core.Path.{◌≡◌, refl, sym, ap, ◌∙◌}
 use mathlib.Core.List.{List}
 use Prim.Native.Nat.{ℕ}
-use borrow.Author.Rules.{rules}
 use borrow.Author.Tests.{not-true, not-false}
 use Rattle.accounts.specs.Account.{with_schedules}
 use Rattle.accounts.specs.declared.Account.{Account}
@@ -18,11 +17,6 @@ use Rattle.smbpasswd.specs.Write.{changed_line, written_at, written_in}
 use Rattle.smbpasswd.specs.declared.Place.{Place}
 use Rattle.smbpasswd.specs.declared.Place.TheVariants.{Nowhere, Line, Doubled, Malformed}
 use Rattle.account_files.proofs.write_account.Goals as goal
-use Rattle.account_files.proofs.write_account.Goals.{Else-not-is_encoded_record}
-
--- the record is valid
-valid : (c : Else-not-is_encoded_record) → is_encoded_record c.args.bytes.now ≡ true
-valid c = sym c.is_encoded_record.ensures ∙ c.if-not-is_encoded_record.false
 
 -- the hashes alone are written, whatever round keys stand beside them
 same_written : (name : List ℕ) (e : Entry) (s t u v : Schedules) (now : ℕ) (file : List ℕ)
@@ -44,26 +38,24 @@ returns-then-not-is_encoded_record c =
 
 pub returns-then-not-lookup : goal.returns-then-not-lookup
 returns-then-not-lookup c =
-    let d = c in
-    let good = valid d.before in
-    let none = sym (ap (λ (l : EntryLookup). l.found) d.decode_head-lookup.ensures) ∙ c.if-not-lookup.true in
+    let good : is_encoded_record c.args.bytes.now ≡ true =
+    sym c.is_encoded_record.ensures ∙ c.if-not-is_encoded_record.false in
+    let none = sym (ap (λ (l : EntryLookup). l.found) c.decode_head-lookup.ensures)
+    ∙ not-true _ c.if-not-lookup.true in
     record { number = rw (good, none); written = rw (good, none); offsets = rw (good, none) }
 
 pub returns : goal.returns
 returns c =
-    let w = c in
-    let made = w in
-    let p = made in
-    let d = p in
-    let good = valid d.before in
-    let e = d.decode_head-lookup.ensures in
-    let some = sym (ap (λ (l : EntryLookup). l.found) e) ∙ p.if-not-lookup.false in
-    let a = d.args in
+    let a = c.args in
     let bytes = a.bytes.now in
-    let call = w.write_back.ensures in
+    let good : is_encoded_record bytes ≡ true =
+    sym c.is_encoded_record.ensures ∙ c.if-not-is_encoded_record.false in
+    let e = c.decode_head-lookup.ensures in
+    let some = sym (ap (λ (l : EntryLookup). l.found) e) ∙ not-false _ c.if-not-lookup.false in
+    let call = c.write_back.ensures in
     let written : Account → List ℕ = λ x. written_in a.name.now x a.present a.file.now in
-    let same = ap written made.with_schedules-account.ensures
-    ∙ same_written a.name.now d.decode_head-lookup.result.entry _ _ (keys_at nt_keys_at bytes)
+    let same = ap written c.with_schedules-account.ensures
+    ∙ same_written a.name.now c.decode_head-lookup.result.entry _ _ (keys_at nt_keys_at bytes)
     (keys_at lm_keys_at bytes) a.present a.file.now
     ∙ ap (λ (l : EntryLookup). written (with_schedules l.entry (keys_at nt_keys_at bytes)
     (keys_at lm_keys_at bytes))) e in

@@ -3,7 +3,6 @@
 use mathlib.Core.Path.{ap₂, ◌∙◌}
 use mathlib.Core.Bool.{◌&&◌}
 use Rattle.account_records.specs.Calls.{read_record_arguments}
-use borrow.Author.Rules.{rules}
 use Rattle.account_records.proofs.are_read_record_arguments.Goals as goal
 
 pub returns : goal.returns

@@ -4,7 +4,6 @@ use mathlib.Core.Path.{ap, ◌∙◌}
 use mathlib.Core.Bool.{Bool, ◌&&◌}
 use lib.Dec.{ltb}
 use Rattle.account_records.specs.Calls.{set_failures_arguments}
-use borrow.Author.Rules.{rules}
 use Rattle.account_records.proofs.are_set_failures_arguments.Goals as goal
 
 pub returns : goal.returns

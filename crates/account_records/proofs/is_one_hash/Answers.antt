@@ -1,7 +1,6 @@
 -- `account_records::is_one_hash` meets its contract.
 -- Assumes nothing.
 use borrow.Author.Tests.{eq-eqb, ne_eqb}
-use borrow.Author.Rules.{rules}
 use Rattle.account_records.proofs.is_one_hash.Goals as goal
 
 pub returns-then-hash-eq-NT : goal.returns-then-hash-eq-NT

@@ -2,11 +2,9 @@
 -- Assumes nothing.
 use mathlib.Core.Path.{refl, sym, ap, ◌∙◌}
 use mathlib.Core.Bool.{Bool, ◌&&◌}
-use borrow.Author.Tests.{not-true, not-false}
 use Rattle.layouts.specs.Call.{sized}
 use Rattle.layouts.specs.Records.{encode_record, record_size}
 use Rattle.layouts.proofs.Filling.{fills_as, refused_argument}
-use borrow.Author.Rules.{rules}
 use Rattle.account_records.proofs.make_record.Goals as goal
 
 pub returns-then-not-are_record_arguments : goal.returns-then-not-are_record_arguments

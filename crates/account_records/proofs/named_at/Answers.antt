@@ -6,7 +6,6 @@ use Prim.Native.Nat.{ℕ}
 use borrow.Author.Tests.{eq-eqb, ne_eqb}
 use Rattle.layouts.specs.Records.{nt_keys_at, lm_keys_at}
 use Rattle.numbers.specs.Flags.{nt_flag}
-use borrow.Author.Rules.{rules}
 use Rattle.account_records.proofs.named_at.Goals as goal
 
 abbrev chosen : Bool → ℕ

@@ -6,7 +6,6 @@ use borrow.Author.Tests.{eq-eqb, ne_eqb}
 use Rattle.accounts.specs.declared.EntryLookup.{EntryLookup}
 use Rattle.accounts.specs.declared.Hash.{Hash}
 use Rattle.numbers.specs.Flags.{nt_flag}
-use borrow.Author.Rules.{rules}
 use Rattle.account_records.proofs.named_hash.Goals as goal
 
 abbrev chosen : EntryLookup → Bool → Hash

@@ -2,7 +2,7 @@
 -- Assumes nothing.
 use mathlib.Core.Path.{◌≡◌, refl, sym, ap, ◌∙◌}
 use mathlib.Core.Bool.{Bool, true}
-use borrow.Author.Tests.{not-true, not-false, eqb-true}
+use borrow.Author.Tests.{eqb-true}
 use mathlib.Core.List.{List}
 use Prim.Native.Nat.{ℕ}
 use lib.ListN.{length}
@@ -15,7 +15,6 @@ use Rattle.layouts.proofs.Filling.{both}
 use Rattle.layouts.proofs.RecordLaws.{SizedEntry, decoded_head_sized}
 use Rattle.numbers.specs.Flags.{flags_of}
 use Rattle.account_records.specs.Calls.{read_record_arguments}
-use borrow.Author.Rules.{rules}
 use Rattle.account_records.proofs.read_record.Goals as goal
 
 -- both buffers have the size of a hash

@@ -2,12 +2,10 @@
 -- Assumes nothing.
 use mathlib.Core.Path.{sym, ap, ◌∙◌}
 use mathlib.Core.Bool.{Bool}
-use borrow.Author.Tests.{not-true, not-false}
 use Rattle.accounts.specs.declared.EntryLookup.{EntryLookup}
 use Rattle.layouts.specs.Records.{decode_head}
 use Rattle.layouts.specs.Call.{value_or}
 use Rattle.account_records.specs.Calls.{record_failures}
-use borrow.Author.Rules.{rules}
 use Rattle.account_records.proofs.record_failures.Goals as goal
 
 pub returns-then-not-is_encoded_record : goal.returns-then-not-is_encoded_record

@@ -5,7 +5,7 @@ use mathlib.Core.Bool.{Bool, true}
 use mathlib.Core.List.{List}
 use Prim.Native.Nat.{ℕ, ◌<◌}
 use native.Mathlib.Omega.{arith}
-use borrow.Author.Tests.{not-true, not-false, ltb-true}
+use borrow.Author.Tests.{ltb-true}
 use lib.Dec.{ltb}
 use Rattle.octets.specs.Parts.{over}
 use Rattle.accounts.specs.Account.{entry_failures}
@@ -18,19 +18,13 @@ use Rattle.layouts.proofs.RecordLaws.{length_encoded_record}
 use Rattle.account_records.specs.Calls.{set_failures_arguments, failures_set}
 use Rattle.account_records.proofs.Laying.{head_over}
 use Rattle.account_records.proofs.Fitting.{set_sized}
-use borrow.Author.Rules.{rules}
 use Rattle.account_records.proofs.set_failures.Goals as goal
-use Rattle.account_records.proofs.set_failures.Goals.{Else-not-are_set_failures_arguments}
 
 parts : (bytes : List ℕ) (n : ℕ) → set_failures_arguments bytes n ≡ true
     → (is_encoded_record bytes ≡ true) × (n < 256)
 unfolding set_failures_arguments
 parts bytes n e =
     let h = both (is_encoded_record bytes) (ltb n 256) e in (h.0, ltb-true n 256 h.1)
-
-valid : (c : Else-not-are_set_failures_arguments)
-    → set_failures_arguments c.args.account.now c.args.failures ≡ true
-valid c = sym c.are_set_failures_arguments.ensures ∙ c.if-not-are_set_failures_arguments.false
 
 pub returns-then-not-are_set_failures_arguments : goal.returns-then-not-are_set_failures_arguments
 returns-then-not-are_set_failures_arguments c =
@@ -39,30 +33,29 @@ returns-then-not-are_set_failures_arguments c =
 
 pub overflow_cast-failures : goal.overflow_cast-failures
 overflow_cast-failures c =
-    let passed = c.before.before.before in
-    let a = passed.args in
-    omega (arith, (parts a.account.now a.failures (valid passed)).1)
+    let a = c.args in
+    let valid : set_failures_arguments a.account.now a.failures ≡ true =
+    sym c.are_set_failures_arguments.ensures ∙ c.if-not-are_set_failures_arguments.false in
+    omega (arith, (parts a.account.now a.failures valid).1)
 
 pub returns : goal.returns
 returns c =
-    let put = c in
-    let counted = put in
-    let decoded = counted in
-    let passed = decoded.before.before in
-    let a = passed.args in
+    let a = c.args in
+    let valid : set_failures_arguments a.account.now a.failures ≡ true =
+    sym c.are_set_failures_arguments.ensures ∙ c.if-not-are_set_failures_arguments.false in
     let bytes = a.account.now in
-    let long = length_encoded_record bytes (parts bytes a.failures (valid passed)).0 in
+    let long = length_encoded_record bytes (parts bytes a.failures valid).0 in
     let head : EntryLookup → EntryLookup =
     λ l. record { found = l.found; entry = entry_failures a.failures l.entry } in
     let value =
     ap (λ (e : Entry). let l : EntryLookup = record {
-      found = decoded.decode_head-lookup.result.found;
+      found = c.decode_head-lookup.result.found;
       entry = e;
-    } in l) counted.entry_failures-entry.ensures
-    ∙ ap head decoded.decode_head-lookup.ensures in
+    } in l) c.entry_failures-entry.ensures
+    ∙ ap head c.decode_head-lookup.ensures in
     record {
-      number = sym (ap (λ (t : Bool). numbered t 0) (valid passed));
-      bytes = put.put_record_head.ensures
+      number = sym (ap (λ (t : Bool). numbered t 0) valid);
+      bytes = c.put_record_head.ensures
           ∙ ap (λ (l : EntryLookup). over (record_head l) bytes) value
           ∙ head_over (failures_set bytes a.failures) bytes (set_sized bytes a.failures) long;
     }

@@ -3,7 +3,6 @@
 use mathlib.Core.Path.{ap₂, ◌∙◌}
 use mathlib.Core.Bool.{◌&&◌}
 use Rattle.peer_calls.specs.Calls.{response_arguments}
-use borrow.Author.Rules.{rules}
 use Rattle.peer_calls.proofs.are_response_arguments.Goals as goal
 
 pub returns : goal.returns

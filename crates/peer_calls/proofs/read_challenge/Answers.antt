@@ -4,7 +4,6 @@ use mathlib.Core.Path.{refl, ap}
 use Rattle.peer.specs.declared.ChallengeRead.{ChallengeRead}
 use Rattle.layouts.specs.Peers.{encode_peer}
 use Rattle.layouts.proofs.Filling.{fills_as}
-use borrow.Author.Rules.{rules}
 use Rattle.peer_calls.proofs.read_challenge.Goals as goal
 
 pub returns : goal.returns

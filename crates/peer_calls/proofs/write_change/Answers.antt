@@ -1,8 +1,6 @@
 -- `peer_calls::write_change` meets its contract.
 -- Assumes nothing.
-use mathlib.Core.Path.{◌≡◌, refl, sym, ap₂, ◌∙◌}
-use mathlib.Core.Bool.{true}
-use borrow.Author.Tests.{not-true, not-false}
+use mathlib.Core.Path.{refl, sym, ap₂, ◌∙◌}
 use mathlib.Core.List.{List}
 use Prim.Native.Nat.{ℕ}
 use Rattle.peer.specs.Write.{write_change}
@@ -10,7 +8,6 @@ use Rattle.peer.specs.declared.Turn.{Turn}
 use Rattle.layouts.specs.Passwords.{decode_password}
 use Rattle.peer_calls.specs.Calls.{change_arguments}
 use Rattle.peer_calls.proofs.Calling.{wrote_called, change_kept, change_encoded}
-use borrow.Author.Rules.{rules}
 use Rattle.peer_calls.proofs.write_change.Goals as goal
 
 -- As write_response, with two passwords.

@@ -2,7 +2,6 @@
 -- Assumes nothing.
 use mathlib.Core.Path.{◌≡◌, refl, sym, ap, ◌∙◌}
 use mathlib.Core.Bool.{true}
-use borrow.Author.Tests.{not-true, not-false}
 use mathlib.Core.List.{List}
 use Prim.Native.Nat.{ℕ}
 use Rattle.peer.specs.Write.{write_response}
@@ -12,7 +11,6 @@ use Rattle.layouts.specs.Peers.{is_encoded_peer}
 use Rattle.layouts.proofs.Filling.{both}
 use Rattle.peer_calls.specs.Calls.{response_arguments}
 use Rattle.peer_calls.proofs.Calling.{wrote_called, response_kept}
-use borrow.Author.Rules.{rules}
 use Rattle.peer_calls.proofs.write_response.Goals as goal
 
 encoded : (peer password : List ℕ) → response_arguments peer password ≡ true

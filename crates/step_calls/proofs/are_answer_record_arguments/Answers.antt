@@ -3,7 +3,6 @@
 use mathlib.Core.Path.{refl, ap₂, ◌∙◌}
 use mathlib.Core.Bool.{◌&&◌}
 use Rattle.step_calls.specs.Calls.{answer_record_arguments}
-use borrow.Author.Rules.{rules}
 use Rattle.step_calls.proofs.are_answer_record_arguments.Goals as goal
 
 pub returns : goal.returns

@@ -3,10 +3,8 @@
 use mathlib.Core.Bool.{Bool, true, false, cond}
 use mathlib.Core.Path.{◌≡◌, refl, ap, ◌∙◌}
 use Prim.Native.Nat.{ℕ, ◌+◌, ◌*◌}
-use native.Mathlib.Omega.{arith}
 use Rattle.layouts.specs.Records.{nt_keys_at, lm_keys_at}
 use Rattle.verify.specs.Response.{uses_nt}
-use borrow.Author.Rules.{rules}
 use Rattle.step_calls.proofs.judging_at.Goals as goal
 
 -- the place, by which round keys are read

@@ -1,10 +1,10 @@
 -- `step_calls::step` meets its contract.
 -- Assumes nothing.
 use mathlib.Core.Path.{◌≡◌, refl, sym, ap, ap₂, subst, ◌∙◌}
-use mathlib.Core.Bool.{Bool, true, cond}
+use mathlib.Core.Bool.{Bool, cond}
 use mathlib.Core.List.{List}
 use Prim.Native.Nat.{ℕ}
-use borrow.Author.Tests.{not-true, not-false, ne_eqb}
+use borrow.Author.Tests.{ne_eqb}
 use Rattle.accounts.specs.Account.{stored_in}
 use Rattle.accounts.specs.declared.EntryLookup.{EntryLookup}
 use Rattle.accounts.specs.declared.Schedules.{Schedules}
@@ -23,47 +23,36 @@ use Rattle.layouts.specs.Records.{nt_keys_at, lm_keys_at, decode_head, decode_re
 use Rattle.step_calls.specs.Calls.{step_of, step_arguments}
 use Rattle.step_calls.specs.Inner.{AnswerPut, step_arguments_as}
 use Rattle.step_calls.proofs.Calling.{step_sizes, step_arguments_lem, keys_read, step_called}
-use borrow.Author.Rules.{rules}
 use Rattle.step_calls.proofs.step.Goals as goal
-use Rattle.step_calls.proofs.step.Goals.{After-are_step_arguments, Else-not-are_step_arguments}
 
 -- The arguments are tested by one function, the step is taken on what they decode to, and its
 -- answer is put into the caller's buffers: Calling says what that makes the call return and
 -- leave.
-abbrev start : After-are_step_arguments → goal.Start
-start c =
-    c.before.before.before.before.before.before.before.before.before.before.before
-
--- the arguments are valid or not
-tested : (c : After-are_step_arguments)
-    → let a = (start c).args in
-    c.are_step_arguments.result
-    ≡ step_arguments a.conversation.now a.account.now a.answer.now
-tested c =
-    let a = (start c).args in
-    let head = c in
+pub put_stepped-requires : goal.put_stepped-requires
+put_stepped-requires c =
+    let a = c.args in
+    let tested : c.are_step_arguments.result
+    ≡ step_arguments a.conversation.now a.account.now a.answer.now =
     c.are_step_arguments.ensures
     ∙ ap₂ (λ (v : Conversation) (l : EntryLookup). step_arguments_as v l a.conversation.now
     a.account.now a.answer.now)
-    head.decode_conversation-before.ensures head.decode_head-lookup.ensures
-    ∙ step_arguments_lem a.conversation.now a.account.now a.answer.now
-
-valid : (c : Else-not-are_step_arguments)
-    → let a = (start c.before).args in
-    step_arguments a.conversation.now a.account.now a.answer.now ≡ true
-valid c = sym (tested c.before) ∙ c.if-not-are_step_arguments.false
-
-pub put_stepped-requires : goal.put_stepped-requires
-put_stepped-requires c =
-    let passed = c.before.before.before.before.before.before.before.before.before.before.before.before.before in
-    let a = (start passed.before).args in
-    step_sizes a.conversation.now a.account.now a.answer.now (valid passed)
+    c.decode_conversation-before.ensures c.decode_head-lookup.ensures
+    ∙ step_arguments_lem a.conversation.now a.account.now a.answer.now in
+    let valid = sym tested ∙ c.if-not-are_step_arguments.false in
+    step_sizes a.conversation.now a.account.now a.answer.now valid
 
 -- the arguments are not valid
 pub returns-then-not-are_step_arguments : goal.returns-then-not-are_step_arguments
 returns-then-not-are_step_arguments c =
-    let a = (start c.before).args in
-    let bad = sym (tested c.before) ∙ c.if-not-are_step_arguments.true in
+    let a = c.args in
+    let tested : c.are_step_arguments.result
+    ≡ step_arguments a.conversation.now a.account.now a.answer.now =
+    c.are_step_arguments.ensures
+    ∙ ap₂ (λ (v : Conversation) (l : EntryLookup). step_arguments_as v l a.conversation.now
+    a.account.now a.answer.now)
+    c.decode_conversation-before.ensures c.decode_head-lookup.ensures
+    ∙ step_arguments_lem a.conversation.now a.account.now a.answer.now in
+    let bad = sym tested ∙ c.if-not-are_step_arguments.true in
     record {
       number = sym (ap (λ (t : Bool). numbered t (refusal_in (step_of a.conversation.now
           a.packet.now a.account.now a.reply.now).answer.kind)) bad);
@@ -75,62 +64,69 @@ returns-then-not-are_step_arguments c =
 -- they are valid, and the packet is refused
 pub returns-then-refusal-ne0 : goal.returns-then-refusal-ne0
 returns-then-refusal-ne0 c =
-    let r = c in
-    let passed = r.before.before in
-    let a = (start passed.before).args in
-    let before = passed.decode_conversation-before.ensures in
+    let a = c.args in
+    let tested : c.are_step_arguments.result
+    ≡ step_arguments a.conversation.now a.account.now a.answer.now =
+    c.are_step_arguments.ensures
+    ∙ ap₂ (λ (v : Conversation) (l : EntryLookup). step_arguments_as v l a.conversation.now
+    a.account.now a.answer.now)
+    c.decode_conversation-before.ensures c.decode_head-lookup.ensures
+    ∙ step_arguments_lem a.conversation.now a.account.now a.answer.now in
+    let valid = sym tested ∙ c.if-not-are_step_arguments.false in
+    let before = c.decode_conversation-before.ensures in
     let some = ne_eqb _ 0 c.if-refusal-ne0.true in
-    let refusal = c.wide.ensures ∙ r.refusal_of-refusal.ensures
+    let refusal = c.wide.ensures ∙ c.refusal_of-refusal.ensures
     ∙ ap (λ (v : Conversation). step_refusal v a.packet.now a.reply.now) before
     ∙ sym (number_step (decode_conversation a.conversation.now) a.packet.now
     (decode_record a.account.now) a.reply.now) in
     record {
       number = refusal ∙ sym (ap (λ (t : Bool). numbered t (refusal_in (step_of
-          a.conversation.now a.packet.now a.account.now a.reply.now).answer.kind)) (valid passed));
+          a.conversation.now a.packet.now a.account.now a.reply.now).answer.kind)) valid);
       next = simp (c.wide.ensures, some);
       sent = simp (c.wide.ensures, some);
       found = simp (c.wide.ensures, some);
     }
 
+ap_put : {v w : Conversation} {s : Stepped} {account conversation out : List ℕ} {r : ℕ}
+    {conversation_after out_after : List ℕ} → v ≡ w
+    → AnswerPut v.phase s account conversation out r conversation_after out_after
+    → AnswerPut w.phase s account conversation out r conversation_after out_after
+ap_put {s = s} {account = m} {conversation = c} {out = o} {r = r} {conversation_after = d}
+    {out_after = u} e p =
+    subst (λ (x : Conversation). AnswerPut x.phase s m c o r d u) e p
+
 -- it is not refused
 pub returns : goal.returns
 returns c =
-    let put = c in
-    let stepped = put in
-    let keys = stepped in
-    let at = keys in
-    let flag = at in
-    let passed = flag.before.before.before.before.before in
-    let head = passed in
-    let a = (start passed.before).args in
+    let a = c.args in
+    let tested : c.are_step_arguments.result
+    ≡ step_arguments a.conversation.now a.account.now a.answer.now =
+    c.are_step_arguments.ensures
+    ∙ ap₂ (λ (v : Conversation) (l : EntryLookup). step_arguments_as v l a.conversation.now
+    a.account.now a.answer.now)
+    c.decode_conversation-before.ensures c.decode_head-lookup.ensures
+    ∙ step_arguments_lem a.conversation.now a.account.now a.answer.now in
+    let valid = sym tested ∙ c.if-not-are_step_arguments.false in
     let packet = a.packet.now in
     let account = a.account.now in
     let reply = a.reply.now in
-    let before = head.decode_conversation-before.ensures in
-    let lookup = head.decode_head-lookup.ensures in
-    let read : stored_in keys.part_of-keys.result.now ≡ judging_keys (decode_record account).account
+    let before = c.decode_conversation-before.ensures in
+    let lookup = c.decode_head-lookup.ensures in
+    let read : stored_in c.part_of-keys.result.now ≡ judging_keys (decode_record account).account
     (read_response packet) =
-    ap stored_in keys.part_of-keys.ensures
-    ∙ ap (λ (n : ℕ). keys_at n account) (at.judging_at-at.ensures
+    ap stored_in c.part_of-keys.ensures
+    ∙ ap (λ (n : ℕ). keys_at n account) (c.judging_at-at.ensures
     ∙ ap₂ (λ (n : ℕ) (l : EntryLookup). cond (uses_nt n l.entry.nt) nt_keys_at lm_keys_at)
-    flag.octet.ensures lookup)
+    c.octet.ensures lookup)
     ∙ keys_read packet account in
     let done : Conversation → EntryLookup → Schedules → Outcome =
     λ v l s. step v packet (carrying_lookup l s) reply in
     let seen = ap₂ (λ (v : Conversation) (l : EntryLookup).
-    seen_of (done v l (stored_in keys.part_of-keys.result.now))) before lookup
+    seen_of (done v l (stored_in c.part_of-keys.result.now))) before lookup
     ∙ ap (λ (s : Schedules). seen_of (done (decode_conversation a.conversation.now)
     (decode_head account) s)) read in
-    let e = stepped.step_by-stepped.ensures in
-    step_called a.conversation.now packet account reply a.answer.now (valid passed)
+    let e = c.step_by-stepped.ensures in
+    step_called a.conversation.now packet account reply a.answer.now valid
     (sym seen ∙ sym (ap₂ (λ (s : Stepped) (b : List ℕ).
     let x : Seen = record { stepped = s; buffer = b } in x) e.0 e.1))
-    (ap_put before put.put_stepped.ensures)
-  where
-    ap_put : {v w : Conversation} {s : Stepped} {account conversation out : List ℕ} {r : ℕ}
-        {conversation_after out_after : List ℕ} → v ≡ w
-        → AnswerPut v.phase s account conversation out r conversation_after out_after
-        → AnswerPut w.phase s account conversation out r conversation_after out_after
-    ap_put {s = s} {account = m} {conversation = c} {out = o} {r = r} {conversation_after = d}
-        {out_after = u} e p =
-        subst (λ (x : Conversation). AnswerPut x.phase s m c o r d u) e p
+    (ap_put before c.put_stepped.ensures)

@@ -2,7 +2,6 @@
 -- Assumes nothing.
 use mathlib.Core.Path.{ap, ◌∙◌}
 use Rattle.layouts.specs.Answers.{decode_result}
-use borrow.Author.Rules.{rules}
 use Rattle.layouts.proofs.answers.decode_answer.Goals as goal
 
 pub returns : goal.returns

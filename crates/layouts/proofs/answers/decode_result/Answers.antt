@@ -8,7 +8,6 @@ use Rattle.verify.specs.Faults.{fault_with}
 use Rattle.layouts.specs.Records.{is_flag, decode_entry_lookup}
 use Rattle.layouts.specs.Answers.{decode_result}
 use Rattle.layouts.proofs.AnswerLaws.{result_same}
-use borrow.Author.Rules.{rules}
 use Rattle.layouts.proofs.answers.decode_result.Goals as goal
 
 pub returns : goal.returns

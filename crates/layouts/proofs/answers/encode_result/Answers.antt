@@ -7,7 +7,6 @@ use Rattle.octets.specs.Parts.{over}
 use Rattle.layouts.specs.Records.{flag, encode_entry_lookup}
 use Rattle.layouts.proofs.AnswerLaws.{result_pieces}
 use Rattle.layouts.proofs.Putting.{first, next, last}
-use borrow.Author.Rules.{rules}
 use Rattle.layouts.proofs.answers.encode_result.Goals as goal
 
 pub returns : goal.returns

@@ -1,9 +1,7 @@
 -- `layouts::answers::is_encoded_answer` meets its contract.
 -- Assumes nothing.
-use mathlib.Core.Path.{ap, ap₂, ◌∙◌}
+use mathlib.Core.Path.{ap, ◌∙◌}
 use mathlib.Core.Bool.{Bool, ◌&&◌}
-use mathlib.Core.List.{List}
-use Prim.Native.Nat.{ℕ}
 use native.Mathlib.Omega.{arith}
 use Rattle.octets.specs.Parts.{agrees}
 use Rattle.layouts.specs.Call.{sized}
@@ -14,7 +12,6 @@ use Rattle.layouts.specs.Answers.{answer_size, encode_result, answer_head, decod
 use Rattle.layouts.specs.Answers.{is_encoded_answer}
 use Rattle.layouts.proofs.AnswerLaws.{length_result, decoded_answer_sized}
 use Rattle.layouts.proofs.Putting.{compared}
-use borrow.Author.Rules.{rules}
 use Rattle.layouts.proofs.answers.is_encoded_answer.Goals as goal
 
 pub returns : goal.returns

@@ -13,21 +13,16 @@ use Rattle.layouts.proofs.Putting.{front}
 use borrow.Author.Rules.{rules}
 use Rattle.layouts.proofs.answers.put_answer.Goals as goal
 
-sized : (c : goal.Start) → SizedEntry c.args.res.updated.entry
-sized c = record { nt = search rules; lm = search rules }
-
 pub returns : goal.returns
 returns c =
-    let put = c in
-    let laid = put in
-    let encoded = laid in
-    let start = encoded.before.before.before in
-    let v = start.args.res in
-    let long = length_result v (sized start) in (
-      put.copy_at.ensures
-          ∙ ap (over_at answer_head_size start.args.keys.now)
-          (laid.lay_value.ensures
-          ∙ ap (λ (l : List ℕ). over l start.args.out.now)
-          (front answer_kind 44 (encode_result v) long (omega arith) encoded.encode_result-body.ensures)),
+    let sized : SizedEntry c.args.res.updated.entry =
+    record { nt = search rules; lm = search rules } in
+    let v = c.args.res in
+    let long = length_result v sized in (
+      c.copy_at.ensures
+          ∙ ap (over_at answer_head_size c.args.keys.now)
+          (c.lay_value.ensures
+          ∙ ap (λ (l : List ℕ). over l c.args.out.now)
+          (front answer_kind 44 (encode_result v) long (omega arith) c.encode_result-body.ensures)),
       ap (λ (n : ℕ). suc (suc n)) long,
     )

@@ -1,7 +1,6 @@
 -- `layouts::buffers::fill` meets its contract.
 -- Assumes nothing.
 use mathlib.Core.Path.{refl, ◌∙◌}
-use borrow.Author.Rules.{rules}
 use borrow.Author.Tests.{eq-eqb, ne_eqb}
 use Rattle.octets.proofs.Laid.{filled}
 use Rattle.layouts.proofs.buffers.fill.Goals as goal

@@ -2,7 +2,6 @@
 -- Assumes nothing.
 use mathlib.Core.Path.{ap, ◌∙◌}
 use Rattle.layouts.specs.Conversations.{decode_state}
-use borrow.Author.Rules.{rules}
 use Rattle.layouts.proofs.conversations.decode_conversation.Goals as goal
 
 pub returns : goal.returns

@@ -1,7 +1,6 @@
 -- `layouts::conversations::decode_state` meets its contract.
 -- Assumes nothing.
 use mathlib.Core.Path.{ap, ap₂, ◌∙◌}
-use borrow.Author.Rules.{rules}
 use Rattle.layouts.specs.Records.{is_flag, decode_entry}
 use Rattle.layouts.specs.LastAnswers.{decode_last}
 use Rattle.layouts.specs.Conversations.{version_from, phase_of, decode_state}

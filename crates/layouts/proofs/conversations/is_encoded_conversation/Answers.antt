@@ -4,7 +4,6 @@ use mathlib.Core.Path.{ap, ◌∙◌}
 use Rattle.octets.specs.Parts.{agrees}
 use Rattle.authenticator.specs.declared.Conversation.{Conversation}
 use Rattle.layouts.specs.Conversations.{encode_conversation, is_encoded_conversation}
-use borrow.Author.Rules.{rules}
 use Rattle.layouts.proofs.conversations.is_encoded_conversation.Goals as goal
 
 pub returns : goal.returns

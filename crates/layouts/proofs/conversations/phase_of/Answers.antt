@@ -1,7 +1,6 @@
 -- `layouts::conversations::phase_of` meets its contract.
 -- Assumes nothing.
 use mathlib.Core.Path.{sym, ◌∙◌}
-use borrow.Author.Rules.{rules}
 use borrow.Author.Tests.{eq-eqb, ne_eqb}
 use Rattle.layouts.proofs.conversations.phase_of.Goals as goal
 

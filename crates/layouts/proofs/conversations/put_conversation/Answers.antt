@@ -8,16 +8,11 @@ use Rattle.layouts.proofs.Putting.{filled}
 use borrow.Author.Rules.{rules}
 use Rattle.layouts.proofs.conversations.put_conversation.Goals as goal
 
-sized : (c : goal.Start) → SizedConversation c.args.conversation
-sized c =
-    record { challenge = search rules; kept = record { nt = search rules; lm = search rules } }
-
 pub returns : goal.returns
 returns c =
-    let put = c in
-    let encoded = put in
-    let start = encoded.before.before in
-    let v = start.args.conversation in
-    filled conversation_kind 59 (omega arith) (encode_state v) (length_state v (sized start))
-    encoded.encode_state-body.ensures
-    put.put_value.ensures
+    let sized : SizedConversation c.args.conversation =
+    record { challenge = search rules; kept = record { nt = search rules; lm = search rules } } in
+    let v = c.args.conversation in
+    filled conversation_kind 59 (omega arith) (encode_state v) (length_state v sized)
+    c.encode_state-body.ensures
+    c.put_value.ensures

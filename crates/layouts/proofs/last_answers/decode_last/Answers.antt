@@ -7,7 +7,6 @@ use Rattle.octets.specs.Numbers.{from_be}
 use Rattle.layouts.specs.Records.{is_flag}
 use Rattle.layouts.specs.LastAnswers.{reply_from, decode_last}
 use Rattle.layouts.proofs.LastAnswerLaws.{last_same}
-use borrow.Author.Rules.{rules}
 use Rattle.layouts.proofs.last_answers.decode_last.Goals as goal
 
 -- each field in turn, the last first

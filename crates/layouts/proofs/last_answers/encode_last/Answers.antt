@@ -3,13 +3,11 @@
 use mathlib.Core.Path.{refl, ap, ap₂, ◌∙◌}
 use mathlib.Core.List.{List, [], ◌∷◌}
 use Prim.Native.Nat.{ℕ}
-use lib.ListN.{length}
 use Rattle.octets.specs.Parts.{over_at}
 use Rattle.octets.specs.Numbers.{to_be}
 use Rattle.layouts.specs.Records.{flag}
 use Rattle.layouts.specs.LastAnswers.{encode_last}
 use Rattle.layouts.proofs.Putting.{first, next, last}
-use borrow.Author.Rules.{rules}
 use Rattle.layouts.proofs.last_answers.encode_last.Goals as goal
 
 -- each field in turn, the last first

@@ -9,7 +9,6 @@ use lib.ListN.{length}
 use Rattle.octets.specs.Parts.{part, agrees}
 use Rattle.layouts.specs.Values.{list_kind, tagged}
 use Rattle.layouts.specs.Lists.{is_list}
-use borrow.Author.Rules.{rules}
 use Rattle.layouts.proofs.lists.is_list.Goals as goal
 
 pub returns-then-bytes-lt-LIST_HEAD_SIZE : goal.returns-then-bytes-lt-LIST_HEAD_SIZE

@@ -6,7 +6,6 @@ use Prim.Native.Nat.{ℕ}
 use Rattle.octets.specs.Parts.{over}
 use Rattle.layouts.specs.Values.{list_kind, tagged}
 use Rattle.layouts.proofs.Encodings.{two}
-use borrow.Author.Rules.{rules}
 use Rattle.layouts.proofs.lists.put_list_head.Goals as goal
 
 pub returns : goal.returns

@@ -5,7 +5,6 @@ use mathlib.Core.List.{[], ◌∷◌}
 use Prim.Native.Nat.{ℕ}
 use Rattle.octets.specs.Parts.{part}
 use Rattle.octets.specs.Numbers.{from_be}
-use borrow.Author.Rules.{rules}
 use Rattle.layouts.proofs.passwords.decode_password.Goals as goal
 
 pub returns : goal.returns

@@ -7,7 +7,6 @@ use lib.ListN.{length, replicate}
 use Rattle.octets.specs.Parts.{over, over_at}
 use Rattle.layouts.specs.Values.{password_kind, tagged}
 use Rattle.layouts.proofs.Encodings.{two}
-use borrow.Author.Rules.{rules}
 use Rattle.layouts.proofs.passwords.encode_password.Goals as goal
 
 pub returns : goal.returns

@@ -7,7 +7,6 @@ use mathlib.Core.Bool.{not, ◌&&◌}
 use Rattle.octets.specs.Parts.{agrees}
 use Rattle.credentials.specs.Credentials.{bad_nt_password}
 use Rattle.layouts.specs.Passwords.{encode_password, is_encoded_password}
-use borrow.Author.Rules.{rules}
 use Rattle.layouts.proofs.passwords.is_encoded_password.Goals as goal
 
 pub returns : goal.returns

@@ -4,7 +4,6 @@ use mathlib.Core.Path.{refl, ap, ◌∙◌}
 use lib.ListN.{length}
 use Rattle.layouts.proofs.Filling.{filled_with}
 use Rattle.layouts.proofs.PasswordLaws.{length_password}
-use borrow.Author.Rules.{rules}
 use Rattle.layouts.proofs.passwords.put_password.Goals as goal
 
 pub returns : goal.returns

@@ -2,7 +2,6 @@
 -- Assumes nothing.
 use mathlib.Core.Path.{ap, ◌∙◌}
 use Rattle.layouts.specs.Peers.{decode_turns}
-use borrow.Author.Rules.{rules}
 use Rattle.layouts.proofs.peers.decode_peer.Goals as goal
 
 pub returns : goal.returns

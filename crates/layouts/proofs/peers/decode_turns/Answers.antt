@@ -1,7 +1,6 @@
 -- `layouts::peers::decode_turns` meets its contract.
 -- Assumes nothing.
 use mathlib.Core.Path.{ap, ◌∙◌}
-use borrow.Author.Rules.{rules}
 use Rattle.layouts.specs.Records.{is_flag}
 use Rattle.layouts.specs.Peers.{decode_turns}
 use Rattle.layouts.proofs.PeerLaws.{peer_same}

@@ -9,23 +9,16 @@ use Rattle.layouts.proofs.Putting.{first, next, last}
 use Rattle.layouts.proofs.PeerLaws.{SizedPeer, turns_pieces}
 use Rattle.layouts.proofs.peers.encode_turns.Goals as goal
 
-sized : (c : goal.Start) → SizedPeer c.args.peer
-sized c = record { sent = search rules; turn = search rules }
-
 -- each field in turn, the last first
 pub returns : goal.returns
 returns c =
-    let next-id = c in
-    let answered = next-id in
-    let last-id = answered in
-    let present = last-id in
-    let empty = present in
-    let start = empty.before.before.before.before.before in
-    let q = start.args.peer in
-    let room = empty.empty_room.result.bytes in
-    let s₁ = first 0 room (flag q.sent.present ∷ []) 1 refl present.put_flag-room.ensures in
-    let s₂ = next s₁ (q.sent.id ∷ []) 1 refl last-id.put_byte-room.ensures in
-    let s₃ = next s₂ q.sent.challenge 8 (sized start).sent answered.put_eight-room.ensures in
-    let s₄ = next s₃ (q.turn.id ∷ []) 1 refl next-id.put_byte-room-2.ensures in
+    let sized : SizedPeer c.args.peer =
+    record { sent = search rules; turn = search rules } in
+    let q = c.args.peer in
+    let room = c.empty_room.result.bytes in
+    let s₁ = first 0 room (flag q.sent.present ∷ []) 1 refl c.put_flag-room.ensures in
+    let s₂ = next s₁ (q.sent.id ∷ []) 1 refl c.put_byte-room.ensures in
+    let s₃ = next s₂ q.sent.challenge 8 sized.sent c.put_eight-room.ensures in
+    let s₄ = next s₃ (q.turn.id ∷ []) 1 refl c.put_byte-room-2.ensures in
     last s₄ q.turn.challenge c.put_eight.ensures
-    ∙ ap₂ over (turns_pieces q) empty.empty_room.ensures
+    ∙ ap₂ over (turns_pieces q) c.empty_room.ensures

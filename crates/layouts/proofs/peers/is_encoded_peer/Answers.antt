@@ -8,7 +8,6 @@ use Rattle.layouts.specs.Inner.{in_room}
 use Rattle.layouts.specs.Peers.{encode_turns, decode_peer, is_encoded_peer}
 use Rattle.layouts.proofs.PeerLaws.{length_turns, decoded_peer_sized}
 use Rattle.layouts.proofs.Putting.{compared}
-use borrow.Author.Rules.{rules}
 use Rattle.layouts.proofs.peers.is_encoded_peer.Goals as goal
 
 pub returns : goal.returns

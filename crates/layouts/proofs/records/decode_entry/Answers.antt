@@ -1,7 +1,6 @@
 -- `layouts::records::decode_entry` meets its contract.
 -- Assumes nothing.
 use mathlib.Core.Path.{ap, ◌∙◌}
-use borrow.Author.Rules.{rules}
 use Rattle.accounts.specs.Account.{entry_failures}
 use Rattle.layouts.specs.Records.{is_flag, decode_hash, decode_entry}
 use Rattle.layouts.proofs.RecordLaws.{entry_same}

@@ -3,7 +3,6 @@
 use mathlib.Core.Path.{ap, ◌∙◌}
 use Rattle.layouts.specs.Records.{is_flag, decode_entry, decode_entry_lookup}
 use Rattle.layouts.proofs.RecordLaws.{entry_lookup_same}
-use borrow.Author.Rules.{rules}
 use Rattle.layouts.proofs.records.decode_entry_lookup.Goals as goal
 
 pub returns : goal.returns

@@ -1,7 +1,6 @@
 -- `layouts::records::decode_hash` meets its contract.
 -- Assumes nothing.
 use mathlib.Core.Path.{ap, ◌∙◌}
-use borrow.Author.Rules.{rules}
 use Rattle.layouts.specs.Records.{is_flag}
 use Rattle.layouts.proofs.RecordLaws.{hash_same}
 use Rattle.layouts.proofs.records.decode_hash.Goals as goal

@@ -2,7 +2,6 @@
 -- Assumes nothing.
 use mathlib.Core.Path.{ap, ◌∙◌}
 use Rattle.layouts.specs.Records.{decode_entry_lookup}
-use borrow.Author.Rules.{rules}
 use Rattle.layouts.proofs.records.decode_head.Goals as goal
 
 pub returns : goal.returns

@@ -10,30 +10,22 @@ use Rattle.layouts.proofs.Putting.{first, next, last}
 use Rattle.layouts.proofs.RecordLaws.{SizedEntry, entry_pieces}
 use Rattle.layouts.proofs.records.encode_entry.Goals as goal
 
-sized : (c : goal.Start) → SizedEntry c.args.entry
-sized c = record { nt = search rules; lm = search rules }
-
 -- each field in turn, the last first
 pub returns : goal.returns
 returns c =
-    let expired = c in
-    let dialin = expired in
-    let hours = dialin in
-    let disabled = hours in
-    let lm = disabled in
-    let nt = lm in
-    let start = nt.before.before.before in
-    let a = start.args in
+    let sized : SizedEntry c.args.entry =
+    record { nt = search rules; lm = search rules } in
+    let a = c.args in
     let account = a.entry in
     let room = a.room.bytes in
     let s₁ =
-    first a.at room (encode_hash account.nt) 17 (ap suc (sized start).nt)
-    nt.encode_hash-room.ensures in
+    first a.at room (encode_hash account.nt) 17 (ap suc sized.nt)
+    c.encode_hash-room.ensures in
     let s₂ =
-    next s₁ (encode_hash account.lm) 17 (ap suc (sized start).lm) lm.encode_hash-room-2.ensures in
-    let s₃ = next s₂ (flag account.disabled ∷ []) 1 refl disabled.put_flag-room.ensures in
-    let s₄ = next s₃ (flag account.hours_denied ∷ []) 1 refl hours.put_flag-room-2.ensures in
-    let s₅ = next s₄ (flag account.dialin_denied ∷ []) 1 refl dialin.put_flag-room-3.ensures in
-    let s₆ = next s₅ (flag account.expired ∷ []) 1 refl expired.put_flag-room-4.ensures in
+    next s₁ (encode_hash account.lm) 17 (ap suc sized.lm) c.encode_hash-room-2.ensures in
+    let s₃ = next s₂ (flag account.disabled ∷ []) 1 refl c.put_flag-room.ensures in
+    let s₄ = next s₃ (flag account.hours_denied ∷ []) 1 refl c.put_flag-room-2.ensures in
+    let s₅ = next s₄ (flag account.dialin_denied ∷ []) 1 refl c.put_flag-room-3.ensures in
+    let s₆ = next s₅ (flag account.expired ∷ []) 1 refl c.put_flag-room-4.ensures in
     last s₆ (account.failures ∷ []) c.put_byte.ensures
     ∙ ap (λ (l : List ℕ). over_at a.at l room) (entry_pieces account)

@@ -4,7 +4,6 @@ use mathlib.Core.Path.{refl}
 use mathlib.Core.List.{[], ◌∷◌}
 use Rattle.layouts.specs.Records.{flag, encode_entry, encode_entry_lookup}
 use Rattle.layouts.proofs.Putting.{first, last}
-use borrow.Author.Rules.{rules}
 use Rattle.layouts.proofs.records.encode_entry_lookup.Goals as goal
 
 pub returns : goal.returns

@@ -2,7 +2,6 @@
 -- Assumes nothing.
 use mathlib.Core.Path.{refl}
 use mathlib.Core.List.{[], ◌∷◌}
-use borrow.Author.Rules.{rules}
 use Rattle.layouts.specs.Records.{flag}
 use Rattle.layouts.proofs.Putting.{first, last}
 use Rattle.layouts.proofs.records.encode_hash.Goals as goal

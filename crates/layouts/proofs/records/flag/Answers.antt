@@ -1,6 +1,5 @@
 -- `layouts::records::flag` meets its contract.
 -- Assumes nothing.
-use borrow.Author.Rules.{rules}
 use Rattle.layouts.proofs.RecordLaws.{flag_cast}
 use Rattle.layouts.proofs.records.flag.Goals as goal
 

@@ -3,7 +3,6 @@
 use mathlib.Core.Path.{ap, ◌∙◌}
 use Rattle.accounts.specs.declared.EntryLookup.{EntryLookup}
 use Rattle.layouts.specs.Records.{is_record_of, is_encoded_record}
-use borrow.Author.Rules.{rules}
 use Rattle.layouts.proofs.records.is_encoded_record.Goals as goal
 
 pub returns : goal.returns

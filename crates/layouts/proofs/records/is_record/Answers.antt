@@ -1,9 +1,7 @@
 -- `layouts::records::is_record` meets its contract.
 -- Assumes nothing.
-use mathlib.Core.Path.{◌≡◌, ap, ap₂, ◌∙◌}
+use mathlib.Core.Path.{ap, ◌∙◌}
 use mathlib.Core.Bool.{Bool, ◌&&◌}
-use mathlib.Core.List.{List}
-use Prim.Native.Nat.{ℕ}
 use native.Mathlib.Omega.{arith}
 use Rattle.octets.specs.Parts.{over, agrees}
 use Rattle.layouts.specs.Call.{sized}
@@ -14,22 +12,16 @@ use Rattle.layouts.proofs.Putting.{compared}
 use borrow.Author.Rules.{rules}
 use Rattle.layouts.proofs.records.is_record.Goals as goal
 
-entry-sized : (c : goal.Start) → SizedEntry c.args.head.entry
-entry-sized c = record { nt = search rules; lm = search rules }
-
 pub returns : goal.returns
 returns c =
-    let value = c in
-    let front = value in
-    let encoded = front in
-    let empty = encoded in
-    let start = empty.before.before in
-    let v = start.args.head in
-    let bytes = start.args.bytes.now in
+    let entry-sized : SizedEntry c.args.head.entry =
+    record { nt = search rules; lm = search rules } in
+    let v = c.args.head in
+    let bytes = c.args.bytes.now in
     c.both.ensures
     ∙ ap (λ (t : Bool). sized record_size bytes && t)
     (compared record_kind 40 (omega arith) (encode_entry_lookup v)
-    (length_entry_lookup v (entry-sized start))
-    (encoded.encode_entry_lookup-body.ensures ∙ ap (over (encode_entry_lookup v))
-    empty.empty_room.ensures) _ value.is_value.ensures
-    ∙ ap (agrees (record_head v)) front.part_of-front.ensures)
+    (length_entry_lookup v entry-sized)
+    (c.encode_entry_lookup-body.ensures ∙ ap (over (encode_entry_lookup v))
+    c.empty_room.ensures) _ c.is_value.ensures
+    ∙ ap (agrees (record_head v)) c.part_of-front.ensures)

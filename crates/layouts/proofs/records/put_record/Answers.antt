@@ -1,7 +1,7 @@
 -- `layouts::records::put_record` meets its contract.
 -- Assumes nothing.
 use mathlib.Core.List.{List, ◌++◌}
-use mathlib.Core.Path.{◌≡◌, refl, sym, ap, ◌∙◌}
+use mathlib.Core.Path.{◌≡◌, refl, ap, ◌∙◌}
 use Prim.Native.Nat.{ℕ}
 use borrow.Author.Rules.{rules}
 use borrow.Author.Tests.{eq-eqb, ne_eqb}
@@ -15,17 +15,9 @@ use Rattle.layouts.proofs.KeyLaws.{length_schedules}
 use Rattle.layouts.proofs.RecordLaws.{SizedEntry, length_head}
 use Rattle.layouts.proofs.records.put_record.Goals as goal
 
-sized : (c : goal.Start) → SizedEntry (entry_of c.args.lookup.account)
-sized c = record { nt = search rules; lm = search rules }
-
-nt-numbers : (c : goal.Start) → length c.args.lookup.account.nt_keys.keys ≡ 48
-nt-numbers c = search rules
-
-lm-numbers : (c : goal.Start) → length c.args.lookup.account.lm_keys.keys ≡ 48
-lm-numbers c = search rules
-
 pub returns-then-out-ne-RECORD_SIZE : goal.returns-then-out-ne-RECORD_SIZE
-returns-then-out-ne-RECORD_SIZE c = record { number = simp (ne_eqb _ _ c.if-out-ne-RECORD_SIZE.true); bytes = refl }
+returns-then-out-ne-RECORD_SIZE c =
+    record { number = simp (ne_eqb _ _ c.if-out-ne-RECORD_SIZE.true); bytes = refl }
 
 -- a refusal
 pub returns-then-refusal-ne0 : goal.returns-then-refusal-ne0
@@ -38,24 +30,23 @@ returns-then-refusal-ne0 c =
 
 pub returns : goal.returns
 returns c =
-    let put = c in
-    let head = put in
-    let entry = head in
-    let keys = entry in
-    let none = keys in
-    let else = none in
-    let start = else.before.before in
-    let l = start.args.lookup in
-    let s₁ = first 42 (length_head (entry_lookup_of l) (sized start))
-    (head.put_record_head.ensures
-    ∙ ap (λ (x : EntryLookup). over (record_head x) start.args.out.now)
-    entry.entry_lookup_of.ensures) in
-    let made = keys.encode_schedules-keys.ensures in
-    let s₂ = next s₁ keys.encode_schedules-keys.result 768
-    (ap length made ∙ length_schedules l.account (nt-numbers start) (lm-numbers start))
-    put.copy_at.ensures in
+    let sized : SizedEntry (entry_of c.args.lookup.account) =
+    record { nt = search rules; lm = search rules } in
+    let nt-numbers : length c.args.lookup.account.nt_keys.keys ≡ 48 =
+    search rules in
+    let lm-numbers : length c.args.lookup.account.lm_keys.keys ≡ 48 =
+    search rules in
+    let l = c.args.lookup in
+    let s₁ = first 42 (length_head (entry_lookup_of l) sized)
+    (c.put_record_head.ensures
+    ∙ ap (λ (x : EntryLookup). over (record_head x) c.args.out.now)
+    c.entry_lookup_of.ensures) in
+    let made = c.encode_schedules-keys.ensures in
+    let s₂ = next s₁ c.encode_schedules-keys.result 768
+    (ap length made ∙ length_schedules l.account nt-numbers lm-numbers)
+    c.copy_at.ensures in
     record {
-      number = simp (eq-eqb _ _ else.if-out-ne-RECORD_SIZE.false, none.if-refusal-ne0.false);
-      bytes = laid_whole s₂ else.if-out-ne-RECORD_SIZE.false
+      number = simp (eq-eqb _ _ c.if-out-ne-RECORD_SIZE.false, c.if-refusal-ne0.false);
+      bytes = laid_whole s₂ c.if-out-ne-RECORD_SIZE.false
           ∙ ap (λ (x : List ℕ). record_head (entry_lookup_of l) ++ x) made;
     }

@@ -4,7 +4,6 @@ use mathlib.Core.Path.{ap, ◌∙◌}
 use mathlib.Core.List.{List}
 use Prim.Native.Nat.{ℕ}
 use Rattle.octets.specs.Parts.{part, over}
-use borrow.Author.Rules.{rules}
 use Rattle.layouts.proofs.room.lay_value.Goals as goal
 
 pub returns : goal.returns

@@ -2,13 +2,11 @@
 -- Assumes nothing.
 use mathlib.Core.Path.{sym, ap, ◌∙◌}
 use mathlib.Core.Bool.{Bool}
-use borrow.Author.Tests.{not-true, not-false}
 use Rattle.authenticator.specs.Conversation.{awaited_code}
 use Rattle.authenticator.specs.declared.Conversation.{Conversation}
 use Rattle.layouts.specs.Conversations.{decode_conversation}
 use Rattle.layouts.specs.Call.{value_or}
 use Rattle.step_calls.specs.Calls.{conversation_awaits}
-use borrow.Author.Rules.{rules}
 use Rattle.mschap.proofs.conversations.mschap_conversation_awaits.Goals as goal
 
 pub returns-then-not-is_encoded_conversation : goal.returns-then-not-is_encoded_conversation
@@ -18,13 +16,10 @@ returns-then-not-is_encoded_conversation c = simp (sym c.is_encoded_conversation
 pub returns : goal.returns
 unfolding conversation_awaits
 returns c =
-    let decoded = c in
-    let passed = decoded in
-    let bytes = passed.args.conversation.now in
-    let valid = sym passed.is_encoded_conversation.ensures ∙ not-false _
-    passed.if-not-is_encoded_conversation.false in
+    let bytes = c.args.conversation.now in
+    let valid = sym c.is_encoded_conversation.ensures ∙ c.if-not-is_encoded_conversation.false in
     c.awaited_code.ensures
     ∙ ap (λ (v : Conversation). awaited_code v.terms.change v.phase)
-    decoded.decode_conversation-decoded.ensures
+    c.decode_conversation-decoded.ensures
     ∙ ap (λ (t : Bool). value_or t (awaited_code (decode_conversation bytes).terms.change
     (decode_conversation bytes).phase)) (sym valid)

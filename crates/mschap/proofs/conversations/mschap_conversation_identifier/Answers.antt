@@ -2,12 +2,10 @@
 -- Assumes nothing.
 use mathlib.Core.Path.{sym, ap, ◌∙◌}
 use mathlib.Core.Bool.{Bool}
-use borrow.Author.Tests.{not-true, not-false}
 use Rattle.authenticator.specs.declared.Conversation.{Conversation}
 use Rattle.layouts.specs.Conversations.{decode_conversation}
 use Rattle.layouts.specs.Call.{value_or}
 use Rattle.step_calls.specs.Calls.{conversation_identifier}
-use borrow.Author.Rules.{rules}
 use Rattle.mschap.proofs.conversations.mschap_conversation_identifier.Goals as goal
 
 pub returns-then-not-is_encoded_conversation : goal.returns-then-not-is_encoded_conversation
@@ -17,10 +15,7 @@ returns-then-not-is_encoded_conversation c = simp (sym c.is_encoded_conversation
 pub returns : goal.returns
 unfolding conversation_identifier
 returns c =
-    let decoded = c in
-    let passed = decoded in
-    let bytes = passed.args.conversation.now in
-    let valid = sym passed.is_encoded_conversation.ensures ∙ not-false _
-    passed.if-not-is_encoded_conversation.false in
-    ap (λ (v : Conversation). v.id) decoded.decode_conversation.ensures
+    let bytes = c.args.conversation.now in
+    let valid = sym c.is_encoded_conversation.ensures ∙ c.if-not-is_encoded_conversation.false in
+    ap (λ (v : Conversation). v.id) c.decode_conversation.ensures
     ∙ ap (λ (t : Bool). value_or t (decode_conversation bytes).id) (sym valid)

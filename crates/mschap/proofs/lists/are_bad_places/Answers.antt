@@ -8,7 +8,6 @@ use Prim.Native.Nat.{ℕ}
 use lib.ListN.{length}
 use Rattle.issued.specs.Issued.{bad_buffer}
 use Rattle.layouts.specs.Lists.{places_in}
-use borrow.Author.Rules.{rules}
 use Rattle.mschap.proofs.lists.are_bad_places.Goals as goal
 
 pub returns-then-list-lt-LIST_HEAD_SIZE : goal.returns-then-list-lt-LIST_HEAD_SIZE

@@ -4,7 +4,6 @@ use mathlib.Core.Path.{ap, ap₂, ◌∙◌}
 use mathlib.Core.Bool.{◌&&◌, not}
 use Prim.Native.Nat.{ℕ}
 use Rattle.mschap.specs.Lists.{bad_places, is_good_list}
-use borrow.Author.Rules.{rules}
 use Rattle.mschap.proofs.lists.is_good_list.Goals as goal
 
 pub returns : goal.returns

@@ -2,10 +2,8 @@
 -- Assumes nothing.
 use mathlib.Core.Path.{sym, ap, ◌∙◌}
 use mathlib.Core.Bool.{Bool}
-use borrow.Author.Tests.{not-true, not-false}
 use Rattle.layouts.specs.Lists.{used_in}
 use Rattle.layouts.specs.Call.{value_or}
-use borrow.Author.Rules.{rules}
 use Rattle.mschap.proofs.lists.mschap_list_used.Goals as goal
 
 pub returns-then-not-is_good_list : goal.returns-then-not-is_good_list

@@ -4,7 +4,6 @@ use mathlib.Core.Path.{◌≡◌, refl, sym, ap, ◌∙◌}
 use mathlib.Core.Bool.{Bool, false, cond}
 use Rattle.mschap.specs.Lists.{bad_places, make_list_refusal}
 use Rattle.mschap.proofs.ListCalls.{head_laid, good_head}
-use borrow.Author.Rules.{rules}
 use Rattle.mschap.proofs.lists.mschap_make_list.Goals as goal
 
 pub returns-then-are_bad_places : goal.returns-then-are_bad_places

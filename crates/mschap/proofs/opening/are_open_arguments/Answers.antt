@@ -5,7 +5,6 @@ use mathlib.Core.Bool.{Bool, ◌&&◌}
 use lib.ListN.{length}
 use lib.Dec.{eqb, ltb}
 use Rattle.mschap.specs.Opening.{open_arguments}
-use borrow.Author.Rules.{rules}
 use Rattle.mschap.proofs.opening.are_open_arguments.Goals as goal
 
 pub returns : goal.returns

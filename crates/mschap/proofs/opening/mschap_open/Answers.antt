@@ -2,20 +2,11 @@
 -- Assumes nothing.
 use mathlib.Core.Path.{◌≡◌, refl, sym, ◌∙◌}
 use mathlib.Core.Bool.{true}
-use borrow.Author.Tests.{not-true, not-false}
 use Rattle.mschap.specs.Opening.{open_arguments}
 use Rattle.mschap.proofs.OpenCalls.{passed, open_called}
 use borrow.Author.Tests.{ltb-true}
 use native.Mathlib.Omega.{arith}
-use borrow.Author.Rules.{rules}
 use Rattle.mschap.proofs.opening.mschap_open.Goals as goal
-use Rattle.mschap.proofs.opening.mschap_open.Goals.{Else-not-are_open_arguments}
-
-valid : (c : Else-not-are_open_arguments)
-    → let a = c.args in
-    open_arguments a.id a.terms a.challenge.now a.list.now a.conversation.now
-    ≡ true
-valid c = sym c.are_open_arguments.ensures ∙ c.if-not-are_open_arguments.false
 
 -- The arguments are tested by one function, the opening is made on the list, and its conversation
 -- is put into the caller's buffer: OpenCalls says what that makes the call return and leave.
@@ -32,23 +23,23 @@ returns-then-not-are_open_arguments c =
 pub overflow_cast-id : goal.overflow_cast-id
 overflow_cast-id c =
     let a = c.args in
-    let p =
-    passed a.id a.terms a.challenge.now a.list.now a.conversation.now (valid c) in
+    let valid : open_arguments a.id a.terms a.challenge.now a.list.now a.conversation.now ≡ true
+    = sym c.are_open_arguments.ensures ∙ c.if-not-are_open_arguments.false in
+    let p = passed a.id a.terms a.challenge.now a.list.now a.conversation.now valid in
     omega (arith, ltb-true a.id 256 p.small)
 
 pub open_on-answer-requires : goal.open_on-answer-requires
 open_on-answer-requires c =
-    let e = c.before.before in
-    let a = e.args in
-    let p =
-    passed a.id a.terms a.challenge.now a.list.now a.conversation.now (valid e) in
-    (p.eight, p.head)
+    let a = c.args in
+    let valid : open_arguments a.id a.terms a.challenge.now a.list.now a.conversation.now ≡ true
+    = sym c.are_open_arguments.ensures ∙ c.if-not-are_open_arguments.false in
+    let p = passed a.id a.terms a.challenge.now a.list.now a.conversation.now valid in
+    record { challenge_len = p.eight; list_head_size_in_bounds = p.head }
 
 pub returns : goal.returns
 returns c =
-    let put = c in
-    let opened = put in
-    let e = opened.before.before.before in
-    let a = e.args in
+    let a = c.args in
+    let valid : open_arguments a.id a.terms a.challenge.now a.list.now a.conversation.now ≡ true
+    = sym c.are_open_arguments.ensures ∙ c.if-not-are_open_arguments.false in
     open_called a.id a.terms a.challenge.now a.list.now a.conversation.now
-    a.reply.now (valid e) opened.open_on-answer.ensures put.put_conversation.ensures
+    a.reply.now valid c.open_on-answer.ensures c.put_conversation.ensures

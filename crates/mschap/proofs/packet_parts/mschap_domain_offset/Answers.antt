@@ -1,7 +1,6 @@
 -- `mschap::packet_parts::mschap_domain_offset` meets its contract.
 -- Assumes nothing.
 use mathlib.Core.Path.{ap}
-use borrow.Author.Rules.{rules}
 use Rattle.packets.specs.declared.Part.{Part}
 use Rattle.mschap.proofs.packet_parts.mschap_domain_offset.Goals as goal
 

@@ -4,7 +4,6 @@ use mathlib.Core.Path.{sym, ap, ◌∙◌}
 use mathlib.Core.Bool.{Bool}
 use Rattle.packets.specs.Frame.{length_of}
 use mathlib.Core.Bool.{cond}
-use borrow.Author.Rules.{rules}
 use Rattle.mschap.proofs.packet_parts.mschap_packet_length.Goals as goal
 
 pub returns-then-is_bad_frame : goal.returns-then-is_bad_frame

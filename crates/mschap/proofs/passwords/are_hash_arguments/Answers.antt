@@ -3,7 +3,6 @@
 use mathlib.Core.Path.{refl, ap₂, ◌∙◌}
 use mathlib.Core.Bool.{◌&&◌}
 use Rattle.mschap.specs.Passwords.{hash_arguments}
-use borrow.Author.Rules.{rules}
 use Rattle.mschap.proofs.passwords.are_hash_arguments.Goals as goal
 
 pub returns : goal.returns

@@ -4,7 +4,6 @@ use mathlib.Core.Path.{ap, ◌∙◌}
 use mathlib.Core.Bool.{Bool}
 use mathlib.Core.Bool.{cond}
 use Rattle.mschap.specs.Passwords.{characters_refusal}
-use borrow.Author.Rules.{rules}
 use Rattle.mschap.proofs.passwords.characters_refusal.Goals as goal
 
 pub returns : goal.returns

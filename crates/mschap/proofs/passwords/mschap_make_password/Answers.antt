@@ -5,7 +5,6 @@ use Rattle.unicode_text.specs.Password.{password_octets}
 use Rattle.unicode_text.specs.declared.Password.{Password}
 use Rattle.layouts.specs.Passwords.{encode_password}
 use Rattle.layouts.proofs.Filling.{fills_as}
-use borrow.Author.Rules.{rules}
 use Rattle.mschap.proofs.passwords.mschap_make_password.Goals as goal
 
 pub returns : goal.returns

@@ -2,7 +2,6 @@
 -- Assumes nothing.
 use mathlib.Core.Path.{refl}
 use Rattle.layouts.proofs.Filling.{fills_as}
-use borrow.Author.Rules.{rules}
 use Rattle.mschap.proofs.passwords.mschap_make_password_utf16.Goals as goal
 
 pub returns : goal.returns

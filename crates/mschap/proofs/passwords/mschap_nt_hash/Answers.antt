@@ -2,7 +2,7 @@
 -- Assumes nothing.
 use mathlib.Core.Path.{◌≡◌, sym, ap, ◌∙◌}
 use mathlib.Core.Bool.{true}
-use borrow.Author.Tests.{not-true, not-false, eqb-true}
+use borrow.Author.Tests.{eqb-true}
 use mathlib.Core.List.{List}
 use Prim.Native.Nat.{ℕ}
 use lib.ListN.{length}
@@ -14,15 +14,11 @@ use Rattle.layouts.proofs.Filling.{both, refused_argument, valid_argument, fille
 use Rattle.mschap.specs.Passwords.{hash_arguments}
 use borrow.Author.Rules.{rules}
 use Rattle.mschap.proofs.passwords.mschap_nt_hash.Goals as goal
-use Rattle.mschap.proofs.passwords.mschap_nt_hash.Goals.{After-nt_hash-done}
 
 room : (password hash : List ℕ) → hash_arguments password hash ≡ true → length hash ≡ 16
 unfolding hash_arguments
 room password hash e =
     eqb-true (length hash) 16 (both (is_encoded_password password) (sized 16 hash) e).1
-
-sixteen : (c : After-nt_hash-done) → length c.nt_hash-done.result.hash ≡ 16
-sixteen c = search rules
 
 pub returns-then-not-are_hash_arguments : goal.returns-then-not-are_hash_arguments
 returns-then-not-are_hash_arguments c =
@@ -30,14 +26,10 @@ returns-then-not-are_hash_arguments c =
 
 pub returns : goal.returns
 returns c =
-    let put = c in
-    let made = put.before.before.before.before in
-    let decoded = made in
-    let passed = decoded in
-    let a = passed.args in
-    let valid =
-    sym passed.are_hash_arguments.ensures ∙ passed.if-not-are_hash_arguments.false in
-    let hashed = made.nt_hash-done.ensures ∙ ap nt_hashed decoded.decode_password.ensures in
+    let a = c.args in
+    let valid = sym c.are_hash_arguments.ensures ∙ c.if-not-are_hash_arguments.false in
+    let hashed = c.nt_hash-done.ensures ∙ ap nt_hashed c.decode_password.ensures in
+    let sixteen : length c.nt_hash-done.result.hash ≡ 16 = search rules in
     valid_argument valid (room a.password.now a.hash.now valid)
-    (filled_with (sixteen made) (ap (λ (d : Hashed). d.hash) hashed)
-    (ap (λ (d : Hashed). d.refusal) hashed) put.fill.ensures)
+    (filled_with sixteen (ap (λ (d : Hashed). d.hash) hashed)
+    (ap (λ (d : Hashed). d.refusal) hashed) c.fill.ensures)

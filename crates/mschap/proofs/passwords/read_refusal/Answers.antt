@@ -3,7 +3,6 @@
 use mathlib.Core.Path.{sym, ◌∙◌}
 use borrow.Author.Tests.{eq-eqb, ne_eqb}
 use Rattle.mschap.specs.Passwords.{read_refusal}
-use borrow.Author.Rules.{rules}
 use Rattle.mschap.proofs.passwords.read_refusal.Goals as goal
 
 pub returns-then-text-ne0 : goal.returns-then-text-ne0

@@ -2,12 +2,10 @@
 -- Assumes nothing.
 use mathlib.Core.Path.{sym, ap, ◌∙◌}
 use mathlib.Core.Bool.{Bool}
-use borrow.Author.Tests.{not-true, not-false}
 use Rattle.layouts.specs.Answers.{decode_answer}
 use Rattle.layouts.specs.declared.StepResult.{StepResult}
 use Rattle.layouts.specs.Call.{value_or}
 use Rattle.step_calls.specs.Calls.{answer_reason}
-use borrow.Author.Rules.{rules}
 use Rattle.mschap.proofs.steps.mschap_answer_reason.Goals as goal
 
 pub returns-then-not-is_encoded_answer : goal.returns-then-not-is_encoded_answer
