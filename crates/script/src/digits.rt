@@ -1,5 +1,5 @@
 // Octets that a word names.
-ghost use Rattle.io.specs.Counts.{IsPrefixLen};
+ghost use Rattle.std.specs.Counts.{IsPrefixLen};
 
 use super::words;
 
