@@ -14,10 +14,8 @@ pub fn names_hash(line: &[u8], k: usize) -> bool {
 // The numbers that octets make; 0 for those that they do not reach.
 fn read_numbers(octets: &[u8]) -> [u64; 48] {
     let mut numbers = [0u64; 48];
-    let mut i = 0;
-    while i < 48 {
+    for i in 0..48 {
         numbers[i] = octets::u64_from_be(octets::eight_at(octets, 8 * i));
-        i += 1;
     }
     numbers
 }

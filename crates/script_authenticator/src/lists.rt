@@ -43,15 +43,13 @@ pub(crate) fn empty(places: u8) -> List {
 // Counts from pairs of octets, as many as counts takes; an odd last octet is ignored. Answers how
 // many.
 fn read_counts(octets: &[u8], counts: &mut [u16]) -> usize {
-    let mut n: usize = 0;
-    while n < counts.len() {
+    for n in 0..counts.len() {
         if octets.len() / 2 <= n {
             return n;
         }
         counts[n] = octets::u16_from_be(octets[2 * n], octets[2 * n + 1]);
-        n += 1;
     }
-    n
+    counts.len()
 }
 
 // list BUFFER USED COUNTS
