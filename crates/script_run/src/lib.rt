@@ -17,21 +17,30 @@ fn read_script(alloc: Global, file: impl Read + Drop) -> io::Result<Vec<u8>> {
     Ok(script)
 }
 
-// One script, from the state in which the one before it ended. Of a file that does not open standard
-// error says so.
+// Runs what is read of a script.
+fn run_part(
+    output: &mut impl Write,
+    alloc: Global,
+    file: impl Read + Drop,
+    session: Session,
+) -> io::Result<Session> {
+    let script = read_script(alloc, file)?;
+    lines::run_lines(output, script.as_slice(), session)
+}
+
+// One script, from the state in which the one before it ended. Of a script that does not open,
+// standard error is told, and nothing is run.
 pub fn run_script<R: Files + AllocGlobal + Eprint>(
     rt: &R,
     output: &mut impl Write,
     path: &str,
     session: Session,
 ) -> io::Result<Session> {
-    let file = match fs::open(rt, path) {
-        Ok(file) => file,
+    match fs::open(rt, path) {
+        Ok(file) => run_part(output, rt.alloc(), file, session),
         Err(error) => {
             eprintln!(rt; "{path}: {error}")?;
-            return Ok(session);
+            Ok(session)
         }
-    };
-    let script = read_script(rt.alloc(), file)?;
-    lines::run_lines(output, script.as_slice(), session)
+    }
 }
