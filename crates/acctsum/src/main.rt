@@ -3,34 +3,39 @@
 // proved in `smbpasswd`.
 #![tactic(auto)]
 
-// 65,536 octets are read at most; one more tells that there were too many. The array is passed
-// whole, as the check of a slice of one grows with its length.
-fn read_input(input: &mut [u8; 65537]) -> usize {
-    io::read_full(0, input)
+use std::alloc::Global;
+use std::io;
+use std::io::{BufWriter, Read, Write};
+
+// 65,536 octets are read at most; one more tells that there were too many.
+fn read_input(alloc: Global, input: impl Read + Drop) -> io::Result<Vec<u8>> {
+    let mut octets = Vec::new(alloc);
+    input.take(65537).read_to_end(&mut octets)?;
+    Ok(octets)
 }
 
-fn summarize(input: &[u8; 65537], n: usize) -> smbpasswd::Summary {
-    smbpasswd::summarize(octets::part_of(input, 0, n))
+fn show(output: &mut impl Write, label: &[u8], n: usize) -> io::Result<()> {
+    output.write_all(label)?;
+    writeln!(output, "{n}")
 }
 
-fn show(label: &[u8], n: usize) {
-    io::write_all(1, label);
-    io::print_decimal(1, n as u64);
-    io::write_all(1, b"\n");
-}
-
-fn main() {
-    let mut input = [0u8; 65537];
-    let n = read_input(&mut input);
-    let summary = summarize(&input, n);
+// The counts of an input, or its refusal.
+fn summarize(output: &mut impl Write, input: &[u8]) -> io::Result<()> {
+    let summary = smbpasswd::summarize(input);
     if summary.refusal != 0 {
-        show(b"refused ", summary.refusal as usize);
-        return;
+        return show(output, b"refused ", summary.refusal as usize);
     }
     let counts = summary.counts;
-    show(b"lines ", counts.lines);
-    show(b"bad ", counts.bad);
-    show(b"disabled ", counts.disabled);
-    show(b"expired ", counts.expired);
-    show(b"no-nt ", counts.no_nt);
+    show(output, b"lines ", counts.lines)?;
+    show(output, b"bad ", counts.bad)?;
+    show(output, b"disabled ", counts.disabled)?;
+    show(output, b"expired ", counts.expired)?;
+    show(output, b"no-nt ", counts.no_nt)
+}
+
+fn main(rt: HostRuntime) -> io::Result<()> {
+    let input = read_input(rt.alloc(), rt.stdin())?;
+    let mut output = BufWriter::new(rt.alloc(), rt.stdout())?;
+    summarize(&mut output, input.as_slice())?;
+    output.flush()
 }

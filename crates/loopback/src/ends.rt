@@ -3,6 +3,8 @@ use super::lines;
 use accounts::Lookup;
 use authenticator::{ChangeChoice, Conversation, LmChoice, Opened, Retries};
 use peer::{PacketWritten, Peer};
+use std::io;
+use std::io::Write;
 
 const LIMIT: u8 = 10;
 
@@ -75,22 +77,29 @@ pub fn empty_list() -> IssuedList {
 
 // Prints the Challenge, whether the box judges LM and whether it awaits version 1's change; or that
 // it refuses to open.
-fn say_opening(opened: Opened, challenge: [u8; 8], sent: &[u8]) {
+fn say_opening(
+    output: &mut impl Write,
+    opened: Opened,
+    challenge: [u8; 8],
+    sent: &[u8],
+) -> io::Result<()> {
     let conversation = opened.conversation;
     let terms = conversation.terms;
     let change = terms.change;
     if opened.refusal == 0 {
-        lines::from_box(sent);
-        lines::judges_lm(terms.lm);
-        lines::awaits(change);
+        lines::from_box(output, sent)?;
+        lines::judges_lm(output, terms.lm)?;
+        lines::awaits(output, change)?;
     } else {
-        lines::refused_opening(opened.refusal, challenge);
+        lines::refused_opening(output, opened.refusal, challenge)?;
     }
+    Ok(())
 }
 
 // The opening, on a list of issued challenges: the box sends a Challenge, and the peer reads it; or
 // the box refuses to open.
 fn opening_with(
+    output: &mut impl Write,
     list: IssuedList,
     id: u8,
     challenge: [u8; 8],
@@ -98,7 +107,7 @@ fn opening_with(
     lm: LmChoice,
     change: ChangeChoice,
     limit: u8,
-) -> Loopback {
+) -> io::Result<Loopback> {
     let mut octets = list.octets;
     let mut counts = list.counts;
     let mut reply = [0u8; 17];
@@ -115,11 +124,11 @@ fn opening_with(
         &mut reply,
     );
     let sent = octets::part_of(&reply, 0, opened.written);
-    say_opening(opened, challenge, sent);
+    say_opening(output, opened, challenge, sent)?;
     let peer = Peer::read_challenge(sent).peer;
     let conversation = opened.conversation;
     let updated = accounts::not_found();
-    Loopback {
+    Ok(Loopback {
         conversation,
         peer,
         list: IssuedList {
@@ -128,19 +137,21 @@ fn opening_with(
             counts,
         },
         updated,
-    }
+    })
 }
 
 // The same of a box that was told nothing of LM and of the change: it does not judge LM, and awaits
 // version 2's change.
 pub fn opening_limited(
+    output: &mut impl Write,
     list: IssuedList,
     id: u8,
     challenge: [u8; 8],
     retries: Retries,
     limit: u8,
-) -> Loopback {
+) -> io::Result<Loopback> {
     opening_with(
+        output,
         list,
         id,
         challenge,
@@ -152,13 +163,25 @@ pub fn opening_limited(
 }
 
 // The same with a limit that no scene reaches.
-pub fn opening_on(list: IssuedList, id: u8, challenge: [u8; 8], retries: Retries) -> Loopback {
-    opening_limited(list, id, challenge, retries, LIMIT)
+pub fn opening_on(
+    output: &mut impl Write,
+    list: IssuedList,
+    id: u8,
+    challenge: [u8; 8],
+    retries: Retries,
+) -> io::Result<Loopback> {
+    opening_limited(output, list, id, challenge, retries, LIMIT)
 }
 
 // The same of a box that was asked for LM, as on a bench with old phones, and is alone on its list.
-pub fn opening_for_lm(id: u8, challenge: [u8; 8], retries: Retries) -> Loopback {
+pub fn opening_for_lm(
+    output: &mut impl Write,
+    id: u8,
+    challenge: [u8; 8],
+    retries: Retries,
+) -> io::Result<Loopback> {
     opening_with(
+        output,
         empty_list(),
         id,
         challenge,
@@ -170,8 +193,9 @@ pub fn opening_for_lm(id: u8, challenge: [u8; 8], retries: Retries) -> Loopback 
 }
 
 // The same of a box that was opened for version 1's change, with the usual challenge.
-pub fn opening_for_one() -> Loopback {
+pub fn opening_for_one(output: &mut impl Write) -> io::Result<Loopback> {
     opening_with(
+        output,
         empty_list(),
         7,
         challenge(),
@@ -183,63 +207,69 @@ pub fn opening_for_one() -> Loopback {
 }
 
 // The opening of a box that is alone on its list.
-pub fn opening(id: u8, challenge: [u8; 8], retries: Retries) -> Loopback {
-    opening_on(empty_list(), id, challenge, retries)
+pub fn opening(
+    output: &mut impl Write,
+    id: u8,
+    challenge: [u8; 8],
+    retries: Retries,
+) -> io::Result<Loopback> {
+    opening_on(output, empty_list(), id, challenge, retries)
 }
 
 // The same with the usual challenge, and with the retries that a box has by default.
-pub fn usual_opening() -> Loopback {
-    opening(7, challenge(), Retries::Default)
+pub fn usual_opening(output: &mut impl Write) -> io::Result<Loopback> {
+    opening(output, 7, challenge(), Retries::Default)
 }
 
 // ---- a packet of the peer, and the box's answer
 
 // The peer reads the answer.
-fn read(peer: Peer, answer: &[u8]) -> Peer {
-    lines::from_box(answer);
+fn read(output: &mut impl Write, peer: Peer, answer: &[u8]) -> io::Result<Peer> {
+    lines::from_box(output, answer)?;
     let read = peer.read_reply(answer);
     let reading = read.reading;
     let verdict = reading.verdict;
-    lines::verdict(verdict);
-    read.peer
+    lines::verdict(output, verdict)?;
+    Ok(read.peer)
 }
 
 // The box takes the packet that the peer wrote, the first octets of out, and answers, and the peer
 // reads the answer. A packet does not show what it was made from: made says it.
 pub fn answered(
+    output: &mut impl Write,
     mut loopback: Loopback,
     wrote: PacketWritten,
     out: &[u8],
     made: &[u8],
     lookup: Lookup,
-) -> Loopback {
+) -> io::Result<Loopback> {
     let written = wrote.written;
     let mut reply = [0u8; 17];
     let before = loopback.conversation;
     let packet = octets::part_of(out, 0, written.length);
-    lines::from_peer(packet, made);
+    lines::from_peer(output, packet, made)?;
     let answer = before.step(packet, lookup, &mut reply);
     let kind = answer.kind;
     let fault = answer.fault;
-    lines::repeated(kind);
+    lines::repeated(output, kind)?;
     let conversation = answer.next;
     let updated = answer.updated;
     let waiting = wrote.peer;
-    let peer = read(waiting, octets::part_of(&reply, 0, answer.written));
-    lines::support(fault);
+    let peer = read(output, waiting, octets::part_of(&reply, 0, answer.written))?;
+    lines::support(output, fault)?;
     loopback.conversation = conversation;
     loopback.peer = peer;
     loopback.updated = updated;
-    loopback
+    Ok(loopback)
 }
 
 // Prints the count of the record that was handed out, and the box's limit.
-pub fn say_failures(loopback: Loopback) {
+pub fn say_failures(output: &mut impl Write, loopback: Loopback) -> io::Result<()> {
     let updated = loopback.updated;
     let account = updated.account;
     let conversation = loopback.conversation;
     let terms = conversation.terms;
-    lines::failures(account.failures, terms.limit)
+    lines::failures(output, account.failures, terms.limit)
 }
 
 // ---- the Response
@@ -251,41 +281,55 @@ pub fn write_response(loopback: Loopback, password: &[u8], out: &mut [u8]) -> Pa
 }
 
 // A Response from a password, and in words from which.
-pub fn response(loopback: Loopback, password: &[u8], made: &[u8], lookup: Lookup) -> Loopback {
+pub fn response(
+    output: &mut impl Write,
+    loopback: Loopback,
+    password: &[u8],
+    made: &[u8],
+    lookup: Lookup,
+) -> io::Result<Loopback> {
     let mut out = [0u8; 310];
     let wrote = write_response(loopback, password, &mut out);
-    answered(loopback, wrote, &out, made, lookup)
+    answered(output, loopback, wrote, &out, made, lookup)
 }
 
 // A Response from the right password, with a record.
-pub fn rightly_for(loopback: Loopback, lookup: Lookup) -> Loopback {
+pub fn rightly_for(
+    output: &mut impl Write,
+    loopback: Loopback,
+    lookup: Lookup,
+) -> io::Result<Loopback> {
     let password = right();
     let made = b"The peer answers from the right password, and says who it is: BENCH\\user.";
-    response(loopback, &password, made, lookup)
+    response(output, loopback, &password, made, lookup)
 }
 
 // A Response from a wrong one.
-pub fn wrongly_for(loopback: Loopback, lookup: Lookup) -> Loopback {
+pub fn wrongly_for(
+    output: &mut impl Write,
+    loopback: Loopback,
+    lookup: Lookup,
+) -> io::Result<Loopback> {
     let password = wrong();
     let made = b"The peer answers from a wrong password, and says who it is: BENCH\\user.";
-    response(loopback, &password, made, lookup)
+    response(output, loopback, &password, made, lookup)
 }
 
 // The same with the record of the account.
 
-pub fn rightly(loopback: Loopback, expired: bool) -> Loopback {
-    rightly_for(loopback, account(expired))
+pub fn rightly(output: &mut impl Write, loopback: Loopback, expired: bool) -> io::Result<Loopback> {
+    rightly_for(output, loopback, account(expired))
 }
 
-pub fn wrongly(loopback: Loopback, expired: bool) -> Loopback {
-    wrongly_for(loopback, account(expired))
+pub fn wrongly(output: &mut impl Write, loopback: Loopback, expired: bool) -> io::Result<Loopback> {
+    wrongly_for(output, loopback, account(expired))
 }
 
 // A Response from the right password by a peer that did not hear the last reply: the box has gone
 // on, and the peer is where it was.
-pub fn again(mut loopback: Loopback, peer: Peer) -> Loopback {
+pub fn again(output: &mut impl Write, mut loopback: Loopback, peer: Peer) -> io::Result<Loopback> {
     loopback.peer = peer;
-    rightly(loopback, false)
+    rightly(output, loopback, false)
 }
 
 // ---- the change, version 2's
@@ -306,17 +350,22 @@ pub fn write_change(loopback: Loopback, out: &mut [u8]) -> PacketWritten {
 
 // The change of a password, and in words what it was made from. The box decides by the record that
 // it kept, so that none is passed.
-pub fn change_of(loopback: Loopback, old: &[u8], made: &[u8]) -> Loopback {
+pub fn change_of(
+    output: &mut impl Write,
+    loopback: Loopback,
+    old: &[u8],
+    made: &[u8],
+) -> io::Result<Loopback> {
     let mut out = [0u8; 1118];
     let wrote = write_change_of(loopback, old, &mut out);
-    answered(loopback, wrote, &out, made, accounts::not_found())
+    answered(output, loopback, wrote, &out, made, accounts::not_found())
 }
 
 // The change of the right one.
-pub fn change(loopback: Loopback) -> Loopback {
+pub fn change(output: &mut impl Write, loopback: Loopback) -> io::Result<Loopback> {
     let old = right();
     let made = b"The peer sends the new password sealed under the old one's hash: it knows both.";
-    change_of(loopback, &old, made)
+    change_of(output, loopback, &old, made)
 }
 
 // ---- the change, version 1's
@@ -330,9 +379,9 @@ pub fn write_change_one(loopback: Loopback, out: &mut [u8]) -> PacketWritten {
 }
 
 // The change itself.
-pub fn change_one(loopback: Loopback) -> Loopback {
+pub fn change_one(output: &mut impl Write, loopback: Loopback) -> io::Result<Loopback> {
     let mut out = [0u8; 72];
     let wrote = write_change_one(loopback, &mut out);
     let made = b"The peer sends the old and the new password's hash, under the challenge.";
-    answered(loopback, wrote, &out, made, accounts::not_found())
+    answered(output, loopback, wrote, &out, made, accounts::not_found())
 }

@@ -1,5 +1,5 @@
 // Octets that a word names.
-ghost use Rattle.io.specs.Counts.{IsPrefixLen};
+ghost use Rattle.std.specs.Counts.{IsPrefixLen};
 
 use super::words;
 
@@ -12,30 +12,26 @@ fn octet_of(high: u8, low: u8) -> u8 {
 fn decode_digits(s: &[u8], out: &mut [u8]) -> usize
     ensures { IsPrefixLen result out.new }
 {
-    let mut n: usize = 0;
-    while n < out.len() {
+    for n in 0..out.len() {
         if s.len() / 2 <= n {
             return n;
         }
         out[n] = octet_of(s[2 * n], s[2 * n + 1]);
-        n += 1;
     }
-    n
+    out.len()
 }
 
 // n octets of one value, as many as out takes. Answers how many.
 fn fill(value: u8, n: usize, out: &mut [u8]) -> usize
     ensures { IsPrefixLen result out.new }
 {
-    let mut i = 0;
-    while i < out.len() {
+    for i in 0..out.len() {
         if n <= i {
             return i;
         }
         out[i] = value;
-        i += 1;
     }
-    i
+    out.len()
 }
 
 // The octets that a word names: `-` none, `HH*N` one octet N times, else pairs of digits. Answers

@@ -1,5 +1,7 @@
 // The key schedules of a hash: 48 numbers, each of eight octets, the most significant first.
 use super::{digits, writing};
+use std::io;
+use std::io::Write;
 
 // ---- reading
 
@@ -12,10 +14,8 @@ pub fn names_hash(line: &[u8], k: usize) -> bool {
 // The numbers that octets make; 0 for those that they do not reach.
 fn read_numbers(octets: &[u8]) -> [u64; 48] {
     let mut numbers = [0u64; 48];
-    let mut i = 0;
-    while i < 48 {
+    for i in 0..48 {
         numbers[i] = octets::u64_from_be(octets::eight_at(octets, 8 * i));
-        i += 1;
     }
     numbers
 }
@@ -31,30 +31,27 @@ pub fn numbers(line: &[u8], k: usize) -> [u64; 48] {
 
 // Whether all numbers are 0.
 fn are_zero(numbers: [u64; 48]) -> bool {
-    let mut i = 0;
-    while i < 48 {
-        if numbers[i] != 0 {
+    for number in numbers {
+        if number != 0 {
             return false;
         }
-        i += 1;
     }
     true
 }
 
 // The octets of each number.
-fn put_each(numbers: [u64; 48]) {
-    let mut i = 0;
-    while i < 48 {
-        let octets = octets::u64_to_be(numbers[i]);
-        writing::put_hex(&octets);
-        i += 1;
+fn put_each(output: &mut impl Write, numbers: [u64; 48]) -> io::Result<()> {
+    for number in numbers {
+        let octets = octets::u64_to_be(number);
+        writing::put_hex(output, &octets)?;
     }
+    Ok(())
 }
 
 // The same, with `-` where all are 0.
-pub fn put_numbers(numbers: [u64; 48]) {
+pub fn put_numbers(output: &mut impl Write, numbers: [u64; 48]) -> io::Result<()> {
     if are_zero(numbers) {
-        return writing::put_none();
+        return writing::put_none(output);
     }
-    put_each(numbers)
+    put_each(output, numbers)
 }

@@ -5,12 +5,10 @@ ghost use Rattle.std.specs.Prelude.{◌≤◌, length};
 pub fn find(s: &[u8], at: usize, mark: u8) -> usize
     ensures { (result ≤ length s.now) × (at ≤ length s.now → at ≤ result) }
 {
-    let mut i = at;
-    while i < s.len() {
+    for i in at..s.len() {
         if s[i] == mark {
             return i;
         }
-        i += 1;
     }
     s.len()
 }
@@ -24,10 +22,8 @@ fn next_place(line: &[u8], at: usize) -> usize {
 // The place where word k begins, counted from 0; the end where there are fewer words.
 fn place_of(line: &[u8], k: usize) -> usize {
     let mut at = 0;
-    let mut i = 0;
-    while i < k {
+    for _ in 0..k {
         at = next_place(line, at);
-        i += 1;
     }
     at
 }
@@ -49,14 +45,12 @@ pub fn word(line: &[u8], k: usize) -> &[u8] {
 
 // Which of the words of names a word is, counted from 0; 16 where it is none of the first 16.
 pub fn which(names: &[u8], name: &[u8]) -> usize {
-    let mut i = 0;
-    while i < 16 {
+    for i in 0..16 {
         if octets::agree(word(names, i), name) {
             return i;
         }
-        i += 1;
     }
-    i
+    16
 }
 
 // Which of the names the command of a line is, which is its first word.
@@ -67,9 +61,8 @@ pub fn command(line: &[u8], names: &[u8]) -> usize {
 // The number that decimal digits make; 0 where one is none of them or there are more than nine.
 pub fn number(s: &[u8]) -> usize {
     let mut n: usize = 0;
-    let mut i = 0;
-    while i < s.len() {
-        let d = octets::digit_value(s[i]) as usize;
+    for digit in s {
+        let d = octets::digit_value(*digit) as usize;
         if 9 < d {
             return 0;
         }
@@ -77,7 +70,6 @@ pub fn number(s: &[u8]) -> usize {
             return 0;
         }
         n = n * 10 + d;
-        i += 1;
     }
     n
 }

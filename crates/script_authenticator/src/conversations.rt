@@ -4,6 +4,8 @@ use super::{lists, records};
 use accounts::Lookup;
 use authenticator::{Answer, ChangeChoice, Conversation, Kind, LmChoice, Opened, Retries};
 use lists::List;
+use std::io;
+use std::io::Write;
 use verify::ChangeFault;
 
 // The current conversation, the limit, the version of the change (0 is silence about it) and the
@@ -78,11 +80,11 @@ pub(crate) fn relend(state: ScriptState) -> ScriptState {
 }
 
 // schedules
-pub(crate) fn schedules(state: ScriptState) -> ScriptState {
+pub(crate) fn schedules(output: &mut impl Write, state: ScriptState) -> io::Result<ScriptState> {
     let updated = state.updated;
-    script::put_equals();
-    records::put_schedules(updated);
-    state
+    script::put_equals(output)?;
+    records::put_schedules(output, updated)?;
+    Ok(state)
 }
 
 // ---- limit and changeversion
@@ -155,16 +157,16 @@ fn change_choice(version: u8) -> ChangeChoice {
 }
 
 // REFUSAL WRITTEN BUFFER CONVERSATION LIST
-fn put_opened(opening: OpeningLine, reply: &[u8]) {
+fn put_opened(output: &mut impl Write, opening: OpeningLine, reply: &[u8]) -> io::Result<()> {
     let opened = opening.opened;
     let list = opening.list;
     let conversation = opened.conversation;
-    script::put_equals();
-    script::put_written(opened.refusal, opened.written, reply);
-    script::put_space();
-    records::put_conversation(conversation);
-    script::put_space();
-    lists::put_list(list)
+    script::put_equals(output)?;
+    script::put_written(output, opened.refusal, opened.written, reply)?;
+    script::put_space(output)?;
+    records::put_conversation(output, conversation)?;
+    script::put_space(output)?;
+    lists::put_list(output, list)
 }
 
 // An opening's answer, and the list as it left it.
@@ -216,61 +218,70 @@ fn after_opening(opening: OpeningLine, mut state: ScriptState) -> ScriptState {
 }
 
 // Opens into the reply, and writes the result.
-fn open_into(line: &[u8], reply: &mut [u8], state: ScriptState) -> ScriptState {
+fn open_into(
+    output: &mut impl Write,
+    line: &[u8],
+    reply: &mut [u8],
+    state: ScriptState,
+) -> io::Result<ScriptState> {
     let before = state.list;
     let opening = open_with(line, state.version, state.limit, before, reply);
-    put_opened(opening, reply);
-    after_opening(opening, state)
+    put_opened(output, opening, reply)?;
+    Ok(after_opening(opening, state))
 }
 
 // open ID CHALLENGE R LM BUFFER
-pub(crate) fn open(line: &[u8], state: ScriptState) -> ScriptState {
+pub(crate) fn open(
+    output: &mut impl Write,
+    line: &[u8],
+    state: ScriptState,
+) -> io::Result<ScriptState> {
     let mut reply = [0u8; 2048];
     let n = script::octets(line, 5, &mut reply);
-    open_into(line, &mut reply[..n], state)
+    open_into(output, line, &mut reply[..n], state)
 }
 
 // ---- step
 
 // REFUSAL REASON REPEATED and a space
-fn put_kind(kind: Kind) {
+fn put_kind(output: &mut impl Write, kind: Kind) -> io::Result<()> {
     match kind {
         Kind::Refused(refusal) => {
-            script::put_field(refusal as u64);
-            script::put(b"0 0 ")
+            script::put_field(output, refusal as u64)?;
+            script::put(output, b"0 0 ")
         }
         Kind::Repeated(reason) => {
-            script::put(b"0 ");
-            script::put_field(reason as u64);
-            script::put(b"1 ")
+            script::put(output, b"0 ")?;
+            script::put_field(output, reason as u64)?;
+            script::put(output, b"1 ")
         }
         Kind::Judged(reason) => {
-            script::put(b"0 ");
-            script::put_field(reason as u64);
-            script::put(b"0 ")
+            script::put(output, b"0 ")?;
+            script::put_field(output, reason as u64)?;
+            script::put(output, b"0 ")
         }
     }
 }
 
 // FAULT and a space
-fn put_fault(fault: ChangeFault) {
-    script::put_field(verify::fault_number(fault) as u64)
+fn put_fault(output: &mut impl Write, fault: ChangeFault) -> io::Result<()> {
+    script::put_field(output, verify::fault_number(fault) as u64)
 }
 
 // REFUSAL REASON REPEATED FAULT WRITTEN BUFFER CONVERSATION RECORD
-fn put_answer(answer: Answer, reply: &[u8]) {
+fn put_answer(output: &mut impl Write, answer: Answer, reply: &[u8]) -> io::Result<()> {
     let kind = answer.kind;
     let fault = answer.fault;
     let next = answer.next;
     let updated = answer.updated;
-    script::put_equals();
-    put_kind(kind);
-    put_fault(fault);
-    script::put_sized(answer.written, reply);
-    script::put_space();
-    records::put_conversation(next);
-    script::put_space();
-    records::put_lookup(updated)
+    script::put_equals(output)?;
+    put_kind(output, kind)?;
+    put_fault(output, fault)?;
+    script::put_sized(output, answer.written, reply)?;
+    script::put_space(output)?;
+    records::put_conversation(output, next)?;
+    script::put_space(output)?;
+    records::put_lookup(output, updated)
 }
 
 // The next conversation becomes the current one, and the record is kept for `relend` and
@@ -284,19 +295,28 @@ fn after_step(answer: Answer, mut state: ScriptState) -> ScriptState {
 }
 
 // Takes a packet, replies into the reply, and writes the result.
-fn step_into(packet: &[u8], reply: &mut [u8], state: ScriptState) -> ScriptState {
+fn step_into(
+    output: &mut impl Write,
+    packet: &[u8],
+    reply: &mut [u8],
+    state: ScriptState,
+) -> io::Result<ScriptState> {
     let conversation = state.conversation;
     let record = state.record;
     let answer = conversation.step(packet, record, reply);
-    put_answer(answer, reply);
-    after_step(answer, state)
+    put_answer(output, answer, reply)?;
+    Ok(after_step(answer, state))
 }
 
 // step PACKET BUFFER
-pub(crate) fn step(line: &[u8], state: ScriptState) -> ScriptState {
+pub(crate) fn step(
+    output: &mut impl Write,
+    line: &[u8],
+    state: ScriptState,
+) -> io::Result<ScriptState> {
     let mut packet = [0u8; 2048];
     let n = script::octets(line, 1, &mut packet);
     let mut reply = [0u8; 2048];
     let k = script::octets(line, 2, &mut reply);
-    step_into(&packet[..n], &mut reply[..k], state)
+    step_into(output, &packet[..n], &mut reply[..k], state)
 }

@@ -10,6 +10,8 @@ mod records;
 
 pub use conversations::{ScriptState, new_state};
 pub use lists::List;
+use std::io;
+use std::io::Write;
 
 // Which of these commands a line has. (In `run` the literal would stand beside values of
 // ScriptState, and the check of a statement grows with what stands beside it.)
@@ -22,21 +24,21 @@ fn command(line: &[u8]) -> usize {
 
 // Runs a line whose command is one of these: writes its result, and answers what goes on to the
 // next line. Writes nothing and changes nothing for any other.
-pub fn run(line: &[u8], state: ScriptState) -> ScriptState {
+pub fn run(output: &mut impl Write, line: &[u8], state: ScriptState) -> io::Result<ScriptState> {
     match command(line) {
         0 => {
-            names::name(line);
-            state
+            names::name(output, line)?;
+            Ok(state)
         }
-        1 => conversations::account(line, state),
-        2 => conversations::relend(state),
-        3 => conversations::list(line, state),
-        4 => conversations::places(line, state),
-        5 => conversations::open(line, state),
-        6 => conversations::step(line, state),
-        7 => conversations::limit(line, state),
-        8 => conversations::schedules(state),
-        9 => conversations::change_version(line, state),
-        _ => state,
+        1 => Ok(conversations::account(line, state)),
+        2 => Ok(conversations::relend(state)),
+        3 => Ok(conversations::list(line, state)),
+        4 => Ok(conversations::places(line, state)),
+        5 => conversations::open(output, line, state),
+        6 => conversations::step(output, line, state),
+        7 => Ok(conversations::limit(line, state)),
+        8 => conversations::schedules(output, state),
+        9 => Ok(conversations::change_version(line, state)),
+        _ => Ok(state),
     }
 }

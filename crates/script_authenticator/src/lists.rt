@@ -1,6 +1,9 @@
 // The list of issued challenges that is passed with an opening, as it is read and written.
 ghost use Rattle.std.specs.Prelude.{◌≤◌};
 
+use std::io;
+use std::io::Write;
+
 // The buffer is the first size octets, and the first number counts are passed with it. What is
 // behind them is 0.
 #[derive(Clone, Copy)]
@@ -40,15 +43,13 @@ pub(crate) fn empty(places: u8) -> List {
 // Counts from pairs of octets, as many as counts takes; an odd last octet is ignored. Answers how
 // many.
 fn read_counts(octets: &[u8], counts: &mut [u16]) -> usize {
-    let mut n: usize = 0;
-    while n < counts.len() {
+    for n in 0..counts.len() {
         if octets.len() / 2 <= n {
             return n;
         }
         counts[n] = octets::u16_from_be(octets[2 * n], octets[2 * n + 1]);
-        n += 1;
     }
-    n
+    counts.len()
 }
 
 // list BUFFER USED COUNTS
@@ -72,44 +73,43 @@ pub(crate) fn read_list(line: &[u8]) -> List {
 // ---- writing
 
 // HH:N, after a comma where it is not the first.
-fn put_count(is_first: bool, octet: u8, count: u16) {
+fn put_count(output: &mut impl Write, is_first: bool, octet: u8, count: u16) -> io::Result<()> {
     if !is_first {
-        script::put(b",");
+        script::put(output, b",")?;
     }
     let name = [octet];
-    script::put_hex(&name);
-    script::put(b":");
-    script::put_number(count as u64)
+    script::put_hex(output, &name)?;
+    script::put(output, b":")?;
+    script::put_number(output, count as u64)
 }
 
 // The counts of the octets, those that are not 0. Where fewer are passed, the others are 0. Answers
 // whether there was none.
-fn put_each(counts: [u16; 512]) -> bool {
+fn put_each(output: &mut impl Write, counts: [u16; 512]) -> io::Result<bool> {
     let mut is_first = true;
-    let mut i = 0;
-    while i < 256 {
+    for i in 0..256 {
         let count = counts[i];
         if count != 0 {
-            put_count(is_first, i as u8, count);
+            put_count(output, is_first, i as u8, count)?;
             is_first = false;
         }
-        i += 1;
     }
-    is_first
+    Ok(is_first)
 }
 
 // The same, with `-` for none.
-fn put_counts(counts: [u16; 512]) {
-    if put_each(counts) {
-        script::put_none()
+fn put_counts(output: &mut impl Write, counts: [u16; 512]) -> io::Result<()> {
+    if put_each(output, counts)? {
+        script::put_none(output)?;
     }
+    Ok(())
 }
 
 // USED BUFFER COUNTS
-pub(crate) fn put_list(list: List) {
+pub(crate) fn put_list(output: &mut impl Write, list: List) -> io::Result<()> {
     let octets = list.octets;
     let counts = list.counts;
-    script::put_sized(list.used, octets::part_of(&octets, 0, list.size));
-    script::put_space();
-    put_counts(counts)
+    script::put_sized(output, list.used, octets::part_of(&octets, 0, list.size))?;
+    script::put_space(output)?;
+    put_counts(output, counts)
 }

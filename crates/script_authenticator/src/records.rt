@@ -1,6 +1,8 @@
 // Account records and conversations, as they are read and written.
 use accounts::{Account, Entry, Hash, Lookup, Schedules};
 use authenticator::{Conversation, LastAnswer, Phase, Reply};
+use std::io;
+use std::io::Write;
 use verify::{ChangeVersion, Terms};
 
 // ---- reading
@@ -71,135 +73,138 @@ pub(crate) fn lookup(line: &[u8]) -> Lookup {
 
 // ---- writing
 
-fn put_hash(hash: Hash) {
+fn put_hash(output: &mut impl Write, hash: Hash) -> io::Result<()> {
     if hash.present {
         let octets = hash.octets;
-        return script::put_hex(&octets);
+        return script::put_hex(output, &octets);
     }
-    script::put_none()
+    script::put_none(output)
 }
 
-fn put_mark(mark: bool) {
-    script::put_number(mark as u64)
+fn put_mark(output: &mut impl Write, mark: bool) -> io::Result<()> {
+    script::put_number(output, mark as u64)
 }
 
-fn put_marks(entry: Entry) {
-    put_mark(entry.disabled);
-    put_mark(entry.hours_denied);
-    put_mark(entry.dialin_denied);
-    put_mark(entry.expired)
+fn put_marks(output: &mut impl Write, entry: Entry) -> io::Result<()> {
+    put_mark(output, entry.disabled)?;
+    put_mark(output, entry.hours_denied)?;
+    put_mark(output, entry.dialin_denied)?;
+    put_mark(output, entry.expired)
 }
 
 // NT/LM/MARKS/COUNT
-fn put_entry(entry: Entry) {
+fn put_entry(output: &mut impl Write, entry: Entry) -> io::Result<()> {
     let nt = entry.nt;
     let lm = entry.lm;
-    put_hash(nt);
-    script::put(b"/");
-    put_hash(lm);
-    script::put(b"/");
-    put_marks(entry);
-    script::put(b"/");
-    script::put_number(entry.failures as u64)
+    put_hash(output, nt)?;
+    script::put(output, b"/")?;
+    put_hash(output, lm)?;
+    script::put(output, b"/")?;
+    put_marks(output, entry)?;
+    script::put(output, b"/")?;
+    script::put_number(output, entry.failures as u64)
 }
 
 // The same, with `-` for no record.
-pub(crate) fn put_lookup(lookup: Lookup) {
+pub(crate) fn put_lookup(output: &mut impl Write, lookup: Lookup) -> io::Result<()> {
     if lookup.found {
         let account = lookup.account;
-        return put_entry(accounts::entry_of(account));
+        return put_entry(output, accounts::entry_of(account));
     }
-    script::put_none()
+    script::put_none(output)
 }
 
-fn put_keys(keys: Schedules) {
+fn put_keys(output: &mut impl Write, keys: Schedules) -> io::Result<()> {
     let numbers = keys.keys;
-    script::put_numbers(numbers)
+    script::put_numbers(output, numbers)
 }
 
 // NTKEYS LMKEYS, with `-` for no record.
-pub(crate) fn put_schedules(lookup: Lookup) {
+pub(crate) fn put_schedules(output: &mut impl Write, lookup: Lookup) -> io::Result<()> {
     if !lookup.found {
-        return script::put_none();
+        return script::put_none(output);
     }
     let account = lookup.account;
     let nt_keys = account.nt_keys;
     let lm_keys = account.lm_keys;
-    put_keys(nt_keys);
-    script::put_space();
-    put_keys(lm_keys)
+    put_keys(output, nt_keys)?;
+    script::put_space(output)?;
+    put_keys(output, lm_keys)
 }
 
 // What stands behind LIMIT: the version of the change, where it is 1.
-fn put_version(change: ChangeVersion) {
+fn put_version(output: &mut impl Write, change: ChangeVersion) -> io::Result<()> {
     match change {
-        ChangeVersion::One => script::put(b"/1"),
-        ChangeVersion::Two => {}
+        ChangeVersion::One => script::put(output, b"/1"),
+        ChangeVersion::Two => Ok(()),
     }
 }
 
 // LM LIMIT
-fn put_terms(terms: Terms) {
+fn put_terms(output: &mut impl Write, terms: Terms) -> io::Result<()> {
     let change = terms.change;
     if terms.lm {
-        script::put(b" yes ")
+        script::put(output, b" yes ")?;
     } else {
-        script::put(b" no ")
+        script::put(output, b" no ")?;
     }
-    script::put_number(terms.limit as u64);
-    put_version(change);
-    script::put_space()
+    script::put_number(output, terms.limit as u64)?;
+    put_version(output, change)?;
+    script::put_space(output)
 }
 
 // PHASE KEPT
-fn put_phase(phase: Phase, kept: Entry) {
+fn put_phase(output: &mut impl Write, phase: Phase, kept: Entry) -> io::Result<()> {
     match phase {
-        Phase::Response => script::put(b"response -"),
+        Phase::Response => script::put(output, b"response -"),
         Phase::Change => {
-            script::put(b"change ");
-            put_entry(kept)
+            script::put(output, b"change ")?;
+            put_entry(output, kept)
         }
-        Phase::Ended => script::put(b"ended -"),
+        Phase::Ended => script::put(output, b"ended -"),
     }
 }
 
 // REPLY
-fn put_reply(reply: Reply) {
+fn put_reply(output: &mut impl Write, reply: Reply) -> io::Result<()> {
     match reply {
-        Reply::Success => script::put(b"success"),
+        Reply::Success => script::put(output, b"success"),
         Reply::Failure(reason, retry) => {
-            script::put_number(reason as u64);
-            script::put(b"/");
-            put_mark(retry)
+            script::put_number(output, reason as u64)?;
+            script::put(output, b"/")?;
+            put_mark(output, retry)
         }
     }
 }
 
 // LAST
-fn put_last(last: LastAnswer) {
+fn put_last(output: &mut impl Write, last: LastAnswer) -> io::Result<()> {
     if !last.present {
-        return script::put_none();
+        return script::put_none(output);
     }
     let reply = last.reply;
-    script::put_number(last.code as u64);
-    script::put(b":");
-    script::put_number(last.id as u64);
-    script::put(b":");
-    put_reply(reply)
+    script::put_number(output, last.code as u64)?;
+    script::put(output, b":")?;
+    script::put_number(output, last.id as u64)?;
+    script::put(output, b":")?;
+    put_reply(output, reply)
 }
 
 // ID CHALLENGE RETRIES LM LIMIT PHASE KEPT LAST
-pub(crate) fn put_conversation(conversation: Conversation) {
+pub(crate) fn put_conversation(
+    output: &mut impl Write,
+    conversation: Conversation,
+) -> io::Result<()> {
     let terms = conversation.terms;
     let challenge = conversation.challenge;
     let phase = conversation.phase;
     let kept = conversation.kept;
     let last = conversation.last;
-    script::put_named(conversation.id, challenge);
-    script::put_space();
-    script::put_number(conversation.retries as u64);
-    put_terms(terms);
-    put_phase(phase, kept);
-    script::put_space();
-    put_last(last)
+    script::put_named(output, conversation.id, challenge)?;
+    script::put_space(output)?;
+    script::put_number(output, conversation.retries as u64)?;
+    put_terms(output, terms)?;
+    put_phase(output, phase, kept)?;
+    script::put_space(output)?;
+    put_last(output, last)
 }

@@ -1,37 +1,43 @@
 // The command of the Failure message.
 use message::{Call, Failed, NewChallenge, Verdict};
+use std::io;
+use std::io::Write;
 
-fn put_call(call: Call) {
+fn put_call(output: &mut impl Write, call: Call) -> io::Result<()> {
     match call {
-        Call::Retry => script::put(b"retry"),
-        Call::ChangeTwo => script::put(b"change2"),
-        Call::ChangeOne => script::put(b"change1"),
-        Call::End => script::put(b"end"),
+        Call::Retry => script::put(output, b"retry"),
+        Call::ChangeTwo => script::put(output, b"change2"),
+        Call::ChangeOne => script::put(output, b"change1"),
+        Call::End => script::put(output, b"end"),
     }
 }
 
 // The octets of C, or `-`.
-fn put_c(c: NewChallenge) {
+fn put_c(output: &mut impl Write, c: NewChallenge) -> io::Result<()> {
     if c.given {
         let octets = c.octets;
-        return script::put_hex(&octets);
+        return script::put_hex(output, &octets);
     }
-    script::put_none()
+    script::put_none(output)
 }
 
 // E R C V CALL
-pub(crate) fn put_failed(failed: Failed, c: NewChallenge) {
+pub(crate) fn put_failed(
+    output: &mut impl Write,
+    failed: Failed,
+    c: NewChallenge,
+) -> io::Result<()> {
     let call = failed.call;
-    script::put_field(failed.e);
-    script::put_field(failed.r);
-    put_c(c);
-    script::put_space();
-    script::put_field(failed.v);
-    put_call(call)
+    script::put_field(output, failed.e)?;
+    script::put_field(output, failed.r)?;
+    put_c(output, c)?;
+    script::put_space(output)?;
+    script::put_field(output, failed.v)?;
+    put_call(output, call)
 }
 
 // failure MESSAGE
-pub(crate) fn failure(line: &[u8]) {
+pub(crate) fn failure(output: &mut impl Write, line: &[u8]) -> io::Result<()> {
     let mut octets = [0u8; 1024];
     let n = script::octets(line, 1, &mut octets);
     let reading = message::read(&octets[..n]);
@@ -39,11 +45,11 @@ pub(crate) fn failure(line: &[u8]) {
     match verdict {
         Verdict::Failure(failed) => {
             let c = reading.c;
-            script::put_equals();
-            put_failed(failed, c)
+            script::put_equals(output)?;
+            put_failed(output, failed, c)
         }
-        Verdict::Refused(number) => script::put_refused(number),
+        Verdict::Refused(number) => script::put_refused(output, number),
         // a message alone is never a success
-        Verdict::Success => script::put(b" = success"),
+        Verdict::Success => script::put(output, b" = success"),
     }
 }

@@ -4,19 +4,22 @@
 mod failures;
 mod peers;
 
+use std::io;
+use std::io::Write;
+
 // Writes the result of a line whose command is one of these; writes nothing for any other.
-pub fn run(line: &[u8]) {
+pub fn run(output: &mut impl Write, line: &[u8]) -> io::Result<()> {
     match script::command(
         line,
         b"failure challenge reply turn writeresponse writechange writechange1",
     ) {
-        0 => failures::failure(line),
-        1 => peers::challenge(line),
-        2 => peers::reply(line),
-        3 => peers::turn(line),
-        4 => peers::response(line),
-        5 => peers::change(line),
-        6 => peers::change_one(line),
-        _ => {}
+        0 => failures::failure(output, line),
+        1 => peers::challenge(output, line),
+        2 => peers::reply(output, line),
+        3 => peers::turn(output, line),
+        4 => peers::response(output, line),
+        5 => peers::change(output, line),
+        6 => peers::change_one(output, line),
+        _ => Ok(()),
     }
 }

@@ -5,28 +5,42 @@
 mod lines;
 
 pub use lines::{Session, new_session};
+use std::alloc::Global;
+use std::io::{Read, Write};
+use std::rt::Files;
+use std::{fs, io};
 
-// The array is passed whole, as the check of a slice of one grows with its length.
-
-// Reads a script. Answers how many octets it has.
-fn read_script(fd: i32, script: &mut [u8; 1048576]) -> usize {
-    io::read_full(fd, script)
+// Reads a script, of which 1,048,576 octets are run at most.
+fn read_script(alloc: Global, file: impl Read + Drop) -> io::Result<Vec<u8>> {
+    let mut script = Vec::new(alloc);
+    file.take(1048576).read_to_end(&mut script)?;
+    Ok(script)
 }
 
-// Runs the first n octets of a script.
-fn run_part(script: &[u8; 1048576], n: usize, session: Session) -> Session {
-    lines::run_lines(octets::part_of(script, 0, n), session)
+// Runs what is read of a script.
+fn run_part(
+    output: &mut impl Write,
+    alloc: Global,
+    file: impl Read + Drop,
+    session: Session,
+) -> io::Result<Session> {
+    let script = read_script(alloc, file)?;
+    lines::run_lines(output, script.as_slice(), session)
 }
 
-// One script, from the state in which the one before it ended.
-pub fn run_script(path: &[u8], session: Session) -> Session {
-    let fd = os::open_read(path);
-    if fd < 0 {
-        os::fail(path);
-        return session;
+// One script, from the state in which the one before it ended. Of a script that does not open,
+// standard error is told, and nothing is run.
+pub fn run_script<R: Files + AllocGlobal + Eprint>(
+    rt: &R,
+    output: &mut impl Write,
+    path: &str,
+    session: Session,
+) -> io::Result<Session> {
+    match fs::open(rt, path) {
+        Ok(file) => run_part(output, rt.alloc(), file, session),
+        Err(error) => {
+            eprintln!(rt; "{path}: {error}")?;
+            Ok(session)
+        }
     }
-    let mut script = [0u8; 1048576];
-    let n = read_script(fd, &mut script);
-    libc::close(fd);
-    run_part(&script, n, session)
 }

@@ -1,5 +1,7 @@
 // The lines of a script, and what is written for each.
 use script_authenticator::ScriptState;
+use std::io;
+use std::io::Write;
 
 // How a line is read.
 #[derive(Clone, Copy)]
@@ -51,60 +53,64 @@ fn is_plain(line: &[u8]) -> bool {
 }
 
 // Copies a line. The lines after a section's marker are of its section.
-fn copy_line(line: &[u8], session: Session) -> Session {
-    script::put(line);
+fn copy_line(output: &mut impl Write, line: &[u8], session: Session) -> io::Result<Session> {
+    script::put(output, line)?;
     let before = session.section;
     let section = section_after(line, before);
     let state = session.state;
-    Session { section, state }
+    Ok(Session { section, state })
 }
 
 // Writes a command's line and its result. Each crate writes the result of its own commands only.
-fn run_command(line: &[u8], mut session: Session) -> Session {
-    script::put(line);
-    script_ciphers::run(line);
-    script_peer::run(line);
+fn run_command(output: &mut impl Write, line: &[u8], mut session: Session) -> io::Result<Session> {
+    script::put(output, line)?;
+    script_ciphers::run(output, line)?;
+    script_peer::run(output, line)?;
     let before = session.state;
-    let state = script_authenticator::run(line, before);
+    let state = script_authenticator::run(output, line, before)?;
     session.state = state;
-    session
+    Ok(session)
 }
 
 // Writes a line of published vectors.
-fn put_published(line: &[u8], section: Section) {
+fn put_published(output: &mut impl Write, line: &[u8], section: Section) -> io::Result<()> {
     match section {
-        Section::Cases => {}
-        Section::Md4 => script_ciphers::md4_line(line),
-        Section::Rc4 => script_ciphers::rc4_line(line),
-        Section::Des => script_ciphers::des_line(line),
-        Section::Keys => script_ciphers::keys_line(line),
+        Section::Cases => Ok(()),
+        Section::Md4 => script_ciphers::md4_line(output, line),
+        Section::Rc4 => script_ciphers::rc4_line(output, line),
+        Section::Des => script_ciphers::des_line(output, line),
+        Section::Keys => script_ciphers::keys_line(output, line),
     }
 }
 
 // Runs a line, and writes all of its output but for the line feed.
-fn run_line(line: &[u8], session: Session) -> Session {
+fn run_line(output: &mut impl Write, line: &[u8], session: Session) -> io::Result<Session> {
     if is_plain(line) {
-        return copy_line(line, session);
+        return copy_line(output, line, session);
     }
     let section = session.section;
     match section {
-        Section::Cases => run_command(line, session),
+        Section::Cases => run_command(output, line, session),
         _ => {
-            put_published(line, section);
-            session
+            put_published(output, line, section)?;
+            Ok(session)
         }
     }
 }
 
 // Runs each line of a script.
-pub(crate) fn run_lines(script: &[u8], start: Session) -> Session {
+pub(crate) fn run_lines(
+    output: &mut impl Write,
+    script: &[u8],
+    start: Session,
+) -> io::Result<Session> {
     let mut session = start;
     let mut at = 0;
     while at < script.len() {
         let end = script::find(script, at, b'\n');
-        session = run_line(octets::part_of(script, at, end - at), session);
-        script::put_line_feed();
+        session = run_line(output, octets::part_of(script, at, end - at), session)?;
+        script::put_line_feed(output)?;
         at = end + 1;
     }
-    session
+    Ok(session)
 }

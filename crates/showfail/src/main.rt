@@ -2,53 +2,56 @@
 // is part of the message.
 #![tactic(auto)]
 
+use std::io;
+use std::io::{BufWriter, Read, Write};
+
 // A line with a letter and a number.
-fn show_number(letter: u8, n: u64) {
+fn show_number(output: &mut impl Write, letter: u8, n: u64) -> io::Result<()> {
     let label = [letter, 32];
-    io::write_all(1, &label);
-    io::print_decimal(1, n);
-    io::write_all(1, b"\n");
+    output.write_all(&label)?;
+    writeln!(output, "{n}")
 }
 
 // Each octet as two upper-case hexadecimal digits.
-fn show_octets(octets: [u8; 8]) {
+fn show_octets(output: &mut impl Write, octets: [u8; 8]) -> io::Result<()> {
     let mut digits = [0u8; 16];
     octets::encode_hex(&octets, &mut digits);
-    io::write_all(1, &digits);
+    output.write_all(&digits)
 }
 
 // The line of C: its digits, or '-' where it is not given.
-fn show_c(c: message::NewChallenge) {
-    io::write_all(1, b"C ");
+fn show_c(output: &mut impl Write, c: message::NewChallenge) -> io::Result<()> {
+    output.write_all(b"C ")?;
     if c.given {
         let octets = c.octets;
-        show_octets(octets);
+        show_octets(output, octets)?;
     } else {
-        io::write_all(1, b"-");
+        output.write_all(b"-")?;
     }
-    io::write_all(1, b"\n");
+    output.write_all(b"\n")
 }
 
 // 256 octets are a message at most; one more tells that there were too many.
-fn main() {
-    let mut input = [0u8; 257];
-    let n = io::read_full(0, &mut input);
-    let reading = message::read(&input[..n]);
+fn main(rt: HostRuntime) -> io::Result<()> {
+    let mut input = Vec::new(rt.alloc());
+    rt.stdin().take(257).read_to_end(&mut input)?;
+    let mut output = BufWriter::new(rt.alloc(), rt.stdout())?;
+    let reading = message::read(input.as_slice());
     let verdict = reading.verdict;
     match verdict {
         message::Verdict::Failure(failed) => {
-            show_number(b'E', failed.e);
-            show_number(b'R', failed.r);
+            show_number(&mut output, b'E', failed.e)?;
+            show_number(&mut output, b'R', failed.r)?;
             let c = reading.c;
-            show_c(c);
-            show_number(b'V', failed.v);
+            show_c(&mut output, c)?;
+            show_number(&mut output, b'V', failed.v)?;
         }
         message::Verdict::Refused(number) => {
-            io::write_all(1, b"refused ");
-            io::print_decimal(1, number as u64);
-            io::write_all(1, b"\n");
+            output.write_all(b"refused ")?;
+            writeln!(output, "{number}")?;
         }
         // a message alone is never a success
         message::Verdict::Success => {}
     }
+    output.flush()
 }

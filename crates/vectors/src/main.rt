@@ -2,8 +2,13 @@
 // no code with these crates, reads the same scripts and must write the same lines.
 #![tactic(auto)]
 
-fn main() {
+use std::io;
+use std::io::{BufWriter, Write};
+
+fn main(rt: HostRuntime) -> io::Result<()> {
+    let mut output = BufWriter::new(rt.alloc(), rt.stdout())?;
     let mut session = script_run::new_session();
-    session = script_run::run_script(b"published.txt", session);
-    script_run::run_script(b"cases.txt", session);
+    session = script_run::run_script(&rt, &mut output, "published.txt", session)?;
+    script_run::run_script(&rt, &mut output, "cases.txt", session)?;
+    output.flush()
 }

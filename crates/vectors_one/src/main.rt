@@ -2,6 +2,11 @@
 // what one program may write is nearly used up there.
 #![tactic(auto)]
 
-fn main() {
-    script_run::run_script(b"cases.txt", script_run::new_session());
+use std::io;
+use std::io::{BufWriter, Write};
+
+fn main(rt: HostRuntime) -> io::Result<()> {
+    let mut output = BufWriter::new(rt.alloc(), rt.stdout())?;
+    script_run::run_script(&rt, &mut output, "cases.txt", script_run::new_session())?;
+    output.flush()
 }
