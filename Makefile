@@ -1,32 +1,31 @@
-# make test   everything: layout, the independent program, the gate `rt ci`, which proves all crates
-#             from nothing, the cases of showfail and acctsum, and the library as C and Rust link it
+# make test   everything: the independent program, the gate `rt ci`, which refuses what is not laid
+#             out and proves all crates from nothing, the cases of showfail and acctsum, and the
+#             library as C and Rust link it
 # make demo   a box and a peer talk: each packet as a line, with what it means
 # make bench  times of the library, next to OpenSSL's where its headers are installed
 # make lib    the library for C below target/mschap: archive, shared library, header, mschap.pc
 # make install PREFIX=/usr/local DESTDIR=    copies what `make lib` wrote
 
-.PHONY: test demo bench layout reference showfail acctsum lib install host expected
+.PHONY: test demo bench reference showfail acctsum lib install host expected
 
 PREFIX = /usr/local
 
-test: layout reference
+test: reference
 	sh tests/gate.sh
 
-# Run at once, with no proof: `rt try` runs the program four ways, each of which must write what its
-# file 'stdout' has, and that is shown. Then the proof, which takes some minutes the first time: rt's
-# own lines are shown as they come (-u), and where one says FAILED, make does too.
+# Run at once, with no proof: what `rt try` runs writes must be what the file 'stdout' has. Then the
+# proof, which takes some minutes the first time: rt's own lines are shown as they come.
 demo:
 	@echo 'First the demonstration, run with no proof: some seconds.'
-	@rt try demo
-	@echo
-	@cat crates/demo/stdout
+	@mkdir -p target
+	@rt try demo > target/demo.stdout
+	@cat target/demo.stdout
+	@cmp target/demo.stdout crates/demo/stdout
 	@echo
 	@echo 'That was the demonstration. Now the proof of its program and of the crates beneath it, a'
 	@echo 'line for each crate: some minutes the first time. It changes nothing above.'
-	@rt check demo | sed -un '/^rt: /p; /^rt: FAILED/q1'
-
-layout:
-	rt fmt --check
+	@rt check demo > target/demo.log || { tail -n 20 target/demo.log; exit 1; }
+	@sed -n '/^rt: /p; /^logic=/p' target/demo.log
 
 # The independent second program: its own tests, and that the expected output of `vectors` and of
 # `vectors_one` is what it writes.
@@ -37,17 +36,17 @@ reference:
 
 # Showfail's cases alone; in `make test` they run on the program that the gate built.
 showfail:
-	rt check showfail
+	sh tests/program.sh showfail
 	sh tests/showfail.sh target/bin/showfail
 
 # Acctsum's cases alone, each compared with the independent program too.
 acctsum:
-	rt check acctsum
+	sh tests/program.sh acctsum
 	cargo build --quiet --release --offline --manifest-path reference/Cargo.toml
 	sh tests/acctsum.sh target/bin/acctsum reference/target/release/reference
 
 lib:
-	rt staticlib mschap
+	sh host/archive.sh
 	sh host/lib.sh
 
 # Proves and compiles nothing, so that it may run as another user than `make lib`.
@@ -74,7 +73,7 @@ host: lib
 	cargo test --quiet --release --offline --manifest-path host/rust/Cargo.toml
 
 bench:
-	rt staticlib mschap
+	sh host/archive.sh
 	sh tests/bench.sh target/staticlib/libmschap.a
 
 # Makes the expected output of `vectors` and of `vectors_one` anew, by the independent program alone.

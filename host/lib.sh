@@ -1,6 +1,6 @@
 #!/bin/sh
 # Lays out what a program needs to use the library, below target/mschap as it is to be installed:
-# the archive that `rt staticlib mschap` wrote, a shared library made of it, the header and
+# the archive that `make lib` wrote, a shared library made of it, the header and
 # mschap.pc. `make lib` runs it.
 #
 # A program that follows mschap.pc links the archive, and needs nothing of ours when it runs; the

@@ -1,5 +1,5 @@
 #!/bin/sh
-# Compiles host/bench.c against the archive that `rt staticlib mschap` wrote, and runs it: a table
+# Compiles host/bench.c against the archive that `make lib` wrote, and runs it: a table
 # of times, next to OpenSSL's where its headers are installed, and below it the two ratios that are
 # aimed at, the response by kept schedules over OpenSSL's with its own kept, and a judged Response
 # over OpenSSL's challenge response; and one of the times over an account file, next to those of awk

@@ -7,8 +7,8 @@
 # and the sizes are those that the header names (larger ones may be right for both: no call can
 # tell). Compiled as C99 with -pedantic-errors, where a pointer to another type is an error; no
 # argument is const, so that no qualifier helps. At the end the same is tried with a header whose
-# two hashes have one type, which must be found out. Run in the repository, once `rt staticlib
-# mschap` has written the archive.
+# two hashes have one type, which must be found out. Run in the repository, once `make lib`
+# has written the archive.
 set -eu
 archive=target/staticlib/libmschap.a
 work=target/exchange

@@ -2,7 +2,7 @@
 # The archive of `mschap` as others link it: it has no writable data, the header's quick start does
 # what it should, the benchmark compiles, and every function of the header answers bad lengths and
 # null pointers as it should, under valgrind where that is installed. Run in the repository, once
-# `rt staticlib mschap` has written the archive.
+# `make lib` has written the archive.
 set -eu
 archive=target/staticlib/libmschap.a
 header=host/include/mschap.h

@@ -2,7 +2,7 @@
 # The stack of every function of the header: host/stack.c measures it on the worst inputs, and makes
 # the same calls where there is little of it. The comment of each function ends in its stack, N
 # bytes: what was measured is at most N, and at most 64 less, so that N is true; and N is held to
-# what the header tells a caller to provide. Run in the repository, once `rt staticlib mschap` has
+# what the header tells a caller to provide. Run in the repository, once `make lib` has
 # written the archive. With the argument `measured` it prints what was measured, and compares
 # nothing.
 set -eu

@@ -13,7 +13,7 @@
 # no line, however much of them is right. host/timing.c makes one call for each way, and callgrind
 # counts the instructions within the function. Calls with the same reply, or that find or do not
 # find, are compared.
-# Run in the repository. Argument: the archive, if not the one that `rt staticlib mschap` writes.
+# Run in the repository. Argument: the archive, if not the one that `make lib` writes.
 set -eu
 archive=${1:-target/staticlib/libmschap.a}
 program=target/host-timing

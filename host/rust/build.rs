@@ -1,4 +1,4 @@
-//! Links the archive that `rt staticlib mschap` writes.
+//! Links the archive that `make lib` writes.
 
 fn main() {
     let package = std::env::var("CARGO_MANIFEST_DIR").unwrap_or_default();
