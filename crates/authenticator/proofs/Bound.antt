@@ -10,7 +10,6 @@ use borrow.Author.Tests.{ltb-true}
 use lib.Dec.{eqb, ltb}
 use Rattle.packets.specs.Response.{read_response}
 use Rattle.packets.specs.declared.Response as responses
-use Rattle.packets.specs.declared.Change as changes
 use Rattle.accounts.specs.Account.{entry_of}
 use Rattle.accounts.specs.declared.Entry.{Entry}
 use Rattle.accounts.specs.declared.Lookup.{Lookup}

@@ -7,8 +7,7 @@ use mathlib.Core.List.{List}
 use mathlib.Core.Path.{◌≡◌, refl, sym, ap, ◌∙◌, subst}
 use Prim.Native.Nat.{ℕ}
 use lib.ListN.{length}
-use Rattle.accounts.specs.Account.{not_found, found, changed, entry_lookup_of, Agree, AgreeIn}
-use Rattle.accounts.specs.declared.Account.{Account}
+use Rattle.accounts.specs.Account.{not_found, found, changed, entry_lookup_of, AgreeIn}
 use Rattle.accounts.specs.declared.Lookup.{Lookup}
 use Rattle.accounts.proofs.Agreeing.{changed_agrees, counted_agrees}
 use Rattle.packets.specs.Frame.{written_over}
@@ -28,7 +27,6 @@ use Rattle.authenticator.specs.declared.Conversation.{Conversation}
 use Rattle.authenticator.specs.declared.Kind.TheVariants.{Judged}
 use Rattle.authenticator.specs.declared.Phase.{Phase}
 use Rattle.authenticator.specs.declared.Phase.TheVariants.{Response, Change, Ended}
-use Rattle.authenticator.specs.declared.Reply.{Reply}
 use Rattle.authenticator.specs.declared.Stepped.{Stepped}
 use Rattle.authenticator.proofs.Admitted.{Passes}
 use Rattle.authenticator.proofs.Judged.{by_case, step_in, response_step}

@@ -16,9 +16,7 @@ use Rattle.challenges.specs.Challenges.{next_id}
 use Rattle.message.specs.Reasons.{authentication_failure, password_expired}
 use Rattle.packets.specs.Frame.{octet}
 use Rattle.packets.specs.Response.{read_response}
-use Rattle.packets.specs.Change.{read_change}
 use Rattle.packets.specs.declared.Response as responses
-use Rattle.packets.specs.declared.Change as changes
 use Rattle.verify.specs.Response.{counted, response_reason}
 use Rattle.authenticator.specs.Conversation.{
   is_ended,

@@ -15,7 +15,6 @@ use Rattle.challenges.specs.Challenges.{incremented, challenges_from}
 use Rattle.message.specs.Reasons.{authentication_failure, password_expired}
 use Rattle.packets.specs.Response.{read_response}
 use Rattle.packets.specs.declared.Response as fields
-use Rattle.packets.specs.declared.Change as changes
 use Rattle.authenticator.specs.Conversation.{ended, retried, awaiting_change}
 use Rattle.verify.specs.Response.{counted, response_reason}
 use Rattle.authenticator.specs.Judge.{

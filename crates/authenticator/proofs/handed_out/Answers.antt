@@ -1,11 +1,8 @@
 -- `authenticator::handed_out` meets its contract.
 -- Assumes nothing.
-use borrow.Author.Rules.{rules}
-use mathlib.Core.Bool.{Bool, cond}
-use mathlib.Core.Path.{◌≡◌, sym, ap, ◌∙◌}
+use mathlib.Core.Bool.{Bool}
+use mathlib.Core.Path.{sym, ap, ◌∙◌}
 use Rattle.accounts.specs.Account.{lookup_of}
-use Rattle.accounts.specs.declared.Account.{Account}
-use Rattle.accounts.specs.declared.EntryLookup.{EntryLookup}
 use Rattle.authenticator.specs.Step.{handed_out}
 use Rattle.authenticator.proofs.handed_out.Goals as goal
 

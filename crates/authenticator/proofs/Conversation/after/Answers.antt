@@ -1,6 +1,5 @@
 -- `authenticator::Conversation::after` meets its contract.
 -- Assumes nothing.
-use borrow.Author.Rules.{rules}
 use mathlib.Core.Path.{sym, ◌∙◌}
 use borrow.Author.Tests.{eq-eqb, ne_eqb}
 use Rattle.message.specs.Reasons.{password_expired}

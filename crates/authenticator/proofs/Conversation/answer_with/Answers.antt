@@ -1,6 +1,5 @@
 -- `authenticator::Conversation::answer_with` meets its contract.
 -- Assumes nothing.
-use borrow.Author.Rules.{rules}
 use mathlib.Core.Bool.{true}
 use mathlib.Core.Path.{ap}
 use Prim.Native.Nat.{ℕ}

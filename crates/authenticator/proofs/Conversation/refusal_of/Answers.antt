@@ -1,6 +1,5 @@
 -- `authenticator::Conversation::refusal_of` meets its contract.
 -- Assumes nothing.
-use borrow.Author.Rules.{rules}
 use mathlib.Core.Bool.{Bool}
 use mathlib.Core.Path.{ap, ◌∙◌}
 use Rattle.authenticator.specs.Admit.{refusal_for}

@@ -1,6 +1,5 @@
 -- `authenticator::Conversation::repeat` meets its contract.
 -- Assumes nothing.
-use borrow.Author.Rules.{rules}
 use mathlib.Core.Path.{◌≡◌, ap₂, ◌∙◌, ap}
 use Prim.Native.Nat.{ℕ}
 use lib.ListN.{length}
@@ -15,10 +14,7 @@ use Rattle.authenticator.proofs.Conversation.repeat.Goals as goal
 
 pub returns : goal.returns
 returns c =
-    let e = c in
-    let w = e in
-    let s = w in
-    let a = s.args in
+    let a = c.args in
     let last = a.self.last in
     let reply = reply_packet a.self.terms last.id last.reply in
     let answer : ℕ → ℕ → EntryLookup → Stepped =
@@ -29,11 +25,11 @@ returns c =
       written = n;
       updated = l;
     } in
-    let written : w.write_reply-written.result ≡ length reply =
-    w.write_reply-written.ensures.0
+    let written : c.write_reply-written.result ≡ length reply =
+    c.write_reply-written.ensures.0
     ∙ written_whole reply a.reply.now (reply_fits a.self.terms last.id last.reply)
-    s.requires in (
-      ap₂ (λ (reason n : ℕ). answer reason n c.no_entry-updated.result) e.reason_of-reason.ensures written
+    c.requires in (
+      ap₂ (λ (reason n : ℕ). answer reason n c.no_entry-updated.result) c.reason_of-reason.ensures written
           ∙ ap (answer (reason_of last.reply) (length reply)) c.no_entry-updated.ensures,
-      w.write_reply-written.ensures.1,
+      c.write_reply-written.ensures.1,
     )

@@ -1,7 +1,6 @@
 -- `authenticator::Conversation::response` meets its contract.
 -- Assumes nothing.
-use borrow.Author.Rules.{rules}
-use mathlib.Core.Path.{◌≡◌, refl, ap, ◌∙◌}
+use mathlib.Core.Path.{refl, ap, ◌∙◌}
 use Rattle.packets.specs.declared.Response.{Response}
 use Rattle.accounts.specs.Account.{stored_in}
 use Rattle.verify.specs.Response.{carrying_lookup, checked_response}

@@ -1,7 +1,6 @@
 -- `authenticator::Conversation::step` meets its contract: the step that reads the round keys beside
 -- the hash that counts, and the record put together again.
 -- Assumes nothing.
-use borrow.Author.Rules.{rules}
 use mathlib.Core.Bool.{Bool}
 use mathlib.Core.List.{List}
 use mathlib.Core.Path.{◌≡◌, sym, ap, ap₂, ◌∙◌}
@@ -13,7 +12,7 @@ use Rattle.accounts.specs.declared.Schedules.{Schedules}
 use Rattle.accounts.specs.Account.{stored_in}
 use Rattle.packets.specs.Response.{read_response}
 use Rattle.verify.specs.Response.{judging_keys, carrying_lookup}
-use Rattle.authenticator.specs.Step.{Outcome, step, stepped_of, hands_back, handed_out}
+use Rattle.authenticator.specs.Step.{step, stepped_of, hands_back, handed_out}
 use Rattle.authenticator.specs.declared.Answer.{Answer}
 use Rattle.authenticator.specs.declared.Phase.{Phase}
 use Rattle.authenticator.specs.declared.Stepped.{Stepped}
@@ -32,35 +31,30 @@ rebuilt ph a s = answer s (handed_out (hands_back ph s.kind) a s.updated)
 
 pub returns : goal.returns
 returns c =
-    let back = c in
-    let s = back in
-    let e = s in
-    let o = e in
-    let k = o in
-    let a = k.args in
+    let a = c.args in
     let p = a.packet.now in
     let b = a.reply.now in
     let phase = a.self.phase in
     let account = a.lookup.account in
     let whole = step a.self p a.lookup b in
-    let keys : stored_in o.key_octets-keys.result ≡ judging_keys account (read_response p) =
-    ap (λ (ks : List ℕ). let r : Schedules = record { keys = ks } in r) o.key_octets-keys.ensures.1
-    ∙ k.judging_keys-schedules.ensures in
-    let read : seen_of (step a.self p (carrying_lookup e.entry_lookup_of.result
-    (stored_in o.key_octets-keys.result)) b) ≡ seen_of whole =
+    let keys : stored_in c.key_octets-keys.result ≡ judging_keys account (read_response p) =
+    ap (λ (ks : List ℕ). let r : Schedules = record { keys = ks } in r) c.key_octets-keys.ensures.1
+    ∙ c.judging_keys-schedules.ensures in
+    let read : seen_of (step a.self p (carrying_lookup c.entry_lookup_of.result
+    (stored_in c.key_octets-keys.result)) b) ≡ seen_of whole =
     ap₂ (λ (l : EntryLookup) (ks : Schedules). seen_of (step a.self p (carrying_lookup l ks) b))
-    e.entry_lookup_of.ensures keys
+    c.entry_lookup_of.ensures keys
     ∙ sym (same_read a.self p b a.lookup) in
-    let stepped : s.step_by-stepped.result ≡ stepped_of whole.answer =
-    s.step_by-stepped.ensures.0 ∙ ap (λ (x : Seen). x.stepped) read in
-    let same : answer s.step_by-stepped.result c.handed_out-updated.result ≡ whole.answer =
-    ap (answer s.step_by-stepped.result) (c.handed_out-updated.ensures
-    ∙ ap (λ (t : Bool). handed_out t account s.step_by-stepped.result.updated) back.hands_back.ensures)
+    let stepped : c.step_by-stepped.result ≡ stepped_of whole.answer =
+    c.step_by-stepped.ensures.0 ∙ ap (λ (x : Seen). x.stepped) read in
+    let same : answer c.step_by-stepped.result c.handed_out-updated.result ≡ whole.answer =
+    ap (answer c.step_by-stepped.result) (c.handed_out-updated.ensures
+    ∙ ap (λ (t : Bool). handed_out t account c.step_by-stepped.result.updated) c.hands_back.ensures)
     ∙ ap (rebuilt phase account) stepped
     ∙ ap (answer (stepped_of whole.answer)) (sym (handed_back a.self p a.lookup b)) in
     let facts = told a.self p a.lookup b same in (
       same,
-      s.step_by-stepped.ensures.1 ∙ ap (λ (x : Seen). x.buffer) read,
+      c.step_by-stepped.ensures.1 ∙ ap (λ (x : Seen). x.buffer) read,
       facts.0,
       facts.1,
       facts.2,

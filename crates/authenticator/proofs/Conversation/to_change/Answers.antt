@@ -1,6 +1,5 @@
 -- `authenticator::Conversation::to_change` meets its contract.
 -- Assumes nothing.
-use borrow.Author.Rules.{rules}
 use mathlib.Core.Path.{ap, ◌∙◌}
 use Prim.Native.Nat.{ℕ}
 use Rattle.authenticator.specs.Conversation.{successor}

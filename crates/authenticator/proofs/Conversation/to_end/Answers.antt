@@ -1,6 +1,5 @@
 -- `authenticator::Conversation::to_end` meets its contract.
 -- Assumes nothing.
-use borrow.Author.Rules.{rules}
 use mathlib.Core.Path.{ap, ◌∙◌}
 use Rattle.authenticator.specs.Conversation.{successor}
 use Rattle.authenticator.specs.declared.Phase.TheVariants.{Ended}

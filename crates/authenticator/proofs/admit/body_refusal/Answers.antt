@@ -1,21 +1,20 @@
 -- `authenticator::admit::body_refusal` meets its contract, by the phase.
 -- Assumes nothing.
-use borrow.Author.Rules.{rules}
+use mathlib.Core.List.{List}
 use mathlib.Core.Path.{sym, ap, ◌∙◌}
 use Prim.Native.Nat.{ℕ}
+use Rattle.verify.specs.declared.ChangeVersion.{ChangeVersion}
 use Rattle.authenticator.specs.Admit.{body_refusal}
 use Rattle.authenticator.specs.declared.Phase.{Phase}
 use Rattle.authenticator.proofs.admit.body_refusal.Goals as goal
 
-abbrev refused : goal.Start → Phase → ℕ
-refused s ph = body_refusal s.args.change ph s.args.packet.now
+abbrev refused : ChangeVersion → List ℕ → Phase → ℕ
+refused change packet ph = body_refusal change ph packet
 
 pub returns-in-Response : goal.returns-in-Response
 returns-in-Response c =
-    let m = c in
-    c.response_refusal.ensures ∙ ap (refused m.before.before.before) (sym m.in-Response.is)
+    c.response_refusal.ensures ∙ ap (refused c.args.change c.args.packet.now) (sym c.in-Response.is)
 
 pub returns-in-Change : goal.returns-in-Change
 returns-in-Change c =
-    let m = c in
-    c.change_refusal.ensures ∙ ap (refused m.before.before.before) (sym m.in-Change.is)
+    c.change_refusal.ensures ∙ ap (refused c.args.change c.args.packet.now) (sym c.in-Change.is)

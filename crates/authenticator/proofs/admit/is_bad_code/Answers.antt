@@ -1,6 +1,5 @@
 -- `authenticator::admit::is_bad_code` meets its contract.
 -- Assumes nothing.
-use borrow.Author.Rules.{rules}
 use Rattle.authenticator.proofs.admit.is_bad_code.Goals as goal
 
 pub returns : goal.returns

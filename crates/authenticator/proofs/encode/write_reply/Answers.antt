@@ -1,6 +1,5 @@
 -- `authenticator::encode::write_reply` meets its contract, by the kind of reply.
 -- Assumes nothing.
-use borrow.Author.Rules.{rules}
 use mathlib.Core.List.{List}
 use mathlib.Core.Path.{◌≡◌, sym, ap, ap₂, ◌∙◌}
 use Prim.Native.Nat.{ℕ}
@@ -19,21 +18,14 @@ same out e w =
 
 pub returns-in-Success : goal.returns-in-Success
 returns-in-Success c =
-    let w = c in
-    let m = w in
-    let a = m.args in
-    same a.out.now (ap (reply_packet a.terms a.id) (sym m.in-Success.is))
-    w.write_success.ensures
+    let a = c.args in
+    same a.out.now (ap (reply_packet a.terms a.id) (sym c.in-Success.is)) c.write_success.ensures
 
 pub returns-in-Failure : goal.returns-in-Failure
 returns-in-Failure c =
-    let w = c in
-    let d = w in
-    let m = d in
-    let v = m in
-    let a = v.args in
+    let a = c.args in
     same a.out.now
-    (ap₂ (λ (r n : ℕ). failure_packet a.id (text_of m.reply.given.0.0 r n))
-    d.retry_digit.ensures v.version-v.ensures
-    ∙ ap (reply_packet a.terms a.id) (sym m.reply.given.1))
-    w.write_failure.ensures
+    (ap₂ (λ (r n : ℕ). failure_packet a.id (text_of c.in-Failure.reason r n))
+    c.retry_digit.ensures c.version-v.ensures
+    ∙ ap (reply_packet a.terms a.id) (sym c.in-Failure.is))
+    c.write_failure.ensures

@@ -1,6 +1,5 @@
 -- `authenticator::opening::argument_refusal` meets its contract.
 -- Assumes nothing.
-use borrow.Author.Rules.{rules}
 use Rattle.authenticator.proofs.opening.argument_refusal.Goals as goal
 
 pub returns : goal.returns

@@ -1,6 +1,5 @@
 -- `authenticator::opening::refused_opening` meets its contract.
 -- Assumes nothing.
-use borrow.Author.Rules.{rules}
 use mathlib.Core.Path.{ap}
 use Rattle.authenticator.specs.declared.Conversation.{Conversation}
 use Rattle.authenticator.proofs.opening.refused_opening.Goals as goal

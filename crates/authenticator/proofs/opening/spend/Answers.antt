@@ -10,17 +10,12 @@ use Rattle.issued.specs.Issued.{Issued, entries_in, spend_refusal, spent}
 use Rattle.authenticator.proofs.Spends.{challenges_run}
 use Rattle.authenticator.proofs.opening.spend.Goals as goal
 
-eight : (c : goal.Start) → length c.args.challenge ≡ 8
-eight c = search rules
-
 pub returns : goal.returns
 returns c =
-    let k = c in
-    let p = k in
-    let n = p in
-    let s = n.before.before.before in
-    let a = s.args in
+    let eight : length c.args.challenge ≡ 8 =
+    search rules in
+    let a = c.args in
     let i : Issued = record { buffer = a.list.now; used = a.used; counts = a.counts.now } in
-    let run = p.part_of.ensures ∙ ap (part 0 (8 * (a.r + 1))) n.challenges_from-run.ensures in
-    let cs = ap (entries_in 8) run ∙ challenges_run a.r a.challenge s.requires (eight s) in
-    (k.spend.ensures.0 ∙ ap (λ (es : List (List ℕ)). spend_refusal 8 es i) cs, k.spend.ensures.1 ∙ ap (λ (es : List (List ℕ)). spent 8 es i) cs)
+    let run = c.part_of.ensures ∙ ap (part 0 (8 * (a.r + 1))) c.challenges_from-run.ensures in
+    let cs = ap (entries_in 8) run ∙ challenges_run a.r a.challenge c.requires eight in
+    (c.spend.ensures.0 ∙ ap (λ (es : List (List ℕ)). spend_refusal 8 es i) cs, c.spend.ensures.1 ∙ ap (λ (es : List (List ℕ)). spent 8 es i) cs)

@@ -1,6 +1,5 @@
 -- `authenticator::successors::closed_conversation` meets its contract.
 -- Assumes nothing.
-use borrow.Author.Rules.{rules}
 use mathlib.Core.Path.{ap₂}
 use lib.ListN.{replicate}
 use Rattle.accounts.specs.declared.Entry.{Entry}

@@ -1,6 +1,5 @@
 -- `peer::Peer::after_writing` meets its contract.
 -- Assumes nothing.
-use borrow.Author.Rules.{rules}
 use borrow.Author.Tests.{ne_eqb}
 use Rattle.peer.proofs.Peer.after_writing.Goals as goal
 

@@ -1,6 +1,5 @@
 -- `peer::Peer::read_reply` meets its contract.
 -- Assumes nothing.
-use borrow.Author.Rules.{rules}
 use Rattle.peer.proofs.Peer.read_reply.Goals as goal
 
 pub returns : goal.returns

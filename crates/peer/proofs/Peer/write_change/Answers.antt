@@ -1,6 +1,5 @@
 -- `peer::Peer::write_change` meets its contract.
 -- Assumes nothing.
-use borrow.Author.Rules.{rules}
 use Rattle.peer.proofs.Peer.write_change.Goals as goal
 
 pub returns : goal.returns

@@ -1,6 +1,5 @@
 -- `peer::Peer::write_change_one` meets its contract.
 -- Assumes nothing.
-use borrow.Author.Rules.{rules}
 use Rattle.peer.proofs.Peer.write_change_one.Goals as goal
 
 pub returns : goal.returns

@@ -1,6 +1,5 @@
 -- `peer::peers::after_challenge` meets its contract.
 -- Assumes nothing.
-use borrow.Author.Rules.{rules}
 use Rattle.peer.proofs.peers.after_challenge.Goals as goal
 
 pub returns : goal.returns

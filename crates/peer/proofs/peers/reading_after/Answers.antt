@@ -1,7 +1,6 @@
 -- `peer::peers::reading_after` meets its contract.
 -- Assumes nothing.
 use mathlib.Core.Path.{refl}
-use borrow.Author.Rules.{rules}
 use Rattle.peer.proofs.peers.reading_after.Goals as goal
 
 pub returns-then-sent : goal.returns-then-sent

@@ -1,6 +1,5 @@
 -- `peer::turns::change_turn` meets its contract.
 -- Assumes nothing.
-use borrow.Author.Rules.{rules}
 use Rattle.peer.proofs.turns.change_turn.Goals as goal
 
 pub returns : goal.returns

@@ -3,7 +3,6 @@
 use mathlib.Core.Path.{sym, ap, ◌∙◌}
 use Rattle.message.specs.declared.Verdict.{Verdict}
 use Rattle.peer.specs.Turn.{turn_after, next_turn}
-use borrow.Author.Rules.{rules}
 use Rattle.peer.proofs.turns.next_turn.Goals as goal
 
 pub returns-in-Success : goal.returns-in-Success
@@ -20,7 +19,7 @@ returns-in-Failure c =
     let a = c.args in
     c.turn_for.ensures
     ∙ sym (ap (λ (v : Verdict). turn_after v a.peer a.reading.c)
-    c.verdict.given.1)
+    c.in-Failure.is)
 
 pub returns-in-Refused : goal.returns-in-Refused
 unfolding next_turn

@@ -1,7 +1,6 @@
 -- `peer::turns::turn_for` meets its contract.
 -- Assumes nothing.
 use mathlib.Core.Path.{sym, ap, ◌∙◌}
-use borrow.Author.Rules.{rules}
 use Rattle.message.specs.declared.Call.{Call}
 use Rattle.peer.specs.Turn.{turn_for}
 use Rattle.peer.proofs.turns.turn_for.Goals as goal

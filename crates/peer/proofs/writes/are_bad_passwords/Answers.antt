@@ -2,7 +2,6 @@
 -- Assumes nothing.
 use mathlib.Core.Bool.{Bool, ◌||◌}
 use mathlib.Core.Path.{sym, ap, ◌∙◌}
-use borrow.Author.Rules.{rules}
 use Rattle.credentials.specs.Credentials.{bad_nt_password}
 use Rattle.peer.proofs.writes.are_bad_passwords.Goals as goal
 

@@ -3,7 +3,6 @@
 use mathlib.Core.List.{List}
 use mathlib.Core.Path.{ap, ap₂, ◌∙◌}
 use Prim.Native.Nat.{ℕ}
-use borrow.Author.Rules.{rules}
 use Rattle.packets.proofs.Padding.{or_false_both}
 use Rattle.credentials.specs.Credentials.{nt_hash_of, bad_nt_password, sealed_block}
 use Rattle.peer.specs.Write.{change_fields_of}

@@ -1,6 +1,5 @@
 -- `peer::writes::change_one_fields` meets its contract.
 -- Assumes nothing.
-use borrow.Author.Rules.{rules}
 use Rattle.peer.proofs.writes.change_one_fields.Goals as goal
 
 pub returns : goal.returns

@@ -1,6 +1,5 @@
 -- `peer::writes::response_fields` meets its contract.
 -- Assumes nothing.
-use borrow.Author.Rules.{rules}
 use Rattle.peer.proofs.writes.response_fields.Goals as goal
 
 pub returns : goal.returns

@@ -1,7 +1,6 @@
 -- `peer::writes::response_from` meets its contract.
 -- Assumes nothing.
 use mathlib.Core.Path.{ap, ◌∙◌}
-use borrow.Author.Rules.{rules}
 use Rattle.peer.specs.Write.{response_fields_of}
 use Rattle.peer.proofs.Written.{hash_given}
 use Rattle.peer.proofs.writes.response_from.Goals as goal
