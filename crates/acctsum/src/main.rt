@@ -3,15 +3,17 @@
 // proved in `smbpasswd`.
 #![tactic(auto)]
 
-use std::alloc::Global;
 use std::io;
-use std::io::{BufWriter, Read, Write};
+use std::io::{Read, Write};
 
-// 65,536 octets are read at most; one more tells that there were too many.
-fn read_input(alloc: Global, input: impl Read + Drop) -> io::Result<Vec<u8>> {
-    let mut octets = Vec::new(alloc);
-    input.take(65537).read_to_end(&mut octets)?;
-    Ok(octets)
+// 65,536 octets are read at most; one more tells that there were too many. The array is passed
+// whole, as the check of a slice of one grows with its length.
+fn read_input(stream: &mut impl Read, input: &mut [u8; 65537]) -> io::Result<usize> {
+    reading::read_full(stream, input)
+}
+
+fn summarize(input: &[u8; 65537], n: usize) -> smbpasswd::Summary {
+    smbpasswd::summarize(octets::part_of(input, 0, n))
 }
 
 fn show(output: &mut impl Write, label: &[u8], n: usize) -> io::Result<()> {
@@ -19,9 +21,11 @@ fn show(output: &mut impl Write, label: &[u8], n: usize) -> io::Result<()> {
     writeln!(output, "{n}")
 }
 
-// The counts of an input, or its refusal.
-fn summarize(output: &mut impl Write, input: &[u8]) -> io::Result<()> {
-    let summary = smbpasswd::summarize(input);
+fn main(rt: HostRuntime) -> io::Result<()> {
+    let mut input = [0u8; 65537];
+    let n = read_input(&mut rt.stdin(), &mut input)?;
+    let summary = summarize(&input, n);
+    let output = &mut rt.stdout();
     if summary.refusal != 0 {
         return show(output, b"refused ", summary.refusal as usize);
     }
@@ -31,11 +35,4 @@ fn summarize(output: &mut impl Write, input: &[u8]) -> io::Result<()> {
     show(output, b"disabled ", counts.disabled)?;
     show(output, b"expired ", counts.expired)?;
     show(output, b"no-nt ", counts.no_nt)
-}
-
-fn main(rt: HostRuntime) -> io::Result<()> {
-    let input = read_input(rt.alloc(), rt.stdin())?;
-    let mut output = BufWriter::new(rt.alloc(), rt.stdout())?;
-    summarize(&mut output, input.as_slice())?;
-    output.flush()
 }

@@ -5,42 +5,43 @@
 mod lines;
 
 pub use lines::{Session, new_session};
-use std::alloc::Global;
 use std::io::{Read, Write};
 use std::rt::Files;
 use std::{fs, io};
 
-// Reads a script, of which 1,048,576 octets are run at most.
-fn read_script(alloc: Global, file: impl Read + Drop) -> io::Result<Vec<u8>> {
-    let mut script = Vec::new(alloc);
-    file.take(1048576).read_to_end(&mut script)?;
-    Ok(script)
+// The array is passed whole, as the check of a slice of one grows with its length.
+
+// Reads a script. Answers how many octets it has.
+fn read_script(file: &mut impl Read, script: &mut [u8; 1048576]) -> io::Result<usize> {
+    reading::read_full(file, script)
 }
 
-// Runs what is read of a script.
+// Runs the first n octets of a script.
 fn run_part(
     output: &mut impl Write,
-    alloc: Global,
-    file: impl Read + Drop,
+    script: &[u8; 1048576],
+    n: usize,
     session: Session,
 ) -> io::Result<Session> {
-    let script = read_script(alloc, file)?;
-    lines::run_lines(output, script.as_slice(), session)
+    lines::run_lines(output, octets::part_of(script, 0, n), session)
 }
 
 // One script, from the state in which the one before it ended. Of a script that does not open,
 // standard error is told, and nothing is run.
-pub fn run_script<R: Files + AllocGlobal + Eprint>(
+pub fn run_script<R: Files + Eprint>(
     rt: &R,
     output: &mut impl Write,
     path: &str,
     session: Session,
 ) -> io::Result<Session> {
-    match fs::open(rt, path) {
-        Ok(file) => run_part(output, rt.alloc(), file, session),
+    let mut file = match fs::open(rt, path) {
+        Ok(file) => file,
         Err(error) => {
             eprintln!(rt; "{path}: {error}")?;
-            Ok(session)
+            return Ok(session);
         }
-    }
+    };
+    let mut script = [0u8; 1048576];
+    let n = read_script(&mut file, &mut script)?;
+    run_part(output, &script, n, session)
 }

@@ -3,7 +3,7 @@
 #![tactic(auto)]
 
 use std::io;
-use std::io::{BufWriter, Read, Write};
+use std::io::Write;
 
 // A line with a letter and a number.
 fn show_number(output: &mut impl Write, letter: u8, n: u64) -> io::Result<()> {
@@ -33,10 +33,10 @@ fn show_c(output: &mut impl Write, c: message::NewChallenge) -> io::Result<()> {
 
 // 256 octets are a message at most; one more tells that there were too many.
 fn main(rt: HostRuntime) -> io::Result<()> {
-    let mut input = Vec::new(rt.alloc());
-    rt.stdin().take(257).read_to_end(&mut input)?;
-    let mut output = BufWriter::new(rt.alloc(), rt.stdout())?;
-    let reading = message::read(input.as_slice());
+    let mut input = [0u8; 257];
+    let n = reading::read_full(&mut rt.stdin(), &mut input)?;
+    let mut output = rt.stdout();
+    let reading = message::read(&input[..n]);
     let verdict = reading.verdict;
     match verdict {
         message::Verdict::Failure(failed) => {
@@ -53,5 +53,5 @@ fn main(rt: HostRuntime) -> io::Result<()> {
         // a message alone is never a success
         message::Verdict::Success => {}
     }
-    output.flush()
+    Ok(())
 }

@@ -3,12 +3,11 @@
 #![tactic(auto)]
 
 use std::io;
-use std::io::{BufWriter, Write};
 
 fn main(rt: HostRuntime) -> io::Result<()> {
-    let mut output = BufWriter::new(rt.alloc(), rt.stdout())?;
+    let mut output = rt.stdout();
     let mut session = script_run::new_session();
     session = script_run::run_script(&rt, &mut output, "published.txt", session)?;
     script_run::run_script(&rt, &mut output, "cases.txt", session)?;
-    output.flush()
+    Ok(())
 }

@@ -3,10 +3,9 @@
 #![tactic(auto)]
 
 use std::io;
-use std::io::{BufWriter, Write};
 
 fn main(rt: HostRuntime) -> io::Result<()> {
-    let mut output = BufWriter::new(rt.alloc(), rt.stdout())?;
+    let mut output = rt.stdout();
     script_run::run_script(&rt, &mut output, "cases.txt", script_run::new_session())?;
-    output.flush()
+    Ok(())
 }
