@@ -1,4 +1,4 @@
--- `unicode::is_scalar` meets its contract.
+-- `unicode_text::is_scalar` meets its contract.
 -- Assumes nothing.
 use borrow.Author.Tests.{lt-ltb, le-ltb}
 use Rattle.unicode_text.proofs.is_scalar.Goals as goal

@@ -1,4 +1,4 @@
--- `unicode::octet_at` meets its contract.
+-- `unicode_text::octet_at` meets its contract.
 -- Assumes nothing.
 use mathlib.Core.Path.{refl, sym}
 use native.Mathlib.Omega.{arith}

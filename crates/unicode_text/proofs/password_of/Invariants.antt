@@ -1,4 +1,4 @@
--- `unicode::password_of` meets its contract. The loop's invariant: what is put, and what is left
+-- `unicode_text::password_of` meets its contract. The loop's invariant: what is put, and what is left
 -- converted behind it, is the whole.
 -- Assumes nothing.
 use Prim.Native.Nat.{◌≤◌}

@@ -1,4 +1,4 @@
--- `unicode::text_of` meets its contract. The loop's invariant: what is put, and what is left
+-- `unicode_text::text_of` meets its contract. The loop's invariant: what is put, and what is left
 -- converted behind it, is the whole; and for each two octets of the password at most three are put.
 -- Assumes nothing.
 use Prim.Native.Nat.{◌+◌, ◌*◌, ◌≤◌}

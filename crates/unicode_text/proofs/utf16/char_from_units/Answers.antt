@@ -1,4 +1,4 @@
--- `unicode::utf16::char_from_units` meets its contract.
+-- `unicode_text::utf16::char_from_units` meets its contract.
 -- Assumes nothing.
 use mathlib.Core.Bool.{Bool, true, ◌&&◌, and-eq-true_iff}
 use mathlib.Core.Path.{◌≡◌, sym, ap, ◌∙◌}

@@ -1,4 +1,4 @@
--- `unicode::utf16::encode` meets its contract.
+-- `unicode_text::utf16::encode` meets its contract.
 -- Assumes nothing.
 use mathlib.Core.Path.{sym, ap, ◌∙◌}
 use borrow.Author.Tests.{lt-ltb}

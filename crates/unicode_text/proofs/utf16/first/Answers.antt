@@ -1,4 +1,4 @@
--- `unicode::utf16::first` meets its contract.
+-- `unicode_text::utf16::first` meets its contract.
 -- Assumes nothing.
 use mathlib.Core.Path.{ap₂, ◌∙◌, sym, subst}
 use Prim.Native.Nat.{ℕ}

@@ -1,4 +1,4 @@
--- `unicode::utf16::is_well_formed` meets its contract. The loop's invariant: what is left is
+-- `unicode_text::utf16::is_well_formed` meets its contract. The loop's invariant: what is left is
 -- well-formed exactly where all is.
 -- Assumes nothing.
 use mathlib.Core.Path.{◌≡◌}

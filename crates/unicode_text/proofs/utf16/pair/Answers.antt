@@ -1,4 +1,4 @@
--- `unicode::utf16::pair` meets its contract.
+-- `unicode_text::utf16::pair` meets its contract.
 -- Assumes nothing.
 use mathlib.Core.Path.{refl}
 use Rattle.octets.specs.Parts.{over}

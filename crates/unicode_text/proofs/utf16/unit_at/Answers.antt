@@ -1,4 +1,4 @@
--- `unicode::utf16::unit_at` meets its contract.
+-- `unicode_text::utf16::unit_at` meets its contract.
 -- Assumes nothing.
 use native.Mathlib.Omega.{arith}
 use Rattle.unicode_text.proofs.utf16.unit_at.Goals as goal

@@ -1,4 +1,4 @@
--- `unicode::utf8::char_from_octets` meets its contract.
+-- `unicode_text::utf8::char_from_octets` meets its contract.
 -- Assumes nothing.
 use mathlib.Core.Bool.{Bool, ◌&&◌}
 use mathlib.Core.Path.{sym, ap, ap₂, ◌∙◌}

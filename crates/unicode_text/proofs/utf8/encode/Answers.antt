@@ -1,4 +1,4 @@
--- `unicode::utf8::encode` meets its contract.
+-- `unicode_text::utf8::encode` meets its contract.
 -- Assumes nothing.
 use borrow.Author.Tests.{lt-ltb, le-ltb}
 use Rattle.octets.specs.Parts.{over}

@@ -1,4 +1,4 @@
--- `unicode::utf8::first` meets its contract.
+-- `unicode_text::utf8::first` meets its contract.
 -- Assumes nothing.
 use mathlib.Core.Path.{ap₂, ◌∙◌}
 use Prim.Native.Nat.{ℕ}
