@@ -3,7 +3,7 @@
 set -eu
 cd "$(dirname "$0")/.."
 mkdir -p target/staticlib
-rt lib mschap > target/mschap.log 2>&1 || {
+(cd crates/mschap && rt lib) > target/mschap.log 2>&1 || {
     tail -n 20 target/mschap.log
     exit 1
 }

@@ -4,7 +4,7 @@
 set -eu
 cd "$(dirname "$0")/.."
 mkdir -p target/bin
-rt run "$1" > "target/$1.log" 2>&1 || {
+(cd "crates/$1" && rt run) > "target/$1.log" 2>&1 || {
     tail -n 20 "target/$1.log"
     exit 1
 }
