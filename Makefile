@@ -1,6 +1,6 @@
 # make test   everything: the independent program, the gate `rt ci`, which refuses what is not laid
-#             out and proves all crates from nothing, the cases of showfail and acctsum, and the
-#             library as C and Rust link it
+#             out and proves all crates, the cases of showfail and acctsum, and the library as C and
+#             Rust link it
 # make demo   a box and a peer talk: each packet as a line, with what it means
 # make bench  times of the library, next to OpenSSL's where its headers are installed
 # make lib    the library for C below target/mschap: archive, shared library, header, mschap.pc
@@ -13,8 +13,8 @@ PREFIX = /usr/local
 test: reference
 	sh tests/gate.sh
 
-# Run at once, with no proof: what `rt try` runs writes must be what the file 'stdout' has. Then the
-# proof, which takes some minutes the first time: rt's own lines are shown as they come.
+# Run at once, with no proof: what `rt try` writes must be what the file 'stdout' has. Then the
+# proof, which takes some minutes the first time; rt's own lines are shown when it is done.
 demo:
 	@echo 'First the demonstration, run with no proof: some seconds.'
 	@mkdir -p target
@@ -24,7 +24,9 @@ demo:
 	@echo
 	@echo 'That was the demonstration. Now the proof of its program and of the crates beneath it, a'
 	@echo 'line for each crate: some minutes the first time. It changes nothing above.'
-	@cd crates/demo && rt check 2>&1 | sed -un '/^rt: /p; /^logic=/p; /^logic=not-proved/q1'
+	@cd crates/demo && rt check > ../../target/demo.log 2>&1 || \
+	    { tail -n 20 ../../target/demo.log; exit 1; }
+	@sed -n '/^rt: /p; /^logic=/p' target/demo.log
 
 # The independent second program: its own tests, and that the expected output of `vectors` and of
 # `vectors_one` is what it writes.

@@ -105,21 +105,23 @@ fn inner_definitions_stay_inside() {
         for entry in fs::read_dir(&folder).unwrap() {
             let path = entry.unwrap().path();
             if path.is_dir() {
-                folders.push(path);
+                // out/ holds what a check keeps
+                if path.file_name().is_some_and(|name| name != "out") {
+                    folders.push(path);
+                }
                 continue;
             }
             if path.components().any(|c| c.as_os_str() == "proofs") {
                 continue;
             }
+            let inside = path.strip_prefix(root().join("crates")).unwrap();
+            let krate = inside.iter().next().unwrap().to_str().unwrap();
+            let own = format!("Rattle.{krate}.specs.Inner.");
             let Ok(text) = fs::read_to_string(&path) else {
                 continue;
             };
             for line in text.lines().filter(|l| l.contains("specs.Inner")) {
-                assert!(
-                    line.contains("·specs.specs.Inner"),
-                    "{}: {line}",
-                    path.display()
-                );
+                assert!(line.contains(&own), "{}: {line}", path.display());
                 seen += 1;
             }
         }

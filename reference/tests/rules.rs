@@ -197,7 +197,12 @@ impl Tree {
     fn new() -> Tree {
         let text = read(&root().join("crates.txt"));
         let lines = || text.lines().filter(|line| !line.starts_with('#'));
-        let below = || lines().filter_map(|line| line.split_once(':'));
+        // a static library's line has that word behind its name
+        let below = || {
+            lines()
+                .filter_map(|line| line.split_once(':'))
+                .map(|(name, needs)| (name.trim_end_matches(" staticlib"), needs))
+        };
         let crates: BTreeSet<String> = below().map(|(name, _)| name.to_string()).collect();
         // the library: what C's archive and the theorems rest on. Other crates serve the programs.
         let mut library: BTreeSet<&str> = BTreeSet::from(["mschap", "series"]);

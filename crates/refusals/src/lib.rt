@@ -36,7 +36,7 @@
 // From 100 on the numbers are ours, for what document 01 does not speak of:
 //
 //    100  an argument from C that is not valid (`layouts`)
-//    101  a text that is not UTF-8, or characters that are not UTF-16 (`unicode`)
+//    101  a text that is not UTF-8, or characters that are not UTF-16 (`unicode_text`)
 //    102  an answer that has no record to be stored (`numbers`), or the record of no account
 //    103  a name that is on no line of the account file (`account_files`)
 #![tactic(auto)]

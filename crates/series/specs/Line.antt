@@ -1,6 +1,7 @@
 -- A line that loses packets (document 02, request 2026-08): a model of the line, and one claim above
 -- demand 3. Words in quotes are that request's. The peer is a stop-and-wait sender: it writes its
 -- next packet when it has read a reply to the one before, and retransmits that one until then.
+-- The claim is stated here and not proved yet.
 -- Assumes nothing: these are definitions.
 use Rattle.std.specs.Prelude.{Bool, true, false, cond, not, ◌&&◌, ◌||◌, List, [], ◌∷◌, ◌++◌, ◌≢◌, ◌≡◌, ℕ, zero, suc, ◌+◌, ◌≤◌, ◌<◌, eqb, length, replicate}
 use Rattle.std.proofs.Math.Option.{Option, none, some}

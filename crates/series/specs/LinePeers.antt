@@ -1,6 +1,5 @@
 -- How our peer behaves on a line that loses packets (document 02, request 2026-08), and wrong ways.
--- The claim of specs/Line holds of ours (proofs/LossyLine) and of none of the others
--- (proofs/WrongLines).
+-- The claim of specs/Line is to hold of ours and of none of the others: neither is proved yet.
 -- Assumes nothing: these are definitions.
 use Rattle.std.specs.Prelude.{List, ℕ}
 use Rattle.message.specs.declared.Reading.{Reading}

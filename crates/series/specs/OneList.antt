@@ -132,7 +132,7 @@ module _ (opener : Opener) where
   -- So what was recorded at one box opens no other, in whatever order and however often it is sent.
   -- This is what holds of a version 1 change too (document 02, request 2026-07): its fields are
   -- under the challenge's first seven octets alone and may be right under another challenge
-  -- (`verify` FirstFaultOne `seven-checked`), but a change is awaited only behind a valid Response
+  -- (`verify` FirstFaultOne `seven_checked`), but a change is awaited only behind a valid Response
   -- to the box's own challenge.
   abbrev pub NoneOpened : Type 0
   NoneOpened =

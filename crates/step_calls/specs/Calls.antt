@@ -30,7 +30,7 @@ step_arguments conversation account out =
 
 -- The bytes of the round keys of the record that is handed out in a phase: those of the record that
 -- was passed, where it is handed back with its count; else those of its own hashes. That they are
--- the round keys of the step's record is proved (proofs/Fitting `record-tells`).
+-- the round keys of the step's record is proved (proofs/Fitting `record_tells`).
 abbrev pub keys_for : Phase → Stepped → List ℕ → List ℕ
 keys_for phase s account =
     cond (hands_back phase s.kind) (record_keys account)

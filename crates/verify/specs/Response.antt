@@ -48,7 +48,7 @@ valid_by_hash t challenge a f =
 -- ---- valid by the round keys that the record carries
 
 -- Document 02, request 2026-10: "A record lent with other schedules is judged by those it carries".
--- Where they agree with the hashes it is the same (proofs/Carried `by-hash`).
+-- Where they agree with the hashes it is the same (proofs/Carried `by_hash`).
 
 -- the hash is there, and the response is that of the round keys beside it
 unfoldable pub answers : Hash → Schedules → List ℕ → List ℕ → Bool
