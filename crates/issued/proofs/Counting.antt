@@ -60,14 +60,14 @@ unfolding endings
 length_endings x zero es = refl
 length_endings x (suc n) es = ap suc (length_endings (suc x) n es)
 
-get_d-endings : (x n k : ℕ) (es : List (List ℕ)) → k < n → get_or (endings x n es) k 0 ≡ ending (x + k) es
+get_or-endings : (x n k : ℕ) (es : List (List ℕ)) → k < n → get_or (endings x n es) k 0 ≡ ending (x + k) es
 unfolding endings
-get_d-endings x zero k es h = absurd (omega arith)
-get_d-endings x (suc n) zero es h = ap (λ (y : ℕ). ending y es) (omega arith)
-get_d-endings x (suc n) (suc k) es h = get_d-endings (suc x) n k es (omega arith) ∙ ap (λ (y : ℕ). ending y es) (omega arith)
+get_or-endings x zero k es h = absurd (omega arith)
+get_or-endings x (suc n) zero es h = ap (λ (y : ℕ). ending y es) (omega arith)
+get_or-endings x (suc n) (suc k) es h = get_or-endings (suc x) n k es (omega arith) ∙ ap (λ (y : ℕ). ending y es) (omega arith)
 
 count_at : (es : List (List ℕ)) (k : ℕ) → k < 256 → get_or (counts_of es) k 0 ≡ ending k es
-count_at es k h = get_d-endings 0 256 k es h ∙ ap (λ (y : ℕ). ending y es) (omega arith)
+count_at es k h = get_or-endings 0 256 k es h ∙ ap (λ (y : ℕ). ending y es) (omega arith)
 
 -- ---- raised
 
