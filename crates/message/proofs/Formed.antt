@@ -3,7 +3,7 @@
 use mathlib.Core.Path.{◌≡◌, refl, sym, ap, ◌∙◌}
 use mathlib.Core.Bool.{Bool, true, false, cond, ◌&&◌, and-eq-true_iff}
 use mathlib.Core.List.{List, [], ◌∷◌, map}
-use mathlib.Core.Option.{Option, none, some}
+use Rattle.std.specs.Prelude.{Option, Some, None}
 use Prim.Native.Nat.{ℕ, ◌^◌, ◌≤◌, ◌<◌}
 use native.Mathlib.Nat.{pow-le-pow_right, le_trans, le_antisymm}
 use native.Mathlib.Omega.{arith}
@@ -11,8 +11,6 @@ use borrow.Author.Tests.{leb-true}
 use lib.Dec.{eqb, leb}
 use lib.ListN.{length, length-map, drop, get_or}
 use Rattle.octets.specs.Digits.{digit_of, all_below}
-use Rattle.message.specs.declared.Place.{Place}
-use Rattle.message.specs.declared.Place.TheVariants.{At}
 use Rattle.message.specs.Message.{digits_of, is_field, field_of, field_c, or_else, first_field}
 use Rattle.message.specs.Inner.{word_at, digits_at, IfSome, Small, Eight}
 
@@ -56,7 +54,7 @@ module _ (letter base low high : ℕ) where
   field_formed w = which (is_field letter base low high w) (formed w)
     where
       which : (b : Bool) → (b ≡ true → Formed (digits_of w))
-          → IfSome Formed (cond b (some (digits_of w)) none)
+          → IfSome Formed (cond b (Some (digits_of w)) None)
       which true h = h refl
       which false h = tt
 
@@ -66,13 +64,13 @@ module _ (letter base low high : ℕ) where
     where
       which : (o p : Option (List ℕ)) → IfSome Formed o → IfSome Formed p
           → IfSome Formed (or_else o p)
-      which none p h k = k
-      which (some ds) p h k = h
+      which None p h k = k
+      which (Some ds) p h k = h
 
 if_some_map : {P Q : List ℕ → Type 0} (o : Option (List ℕ)) → ((ds : List ℕ) → P ds → Q ds)
     → IfSome P o → IfSome Q o
-if_some_map none f h = tt
-if_some_map (some ds) f h = f ds h
+if_some_map None f h = tt
+if_some_map (Some ds) f h = f ds h
 
 pub first_small : (letter base low high : ℕ) (ws : List (List ℕ)) → 0 < base → base ^ high ≤ 2 ^ 64
     → IfSome (Small base) (first_field (field_of letter base low high) ws)
@@ -89,7 +87,7 @@ first_eight ws =
 
 -- ---- the digits at a place
 
-pub found : (m : List ℕ) {p : Place} {from : ℕ} {w ds : List ℕ}
-    → p ≡ At from → w ≡ word_at m from → ds ≡ drop 2 w → digits_at m p ≡ some (map digit_of ds)
+pub found : (m : List ℕ) {p : Option ℕ} {from : ℕ} {w ds : List ℕ}
+    → p ≡ Some from → w ≡ word_at m from → ds ≡ drop 2 w → digits_at m p ≡ Some (map digit_of ds)
 found m e f g =
-    ap (digits_at m) e ∙ sym (ap (λ (l : List ℕ). some (map digit_of l)) (g ∙ ap (drop 2) f))
+    ap (digits_at m) e ∙ sym (ap (λ (l : List ℕ). Some (map digit_of l)) (g ∙ ap (drop 2) f))

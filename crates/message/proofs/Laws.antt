@@ -5,7 +5,7 @@
 use mathlib.Core.Path.{◌≡◌, refl, sym, ap, ◌∙◌}
 use mathlib.Core.Bool.{Bool, true, false, cond, not, ◌&&◌, ◌||◌, and-eq-true_iff, false≢true}
 use mathlib.Core.List.{List, [], ◌∷◌}
-use mathlib.Core.Option.{Option, none, some}
+use Rattle.std.specs.Prelude.{Option, Some, None, Result, Ok, Err}
 use Prim.Native.Nat.{ℕ, ◌/◌, ◌%◌, ◌<◌}
 use native.Mathlib.Omega.{arith}
 use borrow.Author.Tests.{lt-ltb, lt-leb, ne_eqb, eqb-true, ltb-true, ltb-false, leb-false}
@@ -15,38 +15,39 @@ use Rattle.octets.specs.Digits.{digit_of, hex_of, number_from}
 use Rattle.octets.proofs.Digits.{digit_back}
 use Rattle.message.specs.declared.Call.{Call}
 use Rattle.message.specs.declared.Call.TheVariants.{Retry, ChangeTwo, ChangeOne, End}
-use Rattle.message.specs.declared.Reading.{Reading}
-use Rattle.message.specs.Message.{words, is_field, field_of, first_field, field_e, call_fits, called_for, verdict_refusal, verdict_values, no_challenge, refused_with, failed_with, read_fields, read_message, is_none, message_refusal, field_values, message_values, text_of}
+use Rattle.refusals.specs.Refusal.{told}
+use Rattle.refusals.specs.declared.Refusal.{Refusal}
+use Rattle.refusals.specs.declared.Refusal.TheVariants.{Kind}
+use Rattle.message.specs.declared.Failed.{Failed}
+use Rattle.message.specs.Message.{words, is_field, field_of, first_field, field_e}
+use Rattle.message.specs.Message.{call_fits, called_for, failure_values, values_of, failed_with}
+use Rattle.message.specs.Message.{read_fields, read_message, is_missing, message_refusal}
+use Rattle.message.specs.Message.{field_values, message_values, text_of}
 
 -- ---- the number and the values of what is read
 
-refusal_number : (m : List ℕ) → verdict_refusal (read_message m).verdict ≡ message_refusal m
+pub refusal_told : (m : List ℕ) → told (read_message m) ≡ message_refusal m
 unfolding read_message message_refusal
-refusal_number m = which (ltb 256 (length m)) (first_field field_e (words m))
+refusal_told m = which (ltb 256 (length m)) (first_field field_e (words m))
   where
     which : (over : Bool) (e : Option (List ℕ))
-        → verdict_refusal (cond {A = Reading} over (refused_with 11) (read_fields (words m) e)).verdict ≡ cond (over || is_none e) 11 0
+        → told (cond {A = Result Failed Refusal} over (Err Kind) (read_fields (words m) e))
+        ≡ cond (over || is_missing e) 11 0
     which true e = refl
-    which false none = refl
-    which false (some ds) = refl
+    which false None = refl
+    which false (Some ds) = refl
 
-values_read : (m : List ℕ) → verdict_values (read_message m).verdict ≡ message_values m
+pub values_told : (m : List ℕ) → values_of failure_values (read_message m) ≡ message_values m
 unfolding read_message message_values
-values_read m = which (ltb 256 (length m)) (first_field field_e (words m))
+values_told m = which (ltb 256 (length m)) (first_field field_e (words m))
   where
     which : (over : Bool) (e : Option (List ℕ))
-        → verdict_values (cond {A = Reading} over (refused_with 11) (read_fields (words m) e)).verdict ≡ cond over [] (field_values (words m) e)
+        → values_of failure_values
+        (cond {A = Result Failed Refusal} over (Err Kind) (read_fields (words m) e))
+        ≡ cond over [] (field_values (words m) e)
     which true e = refl
-    which false none = refl
-    which false (some ds) = refl
-
-pub message_told : (m : List ℕ) {r : Reading} → r ≡ read_message m
-    → (r ≡ read_message m) × (verdict_refusal r.verdict ≡ message_refusal m) × (verdict_values r.verdict ≡ message_values m)
-message_told m e = (
-  e,
-  ap (λ (x : Reading). verdict_refusal x.verdict) e ∙ refusal_number m,
-  ap (λ (x : Reading). verdict_values x.verdict) e ∙ values_read m,
-)
+    which false None = refl
+    which false (Some ds) = refl
 
 -- ---- what a failure calls for
 
@@ -97,7 +98,7 @@ module _ (a b c d f : ℕ) (ha : a < 10) (hb : b < 10) (hc : c < 10) (hd : d < 2
   digits_words = simp (no_space a ha, no_space b hb, no_space c hc, no_space d (omega arith), no_space f hf)
 
   read_digits : read_message (69 ∷ 61 ∷ hex_of a ∷ hex_of b ∷ hex_of c ∷ 32 ∷ 82 ∷ 61 ∷ hex_of d ∷ 32 ∷ 86 ∷ 61 ∷ hex_of f ∷ [])
-      ≡ failed_with (number_from 10 0 (a ∷ b ∷ c ∷ [])) (number_from 2 0 (d ∷ [])) (number_from 10 0 (f ∷ [])) no_challenge
+      ≡ Ok (failed_with (number_from 10 0 (a ∷ b ∷ c ∷ [])) (number_from 2 0 (d ∷ [])) (number_from 10 0 (f ∷ [])) None)
   unfolding read_message field_of is_field
   read_digits =
       rw digits_words
@@ -115,7 +116,7 @@ module _ (a b c d f : ℕ) (ha : a < 10) (hb : b < 10) (hc : c < 10) (hd : d < 2
       ))
 
 -- the text reads as the numbers it was written from
-pub read_text : (e r v : ℕ) → e < 1000 → r < 2 → v < 10 → read_message (text_of e r v) ≡ failed_with e r v no_challenge
+pub read_text : (e r v : ℕ) → e < 1000 → r < 2 → v < 10 → read_message (text_of e r v) ≡ Ok (failed_with e r v None)
 unfolding text_of
 read_text e r v he hr hv =
     let ne : number_from 10 0 (e / 100 % 10 ∷ e / 10 % 10 ∷ e % 10 ∷ []) ≡ e = omega arith in

@@ -2,13 +2,10 @@
 -- of private functions cite this.
 -- Assumes nothing: these are definitions.
 use Rattle.std.specs.Prelude.{Bool, true, false, List, [], ◌≡◌, ℕ, ◌+◌, ◌^◌, ◌≤◌, ◌<◌, length, drop, get_or}
-use Rattle.std.proofs.Math.Option.{Option, none, some}
+use Rattle.std.specs.Prelude.{Option, Some, None}
 use Rattle.octets.specs.Digits.{all_below}
-use Rattle.message.specs.declared.Place.{Place}
-use Rattle.message.specs.declared.Place.TheVariants.{At, Nowhere}
-use Rattle.message.specs.declared.WordKind.{WordKind}
-use Rattle.message.specs.declared.WordKind.TheVariants.{Error, Retry, Version, Challenge}
-use Rattle.message.specs.declared.WordKind.TheVariants.{Text}
+use Rattle.message.specs.declared.Field.{Field}
+use Rattle.message.specs.declared.Field.TheVariants.{Error, Retry, Version, Challenge}
 use Rattle.message.specs.declared.Fields.{Fields}
 use Rattle.message.specs.Message.{words, digits_of, or_else, first_field}
 use Rattle.message.specs.Message.{field_e, field_r, field_v, field_c}
@@ -52,9 +49,9 @@ abbrev pub word_at : List ℕ → ℕ → List ℕ
 word_at m from = first_word (drop from m)
 
 -- the digits of the field that begins at a place
-abbrev pub digits_at : List ℕ → Place → Option (List ℕ)
-digits_at m (At from) = some (digits_of (word_at m from))
-digits_at m Nowhere = none
+abbrev pub digits_at : List ℕ → Option ℕ → Option (List ℕ)
+digits_at m (Some from) = Some (digits_of (word_at m from))
+digits_at m None = None
 
 abbrev pub parsed_at : List ℕ → Fields → ParsedFields
 parsed_at m f = record {
@@ -70,39 +67,42 @@ completed m from f = joined (parsed_at m f) (parsed_in (words (drop from m)))
 
 -- ---- the kind of a word
 
--- a kind where there are digits of it, and else another
-abbrev pub kind_if : Option (List ℕ) → WordKind → WordKind → WordKind
-kind_if (some ds) k other = k
-kind_if none k other = other
+-- a kind of field where there are digits of it, and else another or none
+abbrev pub kind_if : Option (List ℕ) → Field → Option Field → Option Field
+kind_if (Some ds) k other = Some k
+kind_if None k other = other
 
-unfoldable pub word_kind_of : List ℕ → WordKind
-word_kind_of w =
+unfoldable pub kind_of : List ℕ → Option Field
+kind_of w =
     kind_if (field_e w) Error
-    (kind_if (field_r w) Retry (kind_if (field_v w) Version (kind_if (field_c w) Challenge Text)))
+    (kind_if (field_r w) Retry (kind_if (field_v w) Version (kind_if (field_c w) Challenge None)))
 
-abbrev pub is_nowhere : Place → Bool
-is_nowhere (At from) = false
-is_nowhere Nowhere = true
+abbrev pub place : Fields → Field → Option ℕ
+place f Error = f.e
+place f Retry = f.r
+place f Version = f.v
+place f Challenge = f.c
+
+abbrev pub is_nowhere : Option ℕ → Bool
+is_nowhere (Some from) = false
+is_nowhere None = true
 
 -- whether f has no place for a kind; there is none to have for text
-abbrev pub lacks : Fields → WordKind → Bool
-lacks f Error = is_nowhere f.e
-lacks f Retry = is_nowhere f.r
-lacks f Version = is_nowhere f.v
-lacks f Challenge = is_nowhere f.c
-lacks f Text = false
+abbrev pub lacks : Fields → Option Field → Bool
+lacks f (Some k) = is_nowhere (place f k)
+lacks f None = false
 
 -- whether a word is a field and, after f, the first of its kind
 abbrev pub is_new : Fields → List ℕ → Bool
-is_new f w = lacks f (word_kind_of w)
+is_new f w = lacks f (kind_of w)
 
 -- f with a place for a kind
-abbrev pub with_place : Fields → WordKind → Place → Fields
-with_place f Error p = record { e = p; r = f.r; v = f.v; c = f.c }
-with_place f Retry p = record { e = f.e; r = p; v = f.v; c = f.c }
-with_place f Version p = record { e = f.e; r = f.r; v = p; c = f.c }
-with_place f Challenge p = record { e = f.e; r = f.r; v = f.v; c = p }
-with_place f Text p = f
+abbrev pub with_place : Fields → Option Field → ℕ → Fields
+with_place f (Some Error) p = record { e = Some p; r = f.r; v = f.v; c = f.c }
+with_place f (Some Retry) p = record { e = f.e; r = Some p; v = f.v; c = f.c }
+with_place f (Some Version) p = record { e = f.e; r = f.r; v = Some p; c = f.c }
+with_place f (Some Challenge) p = record { e = f.e; r = f.r; v = f.v; c = Some p }
+with_place f None p = f
 
 abbrev pub one_if : Bool → ℕ
 one_if true = 1
@@ -111,20 +111,20 @@ one_if false = 0
 -- for how many of the four kinds f has no place
 abbrev pub missing : Fields → ℕ
 missing f =
-    one_if (lacks f Error) + one_if (lacks f Retry) + one_if (lacks f Version)
-    + one_if (lacks f Challenge)
+    one_if (is_nowhere f.e) + one_if (is_nowhere f.r) + one_if (is_nowhere f.v)
+    + one_if (is_nowhere f.c)
 
 -- g is f with the place of the word w, and has a place for one kind more
 pub record Noted (w : List ℕ) (from : ℕ) (f g : Fields) : Type 0 where
-  pub placed : g ≡ with_place f (word_kind_of w) (At from)
+  pub placed : g ≡ with_place f (kind_of w) from
   pub fewer : missing g < missing f
 
 -- ---- digits
 
 -- P holds of the digits, if there are some
 abbrev pub IfSome : (List ℕ → Type 0) → Option (List ℕ) → Type 0
-IfSome P none = Unit {0}
-IfSome P (some ds) = P ds
+IfSome P None = Unit {0}
+IfSome P (Some ds) = P ds
 
 -- digits whose number fits 64 bits
 pub record Small (base : ℕ) (ds : List ℕ) : Type 0 where

@@ -6,10 +6,16 @@ pub mod reasons;
 
 ghost use Rattle.std.specs.Prelude.{◌≡◌, true, map, ◌%◌, ◌≤◌, ◌<◌, length, drop};
 ghost use Rattle.octets.specs.Digits.{digit_of, hex_of, number_from, pairs};
-ghost use Rattle.message.specs.Message.{longest_message, words, is_field, first_field, field_e, number_or, called_for, verdict_refusal, verdict_values, no_challenge, new_challenge_from, succeeded, refused_with, read_fields, read_message, message_refusal, message_values, text_of};
-ghost use Rattle.message.specs.Inner.{word_kind_of, is_nowhere, lacks, is_new, with_place, Noted};
+ghost use Rattle.refusals.specs.Refusal.{told};
+ghost use Rattle.message.specs.Message.{longest_message, words, is_field, first_field, field_e};
+ghost use Rattle.message.specs.Message.{number_or, called_for, new_challenge_from};
+ghost use Rattle.message.specs.Message.{read_fields, read_message, message_refusal};
+ghost use Rattle.message.specs.Message.{failure_values, values_of, message_values, text_of};
+ghost use Rattle.message.specs.Inner.{kind_of, place, is_new, with_place, Noted};
 ghost use Rattle.message.specs.Inner.{digits_at, parsed_at, parsed_in, completed, word_at};
 ghost use Rattle.message.specs.Inner.{IfSome, Small, Eight};
+
+use refusals::Refusal;
 
 // What a failure calls for.
 #[derive(Clone, Copy)]
@@ -24,47 +30,26 @@ pub enum Call {
     End,
 }
 
-// The fields of a Failure message, and what they call for.
+// The fields of a Failure message, C's octets among them where it is given, and what they call for.
 #[derive(Clone, Copy)]
 pub struct Failed {
     pub e: u64,
     pub r: u64,
     pub v: u64,
+    pub c: Option<[u8; 8]>,
     pub call: Call,
 }
 
+// What a reply says to the peer.
 #[derive(Clone, Copy)]
 pub enum Verdict {
     Success,
     Failure(Failed),
-    Refused(u8),
 }
 
-// The octets of the field C, where it is given. (They stand beside the verdict, as an enum can hold
-// no array.)
+// A kind of field.
 #[derive(Clone, Copy)]
-pub struct NewChallenge {
-    pub given: bool,
-    pub octets: [u8; 8],
-}
-
-#[derive(Clone, Copy)]
-pub struct Reading {
-    pub verdict: Verdict,
-    pub c: NewChallenge,
-}
-
-// Where a field begins in the message. One octet will do, as no message over 256 octets is read,
-// and each call of the reading states holds four places.
-#[derive(Clone, Copy)]
-enum Place {
-    At(u8),
-    Nowhere,
-}
-
-// What a word is: a field of one of four kinds, or text to be skipped.
-#[derive(Clone, Copy)]
-enum WordKind {
+enum Field {
     // E
     Error,
     // R
@@ -73,16 +58,16 @@ enum WordKind {
     Version,
     // C
     Challenge,
-    Text,
 }
 
-// The first well-formed field of each kind so far.
+// Where the first well-formed field of each kind so far begins in the message. One octet will do,
+// as no message over 256 octets is read, and each call of the reading states holds four places.
 #[derive(Clone, Copy)]
 struct Fields {
-    e: Place,
-    r: Place,
-    v: Place,
-    c: Place,
+    e: Option<u8>,
+    r: Option<u8>,
+    v: Option<u8>,
+    c: Option<u8>,
 }
 
 pub const LONGEST_MESSAGE: usize = 256;
@@ -102,11 +87,8 @@ fn number(digits: &[u8], base: u64) -> u64
     ensures { result ≡ number_from base 0 (map digit_of digits.now) }
 {
     let mut value: u64 = 0;
-    let mut i = 0;
-    while i < digits.len() {
-        let digit = octets::digit_value(digits[i]) as u64;
-        value = value * base + digit;
-        i += 1;
+    for &digit in digits {
+        value = value * base + octets::digit_value(digit) as u64;
     }
     value
 }
@@ -146,82 +128,82 @@ fn is_field(word: &[u8], letter: u8, base: u8, low: usize, high: usize) -> bool
     octets::are_digits(digits, base)
 }
 
-// What a word is.
-fn kind_of(word: &[u8]) -> WordKind
-    ensures { result ≡ word_kind_of word.now }
+// What kind of field a word is, or none: then it is text to be skipped.
+#[tactic(auto, unfolding(crate::specs::Inner::kind_of, crate::specs::Message::field_of))]
+fn kind_of(word: &[u8]) -> Option<Field>
+    ensures { result ≡ kind_of word.now }
 {
     if is_field(word, b'E', 10, 1, 10) {
-        return WordKind::Error;
+        return Some(Field::Error);
     }
     if is_field(word, b'R', 2, 1, 1) {
-        return WordKind::Retry;
+        return Some(Field::Retry);
     }
     if is_field(word, b'V', 10, 1, 10) {
-        return WordKind::Version;
+        return Some(Field::Version);
     }
     if is_field(word, b'C', 16, 16, 16) {
-        return WordKind::Challenge;
+        return Some(Field::Challenge);
     }
-    WordKind::Text
+    None
 }
 
-fn is_nowhere(place: Place) -> bool
-    ensures { result ≡ is_nowhere place }
-{
-    match place {
-        Place::At(_) => false,
-        Place::Nowhere => true,
+impl Fields {
+    // The place of a kind.
+    fn place(self, kind: Field) -> Option<u8>
+        ensures { result ≡ place self kind }
+    {
+        match kind {
+            Field::Error => self.e,
+            Field::Retry => self.r,
+            Field::Version => self.v,
+            Field::Challenge => self.c,
+        }
     }
-}
 
-// Whether the place of a kind is missing.
-fn is_missing(f: Fields, kind: WordKind) -> bool
-    ensures { result ≡ lacks f kind }
-{
-    let e = f.e;
-    let r = f.r;
-    let v = f.v;
-    let c = f.c;
-    match kind {
-        WordKind::Error => is_nowhere(e),
-        WordKind::Retry => is_nowhere(r),
-        WordKind::Version => is_nowhere(v),
-        WordKind::Challenge => is_nowhere(c),
-        WordKind::Text => false,
+    // The fields with a place for a kind.
+    fn with_place(self, kind: Option<Field>, at: u8) -> Fields
+        ensures { result ≡ with_place self kind at }
+    {
+        match kind {
+            Some(Field::Error) => Fields {
+                e: Some(at),
+                ..self
+            },
+            Some(Field::Retry) => Fields {
+                r: Some(at),
+                ..self
+            },
+            Some(Field::Version) => Fields {
+                v: Some(at),
+                ..self
+            },
+            Some(Field::Challenge) => Fields {
+                c: Some(at),
+                ..self
+            },
+            None => self,
+        }
     }
-}
 
-// The fields with the place of a kind.
-fn with_place(f: Fields, kind: WordKind, here: Place) -> Fields
-    ensures { result ≡ with_place f kind here }
-{
-    let e = f.e;
-    let r = f.r;
-    let v = f.v;
-    let c = f.c;
-    match kind {
-        WordKind::Error => Fields { e: here, r, v, c },
-        WordKind::Retry => Fields { e, r: here, v, c },
-        WordKind::Version => Fields { e, r, v: here, c },
-        WordKind::Challenge => Fields { e, r, v, c: here },
-        WordKind::Text => f,
+    // Whether a word is the first field of its kind.
+    fn is_new(self, word: &[u8]) -> bool
+        ensures { result ≡ is_new self word.now }
+    {
+        match kind_of(word) {
+            Some(kind) => self.place(kind).is_none(),
+            None => false,
+        }
     }
-}
 
-// Whether a word is the first field of its kind.
-fn is_new(word: &[u8], f: Fields) -> bool
-    ensures { result ≡ is_new f word.now }
-{
-    is_missing(f, kind_of(word))
-}
-
-// The fields with a word that begins at `from` and is the first field of its kind: one place fewer
-// is missing.
-fn note(word: &[u8], from: usize, f: Fields) -> Fields
-    requires { (from < 256) × (is_new f word.now ≡ true) }
-    ensures { Noted word.now from f result }
-{
-    with_place(f, kind_of(word), Place::At(from as u8))
+    // The fields with a word that begins at `from` and is the first field of its kind: one place
+    // fewer is missing.
+    fn note(self, word: &[u8], from: usize) -> Fields
+        requires { (from < 256) × (is_new self word.now ≡ true) }
+        ensures { Noted word.now from self result }
+    {
+        self.with_place(kind_of(word), from as u8)
+    }
 }
 
 // ---- the walk: the words of the message
@@ -248,7 +230,7 @@ fn in_field(message: &[u8], from: usize, f: Fields) -> Fields
     ensures { parsed_at message.now result ≡ completed message.now from f }
 {
     let word = word_at(message, from);
-    let noted = note(word, from, f);
+    let noted = f.note(word, from);
     in_text(message, from + word.len() + 1, noted)
 }
 
@@ -261,7 +243,7 @@ fn in_text(message: &[u8], at: usize, f: Fields) -> Fields
     let mut from = at;
     while from < message.len() {
         let word = word_at(message, from);
-        if is_new(word, f) {
+        if f.is_new(word) {
             return in_field(message, from, f);
         }
         from = from + word.len() + 1;
@@ -272,40 +254,24 @@ fn in_text(message: &[u8], at: usize, f: Fields) -> Fields
 // ---- the verdict
 
 // The number of the field at a place, or the one that stands for a missing field.
-fn number_or(message: &[u8], place: Place, base: u64, missing: u64) -> u64
+fn number_or(message: &[u8], place: Option<u8>, base: u64, missing: u64) -> u64
     requires { (0 < base) × IfSome (Small base) (digits_at message.now place) }
     ensures { result ≡ number_or base missing (digits_at message.now place) }
 {
     match place {
-        Place::At(from) => number(digits_of(word_at(message, from as usize)), base),
-        Place::Nowhere => missing,
-    }
-}
-
-// No C is given.
-pub fn no_challenge() -> NewChallenge
-    ensures { result ≡ no_challenge }
-{
-    NewChallenge {
-        given: false,
-        octets: [0; 8],
+        Some(from) => number(digits_of(word_at(message, from as usize)), base),
+        None => missing,
     }
 }
 
 // The octets of the field C at a place.
-fn new_challenge_at(message: &[u8], place: Place) -> NewChallenge
+fn new_challenge_at(message: &[u8], place: Option<u8>) -> Option<[u8; 8]>
     requires { IfSome Eight (digits_at message.now place) }
     ensures { result ≡ new_challenge_from (digits_at message.now place) }
 {
     match place {
-        Place::At(from) => {
-            let octets = octets_of(digits_of(word_at(message, from as usize)));
-            NewChallenge {
-                given: true,
-                octets,
-            }
-        }
-        Place::Nowhere => no_challenge(),
+        Some(from) => Some(octets_of(digits_of(word_at(message, from as usize)))),
+        None => None,
     }
 }
 
@@ -314,85 +280,51 @@ fn called_for(e: u64, r: u64, v: u64) -> Call
     ensures { result ≡ called_for e r v }
 {
     if e == reasons::AUTHENTICATION_FAILURE as u64 {
-        if r == 1 {
-            return Call::Retry;
-        }
-        return Call::End;
+        return if r == 1 { Call::Retry } else { Call::End };
     }
     if e == reasons::PASSWORD_EXPIRED as u64 {
-        if 2 <= v {
-            return Call::ChangeTwo;
-        }
-        return Call::ChangeOne;
+        return if 2 <= v {
+            Call::ChangeTwo
+        } else {
+            Call::ChangeOne
+        };
     }
     Call::End
 }
 
-// A success, and no C.
-pub fn succeeded() -> Reading
-    ensures { result ≡ succeeded }
-{
-    let c = no_challenge();
-    Reading {
-        verdict: Verdict::Success,
-        c,
-    }
-}
-
-// A refusal, and no C.
-pub fn refused_with(number: u8) -> Reading
-    ensures { result ≡ refused_with number }
-{
-    let c = no_challenge();
-    Reading {
-        verdict: Verdict::Refused(number),
-        c,
-    }
-}
-
-// The verdict on the fields of a message.
-fn judge(message: &[u8], f: Fields) -> Reading
+// What the fields of a message say.
+fn judge(message: &[u8], f: Fields) -> Result<Failed, Refusal>
     requires { parsed_at message.now f ≡ parsed_in (words message.now) }
     ensures { result ≡ read_fields (words message.now)
         (first_field field_e (words message.now)) }
 {
-    let at_e = f.e;
-    let at_r = f.r;
-    let at_v = f.v;
-    let at_c = f.c;
-    match at_e {
-        Place::At(_) => {
-            let e = number_or(message, at_e, 10, 0);
-            let r = number_or(message, at_r, 2, 0);
-            let v = number_or(message, at_v, 10, 1);
-            let c = new_challenge_at(message, at_c);
-            let call = called_for(e, r, v);
-            Reading {
-                verdict: Verdict::Failure(Failed { e, r, v, call }),
-                c,
-            }
-        }
-        Place::Nowhere => refused_with(11),
-    }
+    let Some(_) = f.e else {
+        return Err(Refusal::Kind);
+    };
+    let e = number_or(message, f.e, 10, 0);
+    let r = number_or(message, f.r, 2, 0);
+    let v = number_or(message, f.v, 10, 1);
+    let c = new_challenge_at(message, f.c);
+    let call = called_for(e, r, v);
+    Ok(Failed { e, r, v, c, call })
 }
 
-// What a Failure packet's message says to the peer.
-pub fn read(message: &[u8]) -> Reading
-    ensures { (result ≡ read_message message.now)
-        × (verdict_refusal result.verdict ≡ message_refusal message.now)
-        × (verdict_values result.verdict ≡ message_values message.now) }
+// What a Failure packet's message says to the peer. Refusal 11: it is over 256 octets, or has no E.
+pub fn read(message: &[u8]) -> Result<Failed, Refusal>
+    ensures as_defined { result ≡ read_message message.now }
+    ensures number { told result ≡ message_refusal message.now }
+    ensures values { values_of failure_values result ≡ message_values message.now }
 {
     if LONGEST_MESSAGE < message.len() {
-        return refused_with(11);
+        return Err(Refusal::Kind);
     }
     let none = Fields {
-        e: Place::Nowhere,
-        r: Place::Nowhere,
-        v: Place::Nowhere,
-        c: Place::Nowhere,
+        e: None,
+        r: None,
+        v: None,
+        c: None,
     };
-    let f = in_text(message, 0, none);
-    judge(message, f)
+    judge(message, in_text(message, 0, none))
 }
 
 // ---- the text
@@ -406,6 +338,7 @@ fn last_digit(n: u16) -> u8
 
 // The message `E=691 R=1 V=2` with the numbers set. Of e the last three decimal digits are written,
 // of r and v the last.
+#[tactic(auto, unfolding(crate::specs::Message::text_of))]
 pub fn text(e: u16, r: u8, v: u8) -> [u8; 13]
     ensures { result ≡ text_of e r v }
 {

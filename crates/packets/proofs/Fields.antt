@@ -6,7 +6,7 @@ use Prim.Native.Nat.{ℕ}
 use Rattle.packets.specs.declared.Response.{Response}
 use Rattle.packets.specs.declared.Change.{Change}
 use Rattle.packets.specs.declared.ChangeOne.{ChangeOne}
-use Rattle.packets.specs.declared.ChallengeFields.{ChallengeFields}
+use Rattle.packets.specs.Reply.{ChallengeFields}
 
 pub response_same : {a a' b b' : List ℕ} {c c' : ℕ} → a ≡ a' → b ≡ b' → c ≡ c'
     → ◌≡◌ {A = Response} (record { lm = a; nt = b; flag = c }) (record { lm = a'; nt = b'; flag = c' })

@@ -17,9 +17,9 @@ use Rattle.packets.specs.Frame.{octet, number_at, length_of, bad_frame, data_of}
 use Rattle.packets.specs.Response.{read_response, read_name, bad_response_size, bad_response_flag, response_refusal}
 use Rattle.packets.specs.Change.{read_change, bad_change_size, bad_change_flags, change_refusal}
 use Rattle.packets.specs.ChangeOne.{read_change_one, bad_change_one_size, bad_change_one_flags, change_one_refusal}
-use Rattle.packets.specs.Reply.{refused_challenge, bad_challenge, read_challenge, read_reply}
-use Rattle.packets.specs.Name.{is_split, before_split, after_split, is_bad_response, domain_of, account_of, no_part, domain_part, account_part}
-use Rattle.packets.specs.declared.ChallengeFields.{ChallengeFields}
+use Rattle.std.specs.Prelude.{Some, None}
+use Rattle.packets.specs.Reply.{ChallengeFields, refused_challenge, bad_challenge, read_challenge, read_reply}
+use Rattle.packets.specs.Name.{is_split, before_split, after_split, is_bad_response, domain_of, account_of, domain_part, account_part}
 use Rattle.packets.specs.declared.Part.{Part}
 use Rattle.packets.specs.declared.Change.{Change}
 use Rattle.packets.specs.declared.ChangeOne.{ChangeOne}
@@ -179,12 +179,12 @@ module _ (p q : List ℕ) (s : SamePacket p q) where
 
   pub same_domain_part : domain_part q ≡ domain_part p
   unfolding domain_part
-  same_domain_part = by_name (λ (n : List ℕ) (l : ℕ). cond (is_split n) (record { offset = 54; length = length (before_split n) }) no_part) no_part
+  same_domain_part = by_name (λ (n : List ℕ) (l : ℕ). cond (is_split n) (Some (record { offset = 54; length = length (before_split n) })) None) None
 
   pub same_account_part : account_part q ≡ account_part p
   unfolding account_part
   same_account_part =
-      by_name (λ (n : List ℕ) (l : ℕ). cond (is_split n) (up_to (55 + length (before_split n)) l) (up_to 54 l)) no_part
+      by_name (λ (n : List ℕ) (l : ℕ). cond (is_split n) (Some (up_to (55 + length (before_split n)) l)) (Some (up_to 54 l))) None
     where
       up_to : ℕ → ℕ → Part
       up_to a l = record { offset = a; length = l - a }

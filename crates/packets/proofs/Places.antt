@@ -10,12 +10,13 @@ use borrow.Author.Tests.{lt-ltb, le-ltb, ltb-true, ltb-false}
 use lib.Dec.{eqb, ltb}
 use lib.ListN.{length, take, drop, length-take, length-drop}
 use lib.Seq.{take-take, drop-drop}
+use Rattle.std.specs.Prelude.{Option, Some, None}
 use Rattle.octets.specs.Parts.{part}
 use Rattle.octets.proofs.Parts.{drop_take}
 use Rattle.octets.proofs.Split.{place, held, take_place, drop_place}
 use Rattle.packets.specs.Frame.{octet, length_of, bad_frame}
 use Rattle.packets.specs.Response.{read_name, bad_response_flag}
-use Rattle.packets.specs.Name.{is_split, before_split, after_split, is_bad_response, no_part, part_from, domain_part, account_part, domain_of, account_of}
+use Rattle.packets.specs.Name.{is_split, before_split, after_split, is_bad_response, standing, part_from, domain_part, account_part, domain_of, account_of}
 use Rattle.packets.specs.declared.Part.{Part}
 use Rattle.packets.proofs.Framing.{frame_bounds}
 
@@ -26,19 +27,20 @@ cut a p = part a.offset a.length p
 module _ (p : List ℕ) where
   -- ---- by the name
 
-  pub part_unfit : is_bad_response p ≡ true → (no_part ≡ domain_part p) × (no_part ≡ account_part p)
+  pub part_unfit : is_bad_response p ≡ true → (None ≡ domain_part p) × (None ≡ account_part p)
   unfolding domain_part account_part
   part_unfit u = (simp u, simp u)
 
   module _ (u : is_bad_response p ≡ false) {k : ℕ} (e : k ≡ place 92 (read_name p)) where
-    pub part_split : k < length (read_name p) → (record { offset = 54; length = k } ≡ domain_part p) × (part_from (55 + k) p ≡ account_part p)
+    pub part_split : k < length (read_name p) → (Some (record { offset = 54; length = k }) ≡ domain_part p)
+        × (Some (part_from (55 + k) p) ≡ account_part p)
     unfolding domain_part account_part
     part_split h =
         let n = read_name p in
         let s : is_split n ≡ true = held 92 n ∙ lt-ltb (place 92 n) (length n) (omega arith) in
         (simp (u, s, e), simp (u, s, e))
 
-    pub part_whole : length (read_name p) ≤ k → (no_part ≡ domain_part p) × (part_from 54 p ≡ account_part p)
+    pub part_whole : length (read_name p) ≤ k → (None ≡ domain_part p) × (Some (part_from 54 p) ≡ account_part p)
     unfolding domain_part account_part
     part_whole h =
         let s : is_split (read_name p) ≡ false = held 92 (read_name p) ∙ le-ltb (place 92 (read_name p)) (length (read_name p)) (omega arith) in
@@ -54,7 +56,7 @@ module _ (p : List ℕ) where
   -- ---- the packet cut there
 
   -- the account, for every packet
-  pub account_cut : cut (account_part p) p ≡ account_of p
+  pub account_cut : cut (standing (account_part p)) p ≡ account_of p
   unfolding account_part account_of
   account_cut = by (is_bad_response p) (is_split (read_name p)) refl
     where
@@ -70,24 +72,26 @@ module _ (p : List ℕ) where
           ∙ sym (drop_take (suc k) (length_of p - 54) (drop 54 p) (inside s)) ∙ drop_place 92 n
 
       by : (u s : Bool) → is_split n ≡ s
-          → cut (cond u no_part (cond s (part_from (55 + place 92 n) p) (part_from 54 p))) p ≡ cond u [] (cond s (after_split n) n)
+          → cut (standing (cond u None (cond s (Some (part_from (55 + place 92 n) p)) (Some (part_from 54 p))))) p ≡ cond u [] (cond s (after_split n) n)
       by true s e = refl
       by false true e = behind e
       by false false e = refl
 
   module _ (home : List ℕ) where
     -- the domain, where it is in the packet
-    pub domain_cut : ((domain_part p).offset ≡ 0 → ⊥) → cut (domain_part p) p ≡ domain_of p home
+    pub domain_cut : (domain_part p ≡ None → ⊥)
+        → cut (standing (domain_part p)) p ≡ domain_of p home
     unfolding domain_part domain_of
     domain_cut = by (is_bad_response p) (is_split (read_name p)) refl
       where
         n : List ℕ
         n = read_name p
 
-        at : Bool → Bool → Part
-        at u s = cond u no_part (cond s (record { offset = 54; length = place 92 n }) no_part)
+        at : Bool → Bool → Option Part
+        at u s = cond u None (cond s (Some (record { offset = 54; length = place 92 n })) None)
 
-        by : (u s : Bool) → is_split n ≡ s → ((at u s).offset ≡ 0 → ⊥) → cut (at u s) p ≡ cond u [] (cond s (before_split n) home)
+        by : (u s : Bool) → is_split n ≡ s → (at u s ≡ None → ⊥)
+            → cut (standing (at u s)) p ≡ cond u [] (cond s (before_split n) home)
         by true s e h = absurd (h refl)
         by false true e h =
             let i = inside e in
@@ -96,12 +100,13 @@ module _ (p : List ℕ) where
         by false false e h = absurd (h refl)
 
     -- where it is not, and the packet is not refused, it is the home domain
-    pub domain_home : is_bad_response p ≡ false → (domain_part p).offset ≡ 0 → domain_of p home ≡ home
+    pub domain_home : is_bad_response p ≡ false → domain_part p ≡ None → domain_of p home ≡ home
     unfolding domain_part domain_of
     domain_home u = by (is_split (read_name p)) refl
       where
-        by : (s : Bool) → is_split (read_name p) ≡ s → (domain_part p).offset ≡ 0 → domain_of p home ≡ home
-        by true e h = absurd (omega (arith, simp (u, e) at h))
+        by : (s : Bool) → is_split (read_name p) ≡ s → domain_part p ≡ None
+            → domain_of p home ≡ home
+        by true e h = absurd (let z = simp (u, e) at h in cc)
         by false e h = simp (u, e)
 
     pub domain_unfit : is_bad_response p ≡ true → domain_of p home ≡ []
@@ -121,21 +126,21 @@ module _ (p : List ℕ) where
       by false false false d e f g h = (ltb-false (length_of p) 55 g, (frame_bounds p f).most)
 
   -- the account of a packet that is not refused is in the packet, and ends at Length
-  pub account_stands : is_bad_response p ≡ false → (54 ≤ (account_part p).offset) × ((account_part p).offset + (account_part p).length ≡ length_of p)
+  pub account_stands : is_bad_response p ≡ false → (54 ≤ (standing (account_part p)).offset) × ((standing (account_part p)).offset + (standing (account_part p)).length ≡ length_of p)
   unfolding account_part
   account_stands u = by (is_split (read_name p)) refl
     where
-      by : (s : Bool) → is_split (read_name p) ≡ s → (54 ≤ (account_part p).offset) × ((account_part p).offset + (account_part p).length ≡ length_of p)
+      by : (s : Bool) → is_split (read_name p) ≡ s → (54 ≤ (standing (account_part p)).offset) × ((standing (account_part p)).offset + (standing (account_part p)).length ≡ length_of p)
       by true e = let b = name_bounds in let i = inside e in simp (u, e) (omega arith)
       by false e = let b = fit_bounds u in simp (u, e) (omega arith)
 
   -- each part lies within what was passed, for every packet, so that a caller may read it there
-  pub parts_within : ((domain_part p).offset + (domain_part p).length ≤ length p) × ((account_part p).offset + (account_part p).length ≤ length p)
+  pub parts_within : ((standing (domain_part p)).offset + (standing (domain_part p)).length ≤ length p) × ((standing (account_part p)).offset + (standing (account_part p)).length ≤ length p)
   unfolding domain_part account_part
   parts_within = by (is_bad_response p) (is_split (read_name p)) refl refl
     where
       by : (u s : Bool) → is_bad_response p ≡ u → is_split (read_name p) ≡ s
-          → ((domain_part p).offset + (domain_part p).length ≤ length p) × ((account_part p).offset + (account_part p).length ≤ length p)
+          → ((standing (domain_part p)).offset + (standing (domain_part p)).length ≤ length p) × ((standing (account_part p)).offset + (standing (account_part p)).length ≤ length p)
       by true s e f = simp e (omega arith)
       by false true e f = let b = fit_bounds e in let n = name_bounds in let i = inside f in simp (e, f) (omega arith)
       by false false e f = let b = fit_bounds e in simp (e, f) (omega arith)

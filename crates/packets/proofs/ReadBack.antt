@@ -13,13 +13,15 @@ use Rattle.octets.specs.Parts.{fixed}
 use Rattle.octets.specs.Numbers.{from_be, to_be}
 use Rattle.octets.proofs.Parts.{fixed_same}
 use Rattle.octets.proofs.Numbers.{from_be-to_be}
-use Rattle.message.specs.Message.{read_message, failed_with, text_of, no_challenge, succeeded}
+use Rattle.std.specs.Prelude.{Ok, None}
+use Rattle.message.specs.Message.{read_message, failed_with, text_of}
+use Rattle.message.specs.declared.Verdict.TheVariants.{Success, Failure}
 use Rattle.message.proofs.Laws.{read_text, length_text}
 use Rattle.packets.specs.Frame.{octet, number_at, length_of, framed, bad_frame}
 use Rattle.packets.specs.Response.{response_packet, read_response, read_name, bad_response_size, response_refusal}
 use Rattle.packets.specs.Change.{change_packet, read_change, bad_change_size, change_refusal}
 use Rattle.packets.specs.ChangeOne.{change_one_packet, read_change_one, bad_change_one_size, change_one_refusal}
-use Rattle.packets.specs.Reply.{challenge_packet, success_packet, failure_packet, read_challenge, read_reply}
+use Rattle.packets.specs.Reply.{failure_in, challenge_packet, success_packet, failure_packet, read_challenge, read_reply}
 use Rattle.packets.specs.declared.Response.{Response}
 use Rattle.packets.specs.declared.Change.{Change}
 use Rattle.packets.specs.declared.ChangeOne.{ChangeOne}
@@ -166,17 +168,20 @@ challenge_back id c t e =
     let size : length_of p ≡ 13 = g.long ∙ omega arith in
     simp (g.good, le-ltb (length_of p) 13 (omega arith), eq-eqb (length c) 8 e) (asked_same refl refl (fixed_field 8 _ c (take_at c t 8 e) e))
 
-pub success_back : (id : ℕ) (t : List ℕ) → read_reply id (success_packet id ++ t) ≡ succeeded
+pub success_back : (id : ℕ) (t : List ℕ) → read_reply id (success_packet id ++ t) ≡ Ok Success
 unfolding success_packet read_reply
 success_back id t = simp ((frame_good 3 id [] t (omega arith)).good, eq-eqb id id refl)
 
-pub failure_back : (id : ℕ) (m t : List ℕ) → length m < 65532 → read_reply id (failure_packet id m ++ t) ≡ read_message m
+pub failure_back : (id : ℕ) (m t : List ℕ) → length m < 65532
+    → read_reply id (failure_packet id m ++ t) ≡ failure_in (read_message m)
 unfolding failure_packet read_reply
 failure_back id m t h =
     let g = frame_good 4 id m t (omega arith) in
-    simp (g.good, eq-eqb id id refl) (ap read_message g.body)
+    simp (g.good, eq-eqb id id refl) (ap (λ (l : List ℕ). failure_in (read_message l)) g.body)
 
 -- the box's own message
 pub failure_read : (id e r v : ℕ) (t : List ℕ) → e < 1000 → r < 2 → v < 10
-    → read_reply id (failure_packet id (text_of e r v) ++ t) ≡ failed_with e r v no_challenge
-failure_read id e r v t he hr hv = failure_back id (text_of e r v) t (omega (arith, length_text e r v)) ∙ read_text e r v he hr hv
+    → read_reply id (failure_packet id (text_of e r v) ++ t) ≡ Ok (Failure (failed_with e r v None))
+failure_read id e r v t he hr hv =
+    failure_back id (text_of e r v) t (omega (arith, length_text e r v))
+    ∙ ap failure_in (read_text e r v he hr hv)

@@ -3,7 +3,6 @@
 -- Assumes nothing.
 use mathlib.Core.Path.{◌≡◌, refl, sym, ap, ◌∙◌}
 use mathlib.Core.Bool.{Bool, true, false, cond, ◌||◌, false≢true}
-use mathlib.Core.Logic.{◌≢◌}
 use mathlib.Core.List.{List, [], ◌∷◌, ◌++◌, append_assoc}
 use Prim.Native.Nat.{ℕ, ◌+◌, ◌≤◌, ◌<◌}
 use native.Mathlib.Omega.{arith}
@@ -17,7 +16,12 @@ use Rattle.octets.specs.Parts.{over}
 use Rattle.octets.proofs.Parts.{over_fits}
 use Rattle.octets.proofs.Laid.{Laid}
 use Rattle.packets.specs.Sizes.{name_offset, longest_name, change_size, change_one_size}
-use Rattle.packets.specs.Frame.{framed, written_over, written_length, short_for, answer_by, out_by}
+use Rattle.std.specs.Prelude.{Ok, Err}
+use Rattle.refusals.specs.Refusal.{number}
+use Rattle.refusals.specs.declared.Refusal.{Refusal}
+use Rattle.refusals.proofs.Numbers.{number_some}
+use Rattle.packets.specs.Frame.{framed, written_over, written_length, short_for}
+use Rattle.packets.specs.Frame.{written_as, answer_by, out_by}
 use Rattle.packets.specs.Response.{response_packet, bad_name, short_for_response, response_write_refusal}
 use Rattle.packets.specs.Change.{change_packet, change_write_refusal}
 use Rattle.packets.specs.ChangeOne.{change_one_packet, change_one_write_refusal}
@@ -107,6 +111,11 @@ response_order h lm nt name x y = simp append_assoc
 pub change_order : (h a b c d e : List ℕ) → ((h ++ (a ++ b)) ++ (c ++ d)) ++ e ≡ h ++ (a ++ (b ++ (c ++ (d ++ e))))
 change_order h a b c d e = simp append_assoc
 
+pub change_two_order : (h a b c d e f g : List ℕ)
+    → (((h ++ (a ++ b)) ++ (c ++ d)) ++ (e ++ f)) ++ g
+    ≡ h ++ (a ++ (b ++ (c ++ (d ++ (e ++ (f ++ g))))))
+change_two_order h a b c d e f g = simp append_assoc
+
 -- pieces that begin with the four octets of a frame are the packet, where the Length there is that
 -- of all of them and there is room
 pub framed_laid : (code id : ℕ) (d : List ℕ) {l xs b head : List ℕ} {n : ℕ} → Laid l xs n b → head ≡ code ∷ id ∷ to_be 2 n → xs ≡ head ++ d → n ≤ length l
@@ -131,13 +140,17 @@ good_name name e = by (ltb (length name) 1) (ltb 256 (length name)) refl refl e
     by true b e f g = absurd (false≢true (sym g))
 
 -- by the refusal, which is n: nothing was written, or the packet
-module _ (packet out : List ℕ) (n : ℕ) {r : ℕ} (e : r ≡ n) where
-  pub nothing_written : r ≢ 0 → (record { refusal = r; length = 0 } ≡ answer_by n packet) × (out ≡ out_by n packet out)
-  nothing_written h = let t = ne_eqb n 0 (λ z. h (e ∙ z)) in (simp (t, e), simp t)
+module _ (packet out : List ℕ) (n : ℕ) where
+  pub nothing_written : (r : Refusal) → number r ≡ n
+      → (written_as (Err r) ≡ answer_by n packet) × (out ≡ out_by n packet out)
+  nothing_written r e =
+      let t = ne_eqb n 0 (λ z. number_some r (e ∙ z)) in
+      (simp (t, e), simp t)
 
-  pub packet_written : r ≡ 0 → {k : ℕ} {b : List ℕ} → (k ≡ length packet) × (b ≡ written_over packet out)
-      → (record { refusal = 0; length = k } ≡ answer_by n packet) × (b ≡ out_by n packet out)
-  packet_written z w = let t : n ≡ 0 = sym e ∙ z in (simp (t, w.0), simp t w.1)
+  pub packet_written : n ≡ 0 → {k : ℕ} {b : List ℕ}
+      → (k ≡ length packet) × (b ≡ written_over packet out)
+      → (written_as (Ok k) ≡ answer_by n packet) × (b ≡ out_by n packet out)
+  packet_written t w = (simp (t, w.0), simp t w.1)
 
 -- what is known of a Response that is not refused
 pub response_fits : (name out : List ℕ) → response_write_refusal name out ≡ 0 → (length name ≤ longest_name) × (name_offset + length name ≤ length out)

@@ -1,11 +1,12 @@
 -- The frame of every packet (RFC 1994, section 4): code, identifier, Length (two octets, the most
 -- significant first, of the whole packet), data.
 -- Assumes nothing: these are definitions.
-use Rattle.std.specs.Prelude.{Bool, cond, not, ◌||◌, List, [], ◌∷◌, ◌++◌, ℕ, ◌+◌, ◌-◌, eqb, leb, ltb, length, get_or, drop}
+use Rattle.std.specs.Prelude.{Result, Ok, Err, Bool, cond, not, ◌||◌, List, [], ◌∷◌, ◌++◌, ℕ, ◌+◌, ◌-◌, eqb, leb, ltb, length, get_or, drop}
 use Rattle.octets.specs.Parts.{part}
 use Rattle.octets.specs.Numbers.{from_be, to_be}
 use Rattle.packets.specs.Sizes.{head_size}
-use Rattle.packets.specs.declared.Written.{Written}
+use Rattle.refusals.specs.Refusal.{number}
+use Rattle.refusals.specs.declared.Refusal.{Refusal}
 
 -- the octet at the place i, 0 where p does not reach it
 abbrev pub octet : ℕ → List ℕ → ℕ
@@ -49,6 +50,15 @@ written_over packet out = cond (leb (length packet) (length out))
 -- how many octets were written
 unfoldable pub written_length : List ℕ → List ℕ → ℕ
 written_length packet out = cond (leb (length packet) (length out)) (length packet) 0
+
+-- a writer's answer: the number of its refusal (0 is none), and how many octets it wrote
+pub record Written : Type 0 where
+  pub refusal : ℕ
+  pub length : ℕ
+
+abbrev pub written_as : Result ℕ Refusal → Written
+written_as (Ok n) = record { refusal = 0; length = n }
+written_as (Err r) = record { refusal = number r; length = 0 }
 
 -- a writer's answer and its buffer afterwards, by the refusal; on refusal nothing is written
 abbrev pub answer_by : ℕ → List ℕ → Written

@@ -1,7 +1,7 @@
 -- The two parts of a Response's name, for the lookup (document 01, "Frame and packets"): split at
 -- its first backslash, which is in neither.
 -- Assumes nothing: these are definitions.
-use Rattle.std.specs.Prelude.{Bool, cond, not, ◌||◌, List, [], ℕ, ◌+◌, ◌-◌, eqb, length}
+use Rattle.std.specs.Prelude.{Option, Some, None, Bool, cond, not, ◌||◌, List, [], ℕ, ◌+◌, ◌-◌, eqb, length}
 use Rattle.octets.specs.Split.{holds, before, behind}
 use Rattle.packets.specs.Codes.{response_code}
 use Rattle.packets.specs.Frame.{octet, length_of, bad_frame}
@@ -36,23 +36,25 @@ unfoldable pub account_of : List ℕ → List ℕ
 account_of p = cond (is_bad_response p) []
     (cond (is_split (read_name p)) (after_split (read_name p)) (read_name p))
 
--- ---- where the two parts stand in the packet; no name begins at 0, so offset 0 says that the part
--- is not there
+-- ---- where the two parts stand in the packet, if they do
 
-abbrev pub no_part : Part
-no_part = record { offset = 0; length = 0 }
+-- as C is told it: no name begins at 0, so offset 0 says that the part is not there
+abbrev pub standing : Option Part → Part
+standing None = record { offset = 0; length = 0 }
+standing (Some a) = a
 
 -- from the place a up to Length
 abbrev pub part_from : ℕ → List ℕ → Part
 part_from a p = record { offset = a; length = length_of p - a }
 
 -- not there where the name has no backslash: the home domain counts
-unfoldable pub domain_part : List ℕ → Part
-domain_part p = cond (is_bad_response p) no_part
+unfoldable pub domain_part : List ℕ → Option Part
+domain_part p = cond (is_bad_response p) None
     (cond (is_split (read_name p))
-    (record { offset = name_offset; length = length (before_split (read_name p)) }) no_part)
+    (Some (record { offset = name_offset; length = length (before_split (read_name p)) })) None)
 
-unfoldable pub account_part : List ℕ → Part
-account_part p = cond (is_bad_response p) no_part
-    (cond (is_split (read_name p)) (part_from (name_offset + 1 + length (before_split (read_name p))) p)
-    (part_from name_offset p))
+unfoldable pub account_part : List ℕ → Option Part
+account_part p = cond (is_bad_response p) None
+    (cond (is_split (read_name p))
+    (Some (part_from (name_offset + 1 + length (before_split (read_name p))) p))
+    (Some (part_from name_offset p)))

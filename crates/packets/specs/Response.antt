@@ -4,10 +4,9 @@
 use Rattle.std.specs.Prelude.{Bool, cond, not, ◌||◌, List, ◌∷◌, ◌++◌, ℕ, ◌+◌, ◌-◌, eqb, ltb, length}
 use Rattle.octets.specs.Parts.{part, fixed}
 use Rattle.packets.specs.Codes.{response_code}
-use Rattle.packets.specs.Frame.{octet, length_of, framed, answer_by, out_by}
+use Rattle.packets.specs.Frame.{Written, octet, length_of, framed, answer_by, out_by}
 use Rattle.packets.specs.Sizes.{head_size, answer_size, value_size, lm_offset, nt_offset, flag_offset, name_offset, longest_name, shortest_response, longest_response}
 use Rattle.packets.specs.declared.Response.{Response}
-use Rattle.packets.specs.declared.Written.{Written}
 
 unfoldable pub response_packet : ℕ → Response → List ℕ → List ℕ
 response_packet id f name = framed response_code id (value_size ∷ (f.lm ++ (f.nt ++ (f.flag ∷ name))))

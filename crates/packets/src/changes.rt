@@ -1,43 +1,32 @@
 // The Change Password packet, version 2, of 1,118 octets.
-ghost use Rattle.std.specs.Prelude.{◌≡◌, ◌++◌, ◌+◌, ◌≤◌, ◌<◌, length};
-ghost use Rattle.octets.specs.Parts.{part, fixed, over_at};
-ghost use Rattle.octets.specs.Numbers.{to_be};
-ghost use Rattle.packets.specs.Frame.{written_over};
-ghost use Rattle.packets.specs.Sizes.{hash_size, block_size, lm_answer_offset, change_size};
-ghost use Rattle.packets.specs.Change.{change_packet, bad_change_size, bad_change_flags, change_refusal, read_change, change_written, change_out};
+ghost use Rattle.std.specs.Prelude.{◌≡◌, ◌≤◌, length};
+ghost use Rattle.octets.specs.Parts.{part, fixed};
+ghost use Rattle.refusals.specs.Refusal.{told};
+ghost use Rattle.packets.specs.Frame.{written_over, written_as};
+ghost use Rattle.packets.specs.Sizes.{block_size, change_size};
+ghost use Rattle.packets.specs.Change.{change_packet, change_refusal, read_change};
+ghost use Rattle.packets.specs.Change.{change_written, change_out};
 
+use crate::Change;
 use crate::codes::CHANGE_CODE;
-use crate::frames::{head, is_short, length, number_at};
+use crate::frames::{admit_body, head, number_at, put_pair};
 use crate::responses::response_at;
 use crate::sizes::{
-    ANSWER_SIZE, BLOCK_SIZE, CHANGE_SIZE, FLAGS_OFFSET, HASH_SIZE, HEAD_SIZE, LM_ANSWER_OFFSET,
-    LM_BLOCK_OFFSET, LM_VERIFIER_OFFSET, NT_ANSWER_OFFSET, VERIFIER_OFFSET,
+    BLOCK_SIZE, CHANGE_SIZE, FLAGS_OFFSET, HEAD_SIZE, LM_ANSWER_OFFSET, LM_BLOCK_OFFSET,
+    LM_VERIFIER_OFFSET, NT_ANSWER_OFFSET, VERIFIER_OFFSET,
 };
-use crate::{Change, Written};
-use refusals::refuse_if;
+use refusals::Refusal;
 
-fn is_bad_size(packet: &[u8]) -> bool
-    ensures { result ≡ bad_change_size packet.now }
-{
-    length(packet) != CHANGE_SIZE
-}
+// The bits 0 and 1 of the flags.
+const MOST_FLAGS: u16 = 3;
 
-// One of the bits 2 to 15 is set.
-fn is_bad_flags(packet: &[u8]) -> bool
-    ensures { result ≡ bad_change_flags packet.now }
+// A packet whose frame is good and whose code is 6. Refusal 6: its size; 7: one of the bits 2 to 15
+// of its flags is set.
+#[tactic(auto, unfolding(crate::specs::Change::change_refusal))]
+pub fn admit_change(packet: &[u8]) -> Result<(), Refusal>
+    ensures { told result ≡ change_refusal packet.now }
 {
-    3 < number_at(packet, FLAGS_OFFSET)
-}
-
-// Refusal 6 or 7, or 0, of a packet whose frame is good and whose code is 6.
-pub fn change_refusal(packet: &[u8]) -> u8
-    ensures { result ≡ change_refusal packet.now }
-{
-    refuse_if(
-        is_bad_size(packet),
-        6,
-        refuse_if(is_bad_flags(packet), 7, 0),
-    )
+    admit_body(packet, CHANGE_SIZE, FLAGS_OFFSET, MOST_FLAGS)
 }
 
 // A sealed block, from the place at on; 0 where the packet does not reach.
@@ -52,44 +41,15 @@ fn block_at(packet: &[u8], at: usize) -> [u8; BLOCK_SIZE]
 pub fn read_change(packet: &[u8]) -> Change
     ensures { result ≡ read_change packet.now }
 {
-    let block = block_at(packet, HEAD_SIZE);
-    let verifier = octets::sixteen_at(packet, VERIFIER_OFFSET);
-    let lmblock = block_at(packet, LM_BLOCK_OFFSET);
-    let lmverifier = octets::sixteen_at(packet, LM_VERIFIER_OFFSET);
-    let lm = response_at(packet, LM_ANSWER_OFFSET);
-    let nt = response_at(packet, NT_ANSWER_OFFSET);
-    let flags = number_at(packet, FLAGS_OFFSET);
     Change {
-        block,
-        verifier,
-        lmblock,
-        lmverifier,
-        lm,
-        nt,
-        flags,
+        block: block_at(packet, HEAD_SIZE),
+        verifier: octets::sixteen_at(packet, VERIFIER_OFFSET),
+        lmblock: block_at(packet, LM_BLOCK_OFFSET),
+        lmverifier: octets::sixteen_at(packet, LM_VERIFIER_OFFSET),
+        lm: response_at(packet, LM_ANSWER_OFFSET),
+        nt: response_at(packet, NT_ANSWER_OFFSET),
+        flags: number_at(packet, FLAGS_OFFSET),
     }
-}
-
-// Puts a block and the hash behind it at the place at.
-fn put_pair(out: &mut [u8], at: usize, block: [u8; BLOCK_SIZE], verifier: [u8; HASH_SIZE])
-    requires { at < change_size }
-    ensures { (out.new ≡ over_at at (block ++ verifier) out.old)
-        × (length (block ++ verifier) ≡ block_size + hash_size) }
-{
-    octets::copy_at(out, at, &block);
-    octets::copy_at(out, at + BLOCK_SIZE, &verifier);
-}
-
-// Puts the two responses and the flags at their place.
-fn put_rest(out: &mut [u8], lm: [u8; ANSWER_SIZE], nt: [u8; ANSWER_SIZE], flags: u16)
-    ensures { (out.new
-        ≡ over_at lm_answer_offset (lm ++ (nt ++ to_be 2 flags)) out.old)
-        × (length (lm ++ (nt ++ to_be 2 flags)) ≡ 50) }
-{
-    let last = octets::u16_to_be(flags);
-    octets::copy_at(out, LM_ANSWER_OFFSET, &lm);
-    octets::copy_at(out, NT_ANSWER_OFFSET, &nt);
-    octets::copy_at(out, FLAGS_OFFSET, &last);
 }
 
 // Puts a change that is not refused at the front of out: how many octets it has.
@@ -98,29 +58,21 @@ fn put_change(id: u8, fields: Change, out: &mut [u8]) -> usize
     ensures { (result ≡ length (change_packet id fields))
         × (out.new ≡ written_over (change_packet id fields) out.old) }
 {
-    let first = head(CHANGE_CODE, id, CHANGE_SIZE as u16);
-    octets::copy_at(out, 0, &first);
-    let block = fields.block;
-    let verifier = fields.verifier;
-    put_pair(out, HEAD_SIZE, block, verifier);
-    let lmblock = fields.lmblock;
-    let lmverifier = fields.lmverifier;
-    put_pair(out, LM_BLOCK_OFFSET, lmblock, lmverifier);
-    let lm = fields.lm;
-    let nt = fields.nt;
-    put_rest(out, lm, nt, fields.flags);
+    octets::copy_at(out, 0, &head(CHANGE_CODE, id, CHANGE_SIZE as u16));
+    put_pair(out, HEAD_SIZE, &fields.block, &fields.verifier);
+    put_pair(out, LM_BLOCK_OFFSET, &fields.lmblock, &fields.lmverifier);
+    put_pair(out, LM_ANSWER_OFFSET, &fields.lm, &fields.nt);
+    octets::copy_at(out, FLAGS_OFFSET, &octets::u16_to_be(fields.flags));
     CHANGE_SIZE
 }
 
-// Writes a change at the front of out. Refusal 9: too little room.
-pub fn write_change(id: u8, fields: Change, out: &mut [u8]) -> Written
-    ensures { (result ≡ change_written id fields out.old)
-        × (out.new ≡ change_out id fields out.old) }
+// Writes a change at the front of out: how many octets it has. Refusal 9: too little room.
+pub fn write_change(id: u8, fields: Change, out: &mut [u8]) -> Result<usize, Refusal>
+    ensures answer { written_as result ≡ change_written id fields out.old }
+    ensures out { out.new ≡ change_out id fields out.old }
 {
-    let refusal = refuse_if(is_short(out, CHANGE_SIZE), 9, 0);
-    if refusal != 0 {
-        return Written { refusal, length: 0 };
+    if out.len() < CHANGE_SIZE {
+        return Err(Refusal::Room);
     }
-    let length = put_change(id, fields, out);
-    Written { refusal: 0, length }
+    Ok(put_change(id, fields, out))
 }

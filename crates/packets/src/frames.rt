@@ -1,10 +1,13 @@
 // The frame of every packet: code, identifier, Length, data.
-ghost use Rattle.std.specs.Prelude.{◌≡◌, ◌∷◌, ◌-◌, ◌<◌};
+ghost use Rattle.std.specs.Prelude.{◌≡◌, ◌∷◌, ◌++◌, ◌-◌, ◌<◌, cond, not, eqb, ltb};
 ghost use Rattle.octets.specs.Numbers.{to_be};
-ghost use Rattle.packets.specs.Frame.{octet, number_at, length_of, bad_frame, bad_id, short_for};
+ghost use Rattle.octets.specs.Parts.{over_at};
+ghost use Rattle.refusals.specs.Refusal.{told};
+ghost use Rattle.packets.specs.Frame.{octet, number_at, length_of, bad_frame, bad_id};
 ghost use Rattle.packets.specs.Sizes.{change_size};
 
 use crate::sizes::HEAD_SIZE;
+use refusals::Refusal;
 
 // The octet at the place i, 0 where the packet does not reach it.
 pub fn octet(packet: &[u8], i: usize) -> u8
@@ -51,11 +54,34 @@ pub fn behind(packet: &[u8], front: usize) -> usize
     if n < front { 0 } else { n - front }
 }
 
-// There is too little room for n octets.
-pub(crate) fn is_short(out: &[u8], n: usize) -> bool
-    ensures { result ≡ short_for n out.now }
+// The body of a packet of one size, whose flags stand at a place and are at most `most`. Refusal 6:
+// another size; 7: other flags.
+pub(crate) fn admit_body(
+    packet: &[u8],
+    size: usize,
+    flags_at: usize,
+    most: u16,
+) -> Result<(), Refusal>
+    requires { flags_at < change_size }
+    ensures { told result ≡ cond (not (eqb (length_of packet.now) size)) 6
+        (cond (ltb most (number_at flags_at packet.now)) 7 0) }
 {
-    out.len() < n
+    if length(packet) != size {
+        return Err(Refusal::Size);
+    }
+    if most < number_at(packet, flags_at) {
+        return Err(Refusal::Flags);
+    }
+    Ok(())
+}
+
+// Puts two pieces, one behind the other, at a place.
+pub(crate) fn put_pair(out: &mut [u8], at: usize, first: &[u8], second: &[u8])
+    requires { at < change_size }
+    ensures { out.new ≡ over_at at (first.now ++ second.now) out.old }
+{
+    octets::copy_at(out, at, first);
+    octets::copy_at(out, at + first.len(), second);
 }
 
 // The four octets before the data, for a packet of the given Length.

@@ -10,15 +10,15 @@ mod replies;
 mod responses;
 mod sizes;
 
-pub use changes::{change_refusal, read_change, write_change};
-pub use changes_one::{change_one_refusal, read_change_one, write_change_one};
+pub use changes::{admit_change, read_change, write_change};
+pub use changes_one::{admit_change_one, read_change_one, write_change_one};
 pub use codes::{CHANGE_CODE, CHANGE_ONE_CODE, RESPONSE_CODE};
 pub use frames::{is_bad_frame, is_bad_id, length, octet};
 pub use names::{account, account_part, domain, domain_part};
 pub use replies::{
     is_bad_reply_buffer, read_challenge, read_reply, write_challenge, write_failure, write_success,
 };
-pub use responses::{name, read_response, response_refusal, write_response};
+pub use responses::{admit_response, name, read_response, write_response};
 pub use sizes::{
     ANSWER_SIZE, BLOCK_SIZE, CHALLENGE_SIZE, CHANGE_ONE_SIZE, CHANGE_SIZE, FLAG_OFFSET, HASH_SIZE,
     LONGEST_REPLY, LONGEST_RESPONSE,
@@ -57,23 +57,14 @@ pub struct ChangeOne {
     pub flags: u16,
 }
 
-// What the peer's writers answer: the refusal (0 is none) and how many octets were written.
+// What the peer reads in a Challenge.
 #[derive(Clone, Copy)]
-pub struct Written {
-    pub refusal: u8,
-    pub length: usize,
-}
-
-// What the peer reads in a Challenge; fixed values beside a refusal (0 is none).
-#[derive(Clone, Copy)]
-pub struct ChallengeFields {
-    pub refusal: u8,
+pub struct Challenge {
     pub id: u8,
     pub challenge: [u8; CHALLENGE_SIZE],
 }
 
-// Where a part of a packet stands: from offset on, length octets. Offset 0 says that it is not in
-// the packet.
+// Where a part of a packet stands: from offset on, length octets.
 #[derive(Clone, Copy)]
 pub struct Part {
     pub offset: usize,

@@ -1,6 +1,7 @@
 // The two parts of a Response's name, for the lookup.
 ghost use Rattle.std.specs.Prelude.{◌≡◌, length};
-ghost use Rattle.packets.specs.Name.{is_bad_response, before_split, no_part, part_from, domain_part, account_part, domain_of, account_of};
+ghost use Rattle.packets.specs.Name.{is_bad_response, before_split, part_from};
+ghost use Rattle.packets.specs.Name.{domain_part, account_part, domain_of, account_of};
 
 use crate::Part;
 use crate::codes::RESPONSE_CODE;
@@ -23,60 +24,50 @@ fn split_at(name: &[u8]) -> usize
     octets::up_to(name, b'\\').len()
 }
 
-// No part of the packet.
-fn no_part() -> Part
-    ensures { result ≡ no_part }
-{
-    Part {
-        offset: 0,
-        length: 0,
-    }
-}
-
 // From the place at up to the packet's Length.
 fn part_from(packet: &[u8], at: usize) -> Part
     ensures { result ≡ part_from at packet.now }
 {
-    let n = behind(packet, at);
     Part {
         offset: at,
-        length: n,
+        length: behind(packet, at),
     }
 }
 
 // Where the domain stands: before the first backslash. Nowhere where there is none, or the packet
 // is refused.
-pub fn domain_part(packet: &[u8]) -> Part
+#[tactic(auto, unfolding(crate::specs::Name::domain_part))]
+pub fn domain_part(packet: &[u8]) -> Option<Part>
     ensures { result ≡ domain_part packet.now }
 {
     if is_bad_response(packet) {
-        return no_part();
+        return None;
     }
     let name = name(packet);
-    let k = split_at(name);
-    if k < name.len() {
-        return Part {
+    let length = split_at(name);
+    if length < name.len() {
+        return Some(Part {
             offset: NAME_OFFSET,
-            length: k,
-        };
+            length,
+        });
     }
-    no_part()
+    None
 }
 
 // Where the account stands: behind the first backslash or, where there is none, the whole name.
 // Nowhere where the packet is refused.
-pub fn account_part(packet: &[u8]) -> Part
+pub fn account_part(packet: &[u8]) -> Option<Part>
     ensures { result ≡ account_part packet.now }
 {
     if is_bad_response(packet) {
-        return no_part();
+        return None;
     }
     let name = name(packet);
-    let k = split_at(name);
-    if k < name.len() {
-        return part_from(packet, NAME_OFFSET + 1 + k);
+    let length = split_at(name);
+    if length < name.len() {
+        return Some(part_from(packet, NAME_OFFSET + 1 + length));
     }
-    part_from(packet, NAME_OFFSET)
+    Some(part_from(packet, NAME_OFFSET))
 }
 
 // The domain: what stands before the first backslash or, where there is none, the home domain.
@@ -87,17 +78,18 @@ pub fn domain<'a>(packet: &'a [u8], home: &'a [u8]) -> &'a [u8]
     if is_bad_response(packet) {
         return octets::part_of(packet, 0, 0);
     }
-    let part = domain_part(packet);
-    if part.offset == 0 {
-        return home;
+    match domain_part(packet) {
+        Some(part) => octets::part_of(packet, part.offset, part.length),
+        None => home,
     }
-    octets::part_of(packet, part.offset, part.length)
 }
 
 // The account: the rest of the name. Empty for a packet that is refused.
 pub fn account(packet: &[u8]) -> &[u8]
     ensures { result.now ≡ account_of packet.now }
 {
-    let part = account_part(packet);
-    octets::part_of(packet, part.offset, part.length)
+    match account_part(packet) {
+        Some(part) => octets::part_of(packet, part.offset, part.length),
+        None => octets::part_of(packet, 0, 0),
+    }
 }

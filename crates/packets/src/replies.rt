@@ -1,15 +1,18 @@
 // What the authenticator sends: Challenge, Success and Failure; and what the peer reads in them.
 ghost use Rattle.std.specs.Prelude.{◌≡◌};
-ghost use Rattle.message.specs.Message.{text_of, verdict_refusal, verdict_values};
+ghost use Rattle.message.specs.Message.{text_of, verdict_values, values_of};
+ghost use Rattle.refusals.specs.Refusal.{told};
 ghost use Rattle.packets.specs.Frame.{written_over, written_length};
-ghost use Rattle.packets.specs.Reply.{challenge_packet, success_packet, failure_packet, bad_reply_buffer, refused_challenge, bad_challenge, read_challenge, body_read, read_reply, reply_refusal, reply_values};
+ghost use Rattle.packets.specs.Reply.{challenge_packet, success_packet, failure_packet};
+ghost use Rattle.packets.specs.Reply.{bad_reply_buffer, bad_challenge, challenge_as, read_challenge};
+ghost use Rattle.packets.specs.Reply.{body_read, read_reply, reply_refusal, reply_values};
 
-use crate::ChallengeFields;
+use crate::Challenge;
 use crate::codes::{CHALLENGE_CODE, FAILURE_CODE, SUCCESS_CODE};
 use crate::frames::{behind, head, is_bad_frame, is_bad_id, length, octet};
 use crate::sizes::{CHALLENGE_LENGTH, CHALLENGE_OFFSET, CHALLENGE_SIZE, HEAD_SIZE, LONGEST_REPLY};
-use message::Reading;
-use refusals::refuse_if;
+use message::Verdict;
+use refusals::Refusal;
 
 // Whether a reply buffer cannot hold the longest reply, a Failure.
 pub fn is_bad_reply_buffer(reply: &[u8]) -> bool
@@ -18,7 +21,8 @@ pub fn is_bad_reply_buffer(reply: &[u8]) -> bool
     reply.len() < LONGEST_REPLY
 }
 
-// ---- writers: each answers how many octets of out it wrote, 0 where there is too little room
+// ---- writers: each answers how many octets of out it wrote, 0 where there is too little room. It
+// is the count of them then too (`written_length`), so that none of the three can fail.
 
 pub fn write_challenge(id: u8, challenge: [u8; CHALLENGE_SIZE], out: &mut [u8]) -> usize
     ensures { (result ≡ written_length (challenge_packet id challenge) out.old)
@@ -27,10 +31,8 @@ pub fn write_challenge(id: u8, challenge: [u8; CHALLENGE_SIZE], out: &mut [u8]) 
     if out.len() < CHALLENGE_LENGTH {
         return 0;
     }
-    let first = head(CHALLENGE_CODE, id, CHALLENGE_LENGTH as u16);
-    let size = [CHALLENGE_SIZE as u8];
-    octets::copy_at(out, 0, &first);
-    octets::copy_at(out, HEAD_SIZE, &size);
+    octets::copy_at(out, 0, &head(CHALLENGE_CODE, id, CHALLENGE_LENGTH as u16));
+    octets::copy_at(out, HEAD_SIZE, &[CHALLENGE_SIZE as u8]);
     octets::copy_at(out, CHALLENGE_OFFSET, &challenge);
     CHALLENGE_LENGTH
 }
@@ -42,8 +44,7 @@ pub fn write_success(id: u8, out: &mut [u8]) -> usize
     if out.len() < HEAD_SIZE {
         return 0;
     }
-    let first = head(SUCCESS_CODE, id, HEAD_SIZE as u16);
-    octets::copy_at(out, 0, &first);
+    octets::copy_at(out, 0, &head(SUCCESS_CODE, id, HEAD_SIZE as u16));
     HEAD_SIZE
 }
 
@@ -55,24 +56,12 @@ pub fn write_failure(id: u8, e: u16, r: u8, v: u8, out: &mut [u8]) -> usize
     if out.len() < LONGEST_REPLY {
         return 0;
     }
-    let first = head(FAILURE_CODE, id, LONGEST_REPLY as u16);
-    let text = message::text(e, r, v);
-    octets::copy_at(out, 0, &first);
-    octets::copy_at(out, HEAD_SIZE, &text);
+    octets::copy_at(out, 0, &head(FAILURE_CODE, id, LONGEST_REPLY as u16));
+    octets::copy_at(out, HEAD_SIZE, &message::text(e, r, v));
     LONGEST_REPLY
 }
 
 // ---- readers
-
-fn refused_challenge(refusal: u8) -> ChallengeFields
-    ensures { result ≡ refused_challenge refusal }
-{
-    ChallengeFields {
-        refusal,
-        id: 0,
-        challenge: [0; CHALLENGE_SIZE],
-    }
-}
 
 // The packet is of another kind, cut short, or of a size other than 8.
 fn is_bad_challenge(packet: &[u8]) -> bool
@@ -85,54 +74,48 @@ fn is_bad_challenge(packet: &[u8]) -> bool
 }
 
 // A Challenge. Refusal 3: the frame; 11: another kind, cut short, or of a size other than 8.
-pub fn read_challenge(packet: &[u8]) -> ChallengeFields
-    ensures { result ≡ read_challenge packet.now }
+#[tactic(auto, unfolding(crate::specs::Reply::read_challenge))]
+pub fn read_challenge(packet: &[u8]) -> Result<Challenge, Refusal>
+    ensures { challenge_as result ≡ read_challenge packet.now }
 {
-    let refusal = refuse_if(
-        is_bad_frame(packet),
-        3,
-        refuse_if(is_bad_challenge(packet), 11, 0),
-    );
-    if refusal != 0 {
-        return refused_challenge(refusal);
+    if is_bad_frame(packet) {
+        return Err(Refusal::Frame);
     }
-    let challenge = octets::eight_at(packet, CHALLENGE_OFFSET);
-    let id = octet(packet, 1);
-    ChallengeFields {
-        refusal: 0,
-        id,
-        challenge,
+    if is_bad_challenge(packet) {
+        return Err(Refusal::Kind);
     }
+    Ok(Challenge {
+        id: octet(packet, 1),
+        challenge: octets::eight_at(packet, CHALLENGE_OFFSET),
+    })
 }
 
-// What a reply says, by its code: 11 for another kind, or by the message.
-fn read_body(packet: &[u8]) -> Reading
+// What a reply says, by its code: refusal 11 for another kind, or by the message.
+fn read_body(packet: &[u8]) -> Result<Verdict, Refusal>
     ensures { result ≡ body_read packet.now }
 {
-    let code = octet(packet, 0);
-    if code == SUCCESS_CODE {
-        return message::succeeded();
+    match octet(packet, 0) {
+        SUCCESS_CODE => Ok(Verdict::Success),
+        FAILURE_CODE => {
+            let text = octets::part_of(packet, HEAD_SIZE, behind(packet, HEAD_SIZE));
+            Ok(Verdict::Failure(message::read(text)?))
+        }
+        _ => Err(Refusal::Kind),
     }
-    if code == FAILURE_CODE {
-        return message::read(octets::part_of(packet, HEAD_SIZE, behind(packet, HEAD_SIZE)));
-    }
-    message::refused_with(11)
 }
 
 // A reply to the last packet, which had the identifier last. Refusal 3: the frame; 5: another
 // identifier; 11: another kind, or by the message.
-pub fn read_reply(last: u8, packet: &[u8]) -> Reading
-    ensures { (result ≡ read_reply last packet.now)
-        × (verdict_refusal result.verdict ≡ reply_refusal last packet.now)
-        × (verdict_values result.verdict ≡ reply_values last packet.now) }
+pub fn read_reply(last: u8, packet: &[u8]) -> Result<Verdict, Refusal>
+    ensures as_defined { result ≡ read_reply last packet.now }
+    ensures number { told result ≡ reply_refusal last packet.now }
+    ensures values { values_of verdict_values result ≡ reply_values last packet.now }
 {
-    let refusal = refuse_if(
-        is_bad_frame(packet),
-        3,
-        refuse_if(is_bad_id(last, packet), 5, 0),
-    );
-    if refusal != 0 {
-        return message::refused_with(refusal);
+    if is_bad_frame(packet) {
+        return Err(Refusal::Frame);
+    }
+    if is_bad_id(last, packet) {
+        return Err(Refusal::Identifier);
     }
     read_body(packet)
 }

@@ -1,18 +1,21 @@
 // The Response packet: size of the value, LM response, NT response, flag, name.
 ghost use Rattle.std.specs.Prelude.{◌≡◌, ◌+◌, ◌≤◌, length};
 ghost use Rattle.octets.specs.Parts.{part, fixed};
-ghost use Rattle.packets.specs.Frame.{written_over};
+ghost use Rattle.refusals.specs.Refusal.{told};
+ghost use Rattle.packets.specs.Frame.{written_over, written_as};
 ghost use Rattle.packets.specs.Sizes.{answer_size, name_offset, longest_name};
-ghost use Rattle.packets.specs.Response.{bad_response_size, bad_response_flag, response_refusal, read_response, read_name, bad_name, short_for_response, response_write_refusal, response_packet, response_written, response_out};
+ghost use Rattle.packets.specs.Response.{bad_response_size, bad_response_flag, response_refusal};
+ghost use Rattle.packets.specs.Response.{read_response, read_name, bad_name, short_for_response};
+ghost use Rattle.packets.specs.Response.{response_packet, response_written, response_out};
 
+use crate::Response;
 use crate::codes::RESPONSE_CODE;
 use crate::frames::{behind, head, length, octet};
 use crate::sizes::{
     ANSWER_SIZE, FLAG_OFFSET, HEAD_SIZE, LM_OFFSET, LONGEST_NAME, LONGEST_RESPONSE, NAME_OFFSET,
     NT_OFFSET, SHORTEST_RESPONSE, VALUE_SIZE,
 };
-use crate::{Response, Written};
-use refusals::refuse_if;
+use refusals::Refusal;
 
 // The name has not 1 to 256 octets, by the Length, or the size is not that of the value.
 pub fn is_bad_size(packet: &[u8]) -> bool
@@ -29,11 +32,18 @@ pub fn is_bad_flag(packet: &[u8]) -> bool
     1 < octet(packet, FLAG_OFFSET)
 }
 
-// Refusal 6 or 7, or 0, of a packet whose frame is good and whose code is 2.
-pub fn response_refusal(packet: &[u8]) -> u8
-    ensures { result ≡ response_refusal packet.now }
+// A packet whose frame is good and whose code is 2. Refusal 6: its size; 7: its flag.
+#[tactic(auto, unfolding(crate::specs::Response::response_refusal))]
+pub fn admit_response(packet: &[u8]) -> Result<(), Refusal>
+    ensures { told result ≡ response_refusal packet.now }
 {
-    refuse_if(is_bad_size(packet), 6, refuse_if(is_bad_flag(packet), 7, 0))
+    if is_bad_size(packet) {
+        return Err(Refusal::Size);
+    }
+    if is_bad_flag(packet) {
+        return Err(Refusal::Flags);
+    }
+    Ok(())
 }
 
 // An LM or NT response, from the place at on; 0 where the packet does not reach.
@@ -49,10 +59,11 @@ pub fn response_at(packet: &[u8], at: usize) -> [u8; ANSWER_SIZE]
 pub fn read_response(packet: &[u8]) -> Response
     ensures { result ≡ read_response packet.now }
 {
-    let lm = response_at(packet, LM_OFFSET);
-    let nt = response_at(packet, NT_OFFSET);
-    let flag = octet(packet, FLAG_OFFSET);
-    Response { lm, nt, flag }
+    Response {
+        lm: response_at(packet, LM_OFFSET),
+        nt: response_at(packet, NT_OFFSET),
+        flag: octet(packet, FLAG_OFFSET),
+    }
 }
 
 // The name, which ends at Length.
@@ -77,13 +88,6 @@ fn is_short(out: &[u8], name: &[u8]) -> bool
     out.len() < NAME_OFFSET || out.len() - NAME_OFFSET < name.len()
 }
 
-// 10, then 9; 0 is none.
-fn write_refusal(name: &[u8], out: &[u8]) -> u8
-    ensures { result ≡ response_write_refusal name.now out.now }
-{
-    refuse_if(is_bad_name(name), 10, refuse_if(is_short(out, name), 9, 0))
-}
-
 // Puts a Response that is not refused at the front of out: how many octets it has.
 fn put_response(id: u8, fields: Response, name: &[u8], out: &mut [u8]) -> usize
     requires { (length name.now ≤ longest_name)
@@ -93,30 +97,31 @@ fn put_response(id: u8, fields: Response, name: &[u8], out: &mut [u8]) -> usize
         out.old) }
 {
     let n = NAME_OFFSET + name.len();
-    let first = head(RESPONSE_CODE, id, n as u16);
-    let size = [VALUE_SIZE as u8];
-    let lm = fields.lm;
-    let nt = fields.nt;
-    let flag = [fields.flag];
-    octets::copy_at(out, 0, &first);
-    octets::copy_at(out, HEAD_SIZE, &size);
-    octets::copy_at(out, LM_OFFSET, &lm);
-    octets::copy_at(out, NT_OFFSET, &nt);
-    octets::copy_at(out, FLAG_OFFSET, &flag);
+    octets::copy_at(out, 0, &head(RESPONSE_CODE, id, n as u16));
+    octets::copy_at(out, HEAD_SIZE, &[VALUE_SIZE as u8]);
+    octets::copy_at(out, LM_OFFSET, &fields.lm);
+    octets::copy_at(out, NT_OFFSET, &fields.nt);
+    octets::copy_at(out, FLAG_OFFSET, &[fields.flag]);
     octets::copy_at(out, NAME_OFFSET, name);
     n
 }
 
-// Writes a Response at the front of out. Refusal 10: the name is empty or over 256 octets. 9: too
-// little room.
-pub fn write_response(id: u8, fields: Response, name: &[u8], out: &mut [u8]) -> Written
-    ensures { (result ≡ response_written id fields name.now out.old)
-        × (out.new ≡ response_out id fields name.now out.old) }
+// Writes a Response at the front of out: how many octets it has. Refusal 10: the name is empty or
+// over 256 octets. 9: too little room.
+pub fn write_response(
+    id: u8,
+    fields: Response,
+    name: &[u8],
+    out: &mut [u8],
+) -> Result<usize, Refusal>
+    ensures answer { written_as result ≡ response_written id fields name.now out.old }
+    ensures out { out.new ≡ response_out id fields name.now out.old }
 {
-    let refusal = write_refusal(name, out);
-    if refusal != 0 {
-        return Written { refusal, length: 0 };
+    if is_bad_name(name) {
+        return Err(Refusal::Name);
     }
-    let length = put_response(id, fields, name, out);
-    Written { refusal: 0, length }
+    if is_short(out, name) {
+        return Err(Refusal::Room);
+    }
+    Ok(put_response(id, fields, name, out))
 }

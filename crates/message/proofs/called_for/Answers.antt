@@ -7,19 +7,19 @@ use Rattle.message.proofs.called_for.Goals as goal
 
 pub returns-then-r-eq1 : goal.returns-then-r-eq1
 unfolding called_for
-returns-then-r-eq1 c = simp (eq-eqb _ authentication_failure c.if-e.true, eq-eqb _ _ c.if-r-eq1.true)
+returns-then-r-eq1 c = simp (c.if-e.true, eq-eqb _ _ c.if-r-eq1.true)
 
-pub returns-then-e : goal.returns-then-e
+pub returns-else-r-eq1 : goal.returns-else-r-eq1
 unfolding called_for
-returns-then-e c = simp (c.if-e.true, ne_eqb _ _ c.if-r-eq1.false)
+returns-else-r-eq1 c = simp (c.if-e.true, ne_eqb _ _ c.if-r-eq1.false)
 
 pub returns-then-v-ge2 : goal.returns-then-v-ge2
 unfolding called_for
 returns-then-v-ge2 c = simp (c.if-e-2.true, le-leb _ _ c.if-v-ge2.true)
 
-pub returns-then-e-2 : goal.returns-then-e-2
+pub returns-else-v-ge2 : goal.returns-else-v-ge2
 unfolding called_for
-returns-then-e-2 c = simp (c.if-e-2.true, lt-leb _ _ c.if-v-ge2.false, lt-ltb _ _ c.if-v-ge2.false)
+returns-else-v-ge2 c = simp (c.if-e-2.true, lt-leb _ _ c.if-v-ge2.false, lt-ltb _ _ c.if-v-ge2.false)
 
 pub returns : goal.returns
 unfolding called_for

@@ -25,45 +25,36 @@ returns-then-word-letter c =
 
 pub returns-then-word-ne61 : goal.returns-then-word-ne61
 returns-then-word-ne61 c =
-    let t = c in
-    let a = t.args in
-    sym (long a.letter a.base a.low a.high a.word.now t.if-word-lt2.false ∙ simp (eq-eqb _ _ t.if-word-letter.false, ne_eqb _ _ c.if-word-ne61.true))
+    let a = c.args in
+    sym (long a.letter a.base a.low a.high a.word.now c.if-word-lt2.false ∙ simp (eq-eqb _ _ c.if-word-letter.false, ne_eqb _ _ c.if-word-ne61.true))
 
 pub returns-then-digits-low : goal.returns-then-digits-low
 returns-then-digits-low c =
-    let u = c in
-    let t = u in
-    let a = t.args in
+    let a = c.args in
     let w = a.word.now in
     let k : length (drop 2 w) < a.low = omega (arith, ap length (behind w)) in
-    sym (long a.letter a.base a.low a.high a.word.now t.if-word-lt2.false ∙ simp (eq-eqb _ _ t.if-word-letter.false, eq-eqb _ _ u.if-word-ne61.false, lt-leb _ _ k))
+    sym (long a.letter a.base a.low a.high a.word.now c.if-word-lt2.false ∙ simp (eq-eqb _ _ c.if-word-letter.false, eq-eqb _ _ c.if-word-ne61.false, lt-leb _ _ k))
 
 pub returns-then-high-digits : goal.returns-then-high-digits
 returns-then-high-digits c =
-    let d = c in
-    let u = d in
-    let t = u in
-    let a = t.args in
+    let a = c.args in
     let w = a.word.now in
     let k : a.low ≤ length (drop 2 w) = omega (arith, ap length (behind w)) in
     let n : a.high < length (drop 2 w) = omega (arith, ap length (behind w)) in
     sym (
-    long a.letter a.base a.low a.high a.word.now t.if-word-lt2.false
-    ∙ simp (eq-eqb _ _ t.if-word-letter.false, eq-eqb _ _ u.if-word-ne61.false, le-leb _ _ k, lt-leb _ _ n)
+    long a.letter a.base a.low a.high a.word.now c.if-word-lt2.false
+    ∙ simp (eq-eqb _ _ c.if-word-letter.false, eq-eqb _ _ c.if-word-ne61.false, le-leb _ _ k, lt-leb _ _ n)
     )
 
 pub returns : goal.returns
 returns c =
-    let d = c in
-    let u = d in
-    let t = u in
-    let a = t.args in
+    let a = c.args in
     let w = a.word.now in
     let k : a.low ≤ length (drop 2 w) = omega (arith, ap length (behind w)) in
     let n : length (drop 2 w) ≤ a.high = omega (arith, ap length (behind w)) in
     c.are_digits.ensures
     ∙ ap (λ (l : List ℕ). all_below a.base (map digit_of l)) (behind w)
     ∙ sym (
-    long a.letter a.base a.low a.high a.word.now t.if-word-lt2.false
-    ∙ simp (eq-eqb _ _ t.if-word-letter.false, eq-eqb _ _ u.if-word-ne61.false, le-leb _ _ k, le-leb _ _ n)
+    long a.letter a.base a.low a.high a.word.now c.if-word-lt2.false
+    ∙ simp (eq-eqb _ _ c.if-word-letter.false, eq-eqb _ _ c.if-word-ne61.false, le-leb _ _ k, le-leb _ _ n)
     )

@@ -2,10 +2,9 @@
 -- Assumes nothing.
 use mathlib.Core.Path.{◌≡◌, sym, ap, subst, ◌∙◌}
 use mathlib.Core.List.{List}
-use mathlib.Core.Option.{Option, none, some}
+use Rattle.std.specs.Prelude.{Option, Some, None}
 use Prim.Native.Nat.{ℕ}
 use lib.Dec.{lit<, lit≤}
-use Rattle.message.specs.declared.Place.{Place}
 use Rattle.octets.specs.Digits.{number_from}
 use Rattle.message.specs.Message.{words, digits_of, first_field, field_e, field_r, field_v, field_c, number_or, new_challenge_from}
 use Rattle.message.specs.Inner.{ParsedFields, word_at, digits_at, IfSome, Small, Eight}
@@ -35,16 +34,16 @@ new_challenge_at-c-requires c =
     let here = sym (ap (λ (p : ParsedFields). p.c) c.requires) in
     subst (IfSome Eight) here (first_eight (words c.args.message.now))
 
-pub returns-in-At : goal.returns-in-At
-returns-in-At c =
+pub returns : goal.returns
+returns c =
     let m = c.args.message.now in
     let ws = words m in
-    let at = c.in-At.is in
-    let ds : List ℕ = digits_of (word_at m c.in-At.field-0) in
-    let fe : first_field field_e ws ≡ some ds =
+    let at = c.in-Some.is in
+    let ds : List ℕ = digits_of (word_at m c.in-Some.field-0) in
+    let fe : first_field field_e ws ≡ Some ds =
     sym (ap (λ (p : ParsedFields). p.e) c.requires) ∙ ap (digits_at m) at in
     let e : c.number_or-e.result ≡ number_from 10 0 ds =
-    c.number_or-e.ensures ∙ ap (λ (p : Place). number_or 10 0 (digits_at m p)) at in
+    c.number_or-e.ensures ∙ ap (λ (p : Option ℕ). number_or 10 0 (digits_at m p)) at in
     let r : c.number_or-r.result ≡ number_or 2 0 (first_field field_r ws) =
     c.number_or-r.ensures ∙ ap (λ (p : ParsedFields). number_or 2 0 p.r) c.requires in
     let v : c.number_or-v.result ≡ number_or 10 1 (first_field field_v ws) =
@@ -53,9 +52,9 @@ returns-in-At c =
     c.new_challenge_at-c.ensures ∙ ap (λ (p : ParsedFields). new_challenge_from p.c) c.requires in
     rw fe (cc)
 
-pub returns-in-Nowhere : goal.returns-in-Nowhere
-returns-in-Nowhere c =
+pub returns-in_default : goal.returns-in_default
+returns-in_default c =
     let m = c.args.message.now in
-    let e : first_field field_e (words m) ≡ none =
-    sym (ap (λ (p : ParsedFields). p.e) c.requires) ∙ ap (digits_at m) c.in-Nowhere.is in
-    rw e c.refused_with.ensures
+    let e : first_field field_e (words m) ≡ None =
+    sym (ap (λ (p : ParsedFields). p.e) c.requires) ∙ ap (digits_at m) c.in_default.is in
+    rw e

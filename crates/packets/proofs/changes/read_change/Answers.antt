@@ -6,6 +6,6 @@ use Rattle.packets.proofs.changes.read_change.Goals as goal
 pub returns : goal.returns
 returns c =
     change_same
-    c.block_at-block.ensures c.sixteen_at-verifier.ensures
-    c.block_at-lmblock.ensures c.sixteen_at-lmverifier.ensures
-    c.response_at-lm.ensures c.response_at-nt.ensures c.number_at-flags.ensures
+    c.block_at.ensures c.sixteen_at.ensures
+    c.block_at-2.ensures c.sixteen_at-2.ensures
+    c.response_at.ensures c.response_at-2.ensures c.number_at.ensures

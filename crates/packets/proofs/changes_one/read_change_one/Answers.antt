@@ -6,6 +6,6 @@ use Rattle.packets.proofs.changes_one.read_change_one.Goals as goal
 pub returns : goal.returns
 returns c =
     change_one_same
-    c.sixteen_at-lmold.ensures c.sixteen_at-lmnew.ensures
-    c.sixteen_at-ntold.ensures c.sixteen_at-ntnew.ensures
-    c.number_at-length.ensures c.number_at-flags.ensures
+    c.sixteen_at.ensures c.sixteen_at-2.ensures
+    c.sixteen_at-3.ensures c.sixteen_at-4.ensures
+    c.number_at.ensures c.number_at-2.ensures

@@ -4,24 +4,25 @@ use mathlib.Core.Path.{sym, ap, ◌∙◌}
 use native.Mathlib.Omega.{arith}
 use lib.ListN.{length}
 use Rattle.octets.proofs.Split.{place}
+use Rattle.std.specs.Prelude.{Some}
+use Rattle.packets.specs.declared.Part.{Part}
 use Rattle.packets.proofs.Places.{part_unfit, part_split, part_whole}
 use Rattle.packets.proofs.names.account_part.Goals as goal
 
 pub returns-then-is_bad_response : goal.returns-then-is_bad_response
 returns-then-is_bad_response c =
-    c.no_part.ensures
-    ∙ (part_unfit c.args.packet.now (sym c.is_bad_response.ensures ∙ c.if-is_bad_response.true)).1
+    (part_unfit c.args.packet.now (sym c.is_bad_response.ensures ∙ c.if-is_bad_response.true)).1
 
-pub returns-then-k-name : goal.returns-then-k-name
-returns-then-k-name c =
+pub returns-then-length-name : goal.returns-then-length-name
+returns-then-length-name c =
     let p = c.args.packet.now in
     let u = sym c.is_bad_response.ensures ∙ c.if-is_bad_response.false in
     let e = c.name-name.ensures in
-    c.part_from.ensures ∙ (part_split p u (c.split_at-k.ensures ∙ ap (place 92) e) (omega (arith, ap length e))).1
+    ap (λ (x : Part). Some x) c.part_from.ensures ∙ (part_split p u (c.split_at-length.ensures ∙ ap (place 92) e) (omega (arith, ap length e))).1
 
 pub returns : goal.returns
 returns c =
     let p = c.args.packet.now in
     let u = sym c.is_bad_response.ensures ∙ c.if-is_bad_response.false in
     let e = c.name-name.ensures in
-    c.part_from-2.ensures ∙ (part_whole p u (c.split_at-k.ensures ∙ ap (place 92) e) (omega (arith, ap length e))).1
+    ap (λ (x : Part). Some x) c.part_from-2.ensures ∙ (part_whole p u (c.split_at-length.ensures ∙ ap (place 92) e) (omega (arith, ap length e))).1

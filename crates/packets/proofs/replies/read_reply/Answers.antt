@@ -1,31 +1,52 @@
 -- `packets::replies::read_reply` meets its contract.
 -- Assumes nothing.
-use mathlib.Core.Bool.{cond}
-use mathlib.Core.Path.{◌≡◌, ◌∙◌}
-use native.Mathlib.Omega.{arith}
-use Rattle.refusals.proofs.Answers.{refused_two, passed_two}
-use Rattle.message.specs.Message.{refused_with}
-use Rattle.packets.specs.Frame.{bad_frame, bad_id}
-use Rattle.packets.specs.Reply.{body_read, read_reply}
-use Rattle.packets.proofs.Refusals.{reply_told}
+use mathlib.Core.Path.{◌≡◌, sym, ap, ◌∙◌}
+use Rattle.refusals.specs.Refusal.{told}
+use Rattle.message.specs.Message.{verdict_values, values_of}
+use Rattle.packets.specs.Reply.{read_reply}
+use Rattle.packets.proofs.Refusals.{reply_told, reply_values_told}
 use Rattle.packets.proofs.replies.read_reply.Goals as goal
 
-pub returns-then-refusal-ne0 : goal.returns-then-refusal-ne0
+pub returns-then-is_bad_frame : goal.returns-then-is_bad_frame
 unfolding read_reply
-returns-then-refusal-ne0 c =
+returns-then-is_bad_frame c =
     let last = c.args.last in
     let p = c.args.packet.now in
-    let told : c.refuse_if-refusal.result ≡ cond (bad_frame p) 3 (cond (bad_id last p) 5 0) = cc in
-    let e = refused_two refused_with (body_read p) (bad_frame p) 3 (bad_id last p) 5 told
-    c.if-refusal-ne0.true in
-    reply_told last p (c.refused_with.ensures ∙ e)
+    let e : read_reply last p ≡ _ = rw (sym c.is_bad_frame.ensures ∙ c.if-is_bad_frame.true) in
+    record {
+      as_defined = sym e;
+      number = ap told (sym e) ∙ reply_told last p;
+      values = ap (values_of verdict_values) (sym e) ∙ reply_values_told last p;
+    }
+
+pub returns-then-is_bad_id : goal.returns-then-is_bad_id
+unfolding read_reply
+returns-then-is_bad_id c =
+    let last = c.args.last in
+    let p = c.args.packet.now in
+    let e : read_reply last p ≡ _ =
+    rw (
+      sym c.is_bad_frame.ensures ∙ c.if-is_bad_frame.false,
+      sym c.is_bad_id.ensures ∙ c.if-is_bad_id.true,
+    ) in
+    record {
+      as_defined = sym e;
+      number = ap told (sym e) ∙ reply_told last p;
+      values = ap (values_of verdict_values) (sym e) ∙ reply_values_told last p;
+    }
 
 pub returns : goal.returns
 unfolding read_reply
 returns c =
     let last = c.args.last in
     let p = c.args.packet.now in
-    let told : c.refuse_if-refusal.result ≡ cond (bad_frame p) 3 (cond (bad_id last p) 5 0) = cc in
-    let e = passed_two refused_with (body_read p) (bad_frame p) 3 (bad_id last p) 5 told
-    (omega arith) (omega arith) c.if-refusal-ne0.false in
-    reply_told last p (c.read_body.ensures ∙ e)
+    let e : c.read_body.result ≡ read_reply last p =
+    rw (
+      sym c.is_bad_frame.ensures ∙ c.if-is_bad_frame.false,
+      sym c.is_bad_id.ensures ∙ c.if-is_bad_id.false,
+    ) c.read_body.ensures in
+    record {
+      as_defined = e;
+      number = ap told e ∙ reply_told last p;
+      values = ap (values_of verdict_values) e ∙ reply_values_told last p;
+    }

@@ -20,7 +20,7 @@ returns-then-out-lt-CHALLENGE_LENGTH c =
 pub returns : goal.returns
 unfolding challenge_packet
 returns c =
-    let h = c.head-first in
+    let h = c.head in
     let a = c.args in
     let eight : length a.challenge ≡ 8 = search rules in
     let s₁ = laid.first 4 (ap length h.ensures) c.copy_at.ensures in

@@ -22,8 +22,8 @@ pub returns : goal.returns
 unfolding failure_packet
 returns c =
     let a = c.args in
-    let h = c.head-first in
-    let t = c.text-text in
+    let h = c.head in
+    let t = c.text in
     let s₁ = laid.first 4 (ap length h.ensures) c.copy_at.ensures in
     let s₂ = laid.next s₁ t.result 13 (ap length t.ensures ∙ length_text a.e a.r a.v) c.copy_at-2.ensures in
     (writing.framed_laid 4 a.id (text_of a.e a.r a.v) s₂ h.ensures (ap (λ (t : List ℕ). h.result ++ t) t.ensures) (omega arith)).1

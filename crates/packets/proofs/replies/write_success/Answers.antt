@@ -16,6 +16,6 @@ pub returns : goal.returns
 unfolding success_packet
 returns c =
     let a = c.args in
-    let head = c.head-first.ensures in
+    let head = c.head.ensures in
     (writing.framed_laid 3 a.id [] (laid.first 4 (ap length head) c.copy_at.ensures) head (sym (append-nil _))
     (omega arith)).1

@@ -21,12 +21,12 @@ returns c =
     let name = c.args.name.now in
     let lm : length f.lm ≡ 24 = search rules in
     let nt : length f.nt ≡ 24 = search rules in
-    let s₁ = laid.first 4 (ap length c.head-first.ensures) c.copy_at.ensures in
+    let s₁ = laid.first 4 (ap length c.head.ensures) c.copy_at.ensures in
     let s₂ = laid.next s₁ (49 ∷ []) 1 refl c.copy_at-2.ensures in
     let s₃ = laid.next s₂ f.lm 24 lm c.copy_at-3.ensures in
     let s₄ = laid.next s₃ f.nt 24 nt c.copy_at-4.ensures in
     let s₅ = laid.next s₄ (f.flag ∷ []) 1 refl c.copy_at-5.ensures in
     let s₆ = laid.next s₅ name (length name) refl c.copy_at-6.ensures in
-    let order = writing.response_order c.head-first.result f.lm f.nt name 49 f.flag in
-    let done = writing.framed_laid 2 c.args.id (49 ∷ (f.lm ++ (f.nt ++ (f.flag ∷ name)))) s₆ c.head-first.ensures order c.requires.1 in
+    let order = writing.response_order c.head.result f.lm f.nt name 49 f.flag in
+    let done = writing.framed_laid 2 c.args.id (49 ∷ (f.lm ++ (f.nt ++ (f.flag ∷ name)))) s₆ c.head.ensures order c.requires.1 in
     (sym done.0, done.1.1)

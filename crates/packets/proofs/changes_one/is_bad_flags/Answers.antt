@@ -1,6 +1,0 @@
--- `packets::changes_one::is_bad_flags` meets its contract.
--- Assumes nothing.
-use Rattle.packets.proofs.changes_one.is_bad_flags.Goals as goal
-
-pub returns : goal.returns
-returns c = simp c.number_at.ensures
