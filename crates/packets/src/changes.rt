@@ -1,6 +1,6 @@
 // The Change Password packet, version 2, of 1,118 octets.
 ghost use Rattle.std.specs.Prelude.{◌≡◌, ◌++◌, ◌+◌, ◌≤◌, ◌<◌, length};
-ghost use Rattle.octets.specs.Parts.{part, fixed, over_at};
+ghost use Rattle.octets.specs.Parts.{over_at};
 ghost use Rattle.octets.specs.Numbers.{to_be};
 ghost use Rattle.packets.specs.Frame.{written_over};
 ghost use Rattle.packets.specs.Sizes.{hash_size, block_size, lm_answer_offset, change_size};
@@ -8,7 +8,6 @@ ghost use Rattle.packets.specs.Change.{change_packet, bad_change_size, bad_chang
 
 use crate::codes::CHANGE_CODE;
 use crate::frames::{head, is_short, length, number_at};
-use crate::responses::response_at;
 use crate::sizes::{
     ANSWER_SIZE, BLOCK_SIZE, CHANGE_SIZE, FLAGS_OFFSET, HASH_SIZE, HEAD_SIZE, LM_ANSWER_OFFSET,
     LM_BLOCK_OFFSET, LM_VERIFIER_OFFSET, NT_ANSWER_OFFSET, VERIFIER_OFFSET,
@@ -40,24 +39,15 @@ pub fn change_refusal(packet: &[u8]) -> u8
     )
 }
 
-// A sealed block, from the place at on; 0 where the packet does not reach.
-fn block_at(packet: &[u8], at: usize) -> [u8; BLOCK_SIZE]
-    ensures { result ≡ fixed block_size (part at block_size packet.now) }
-{
-    let mut block = [0u8; BLOCK_SIZE];
-    octets::copy(&mut block, octets::part_of(packet, at, BLOCK_SIZE));
-    block
-}
-
 pub fn read_change(packet: &[u8]) -> Change
     ensures { result ≡ read_change packet.now }
 {
-    let block = block_at(packet, HEAD_SIZE);
-    let verifier = octets::sixteen_at(packet, VERIFIER_OFFSET);
-    let lmblock = block_at(packet, LM_BLOCK_OFFSET);
-    let lmverifier = octets::sixteen_at(packet, LM_VERIFIER_OFFSET);
-    let lm = response_at(packet, LM_ANSWER_OFFSET);
-    let nt = response_at(packet, NT_ANSWER_OFFSET);
+    let block = octets::array_at(packet, HEAD_SIZE);
+    let verifier = octets::array_at(packet, VERIFIER_OFFSET);
+    let lmblock = octets::array_at(packet, LM_BLOCK_OFFSET);
+    let lmverifier = octets::array_at(packet, LM_VERIFIER_OFFSET);
+    let lm = octets::array_at(packet, LM_ANSWER_OFFSET);
+    let nt = octets::array_at(packet, NT_ANSWER_OFFSET);
     let flags = number_at(packet, FLAGS_OFFSET);
     Change {
         block,

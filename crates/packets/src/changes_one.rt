@@ -42,10 +42,10 @@ pub fn change_one_refusal(packet: &[u8]) -> u8
 pub fn read_change_one(packet: &[u8]) -> ChangeOne
     ensures { result ≡ read_change_one packet.now }
 {
-    let lmold = octets::sixteen_at(packet, LM_OLD_OFFSET);
-    let lmnew = octets::sixteen_at(packet, LM_NEW_OFFSET);
-    let ntold = octets::sixteen_at(packet, NT_OLD_OFFSET);
-    let ntnew = octets::sixteen_at(packet, NT_NEW_OFFSET);
+    let lmold = octets::array_at(packet, LM_OLD_OFFSET);
+    let lmnew = octets::array_at(packet, LM_NEW_OFFSET);
+    let ntold = octets::array_at(packet, NT_OLD_OFFSET);
+    let ntnew = octets::array_at(packet, NT_NEW_OFFSET);
     let length = number_at(packet, LENGTH_OFFSET);
     let flags = number_at(packet, ONE_FLAGS_OFFSET);
     ChangeOne {

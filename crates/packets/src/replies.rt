@@ -96,7 +96,7 @@ pub fn read_challenge(packet: &[u8]) -> ChallengeFields
     if refusal != 0 {
         return refused_challenge(refusal);
     }
-    let challenge = octets::eight_at(packet, CHALLENGE_OFFSET);
+    let challenge = octets::array_at(packet, CHALLENGE_OFFSET);
     let id = octet(packet, 1);
     ChallengeFields {
         refusal: 0,

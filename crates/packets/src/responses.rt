@@ -1,15 +1,14 @@
 // The Response packet: size of the value, LM response, NT response, flag, name.
 ghost use Rattle.std.specs.Prelude.{◌≡◌, ◌+◌, ◌≤◌, length};
-ghost use Rattle.octets.specs.Parts.{part, fixed};
 ghost use Rattle.packets.specs.Frame.{written_over};
-ghost use Rattle.packets.specs.Sizes.{answer_size, name_offset, longest_name};
+ghost use Rattle.packets.specs.Sizes.{name_offset, longest_name};
 ghost use Rattle.packets.specs.Response.{bad_response_size, bad_response_flag, response_refusal, read_response, read_name, bad_name, short_for_response, response_write_refusal, response_packet, response_written, response_out};
 
 use crate::codes::RESPONSE_CODE;
 use crate::frames::{behind, head, length, octet};
 use crate::sizes::{
-    ANSWER_SIZE, FLAG_OFFSET, HEAD_SIZE, LM_OFFSET, LONGEST_NAME, LONGEST_RESPONSE, NAME_OFFSET,
-    NT_OFFSET, SHORTEST_RESPONSE, VALUE_SIZE,
+    FLAG_OFFSET, HEAD_SIZE, LM_OFFSET, LONGEST_NAME, LONGEST_RESPONSE, NAME_OFFSET, NT_OFFSET,
+    SHORTEST_RESPONSE, VALUE_SIZE,
 };
 use crate::{Response, Written};
 use refusals::refuse_if;
@@ -36,21 +35,12 @@ pub fn response_refusal(packet: &[u8]) -> u8
     refuse_if(is_bad_size(packet), 6, refuse_if(is_bad_flag(packet), 7, 0))
 }
 
-// An LM or NT response, from the place at on; 0 where the packet does not reach.
-pub fn response_at(packet: &[u8], at: usize) -> [u8; ANSWER_SIZE]
-    ensures { result ≡ fixed answer_size (part at answer_size packet.now) }
-{
-    let mut answer = [0u8; ANSWER_SIZE];
-    octets::copy(&mut answer, octets::part_of(packet, at, ANSWER_SIZE));
-    answer
-}
-
 // The fields but the name.
 pub fn read_response(packet: &[u8]) -> Response
     ensures { result ≡ read_response packet.now }
 {
-    let lm = response_at(packet, LM_OFFSET);
-    let nt = response_at(packet, NT_OFFSET);
+    let lm = octets::array_at(packet, LM_OFFSET);
+    let nt = octets::array_at(packet, NT_OFFSET);
     let flag = octet(packet, FLAG_OFFSET);
     Response { lm, nt, flag }
 }

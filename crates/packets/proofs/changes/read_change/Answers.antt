@@ -6,6 +6,6 @@ use Rattle.packets.proofs.changes.read_change.Goals as goal
 pub returns : goal.returns
 returns c =
     change_same
-    c.block_at-block.ensures c.sixteen_at-verifier.ensures
-    c.block_at-lmblock.ensures c.sixteen_at-lmverifier.ensures
-    c.response_at-lm.ensures c.response_at-nt.ensures c.number_at-flags.ensures
+    c.array_at-block.ensures c.array_at-verifier.ensures
+    c.array_at-lmblock.ensures c.array_at-lmverifier.ensures
+    c.array_at-lm.ensures c.array_at-nt.ensures c.number_at-flags.ensures

@@ -32,6 +32,6 @@ pub returns : goal.returns
 unfolding read_challenge
 returns c =
     let p = c.args.packet.now in
-    asked_same refl c.octet-id.ensures c.eight_at-challenge.ensures
+    asked_same refl c.octet-id.ensures c.array_at-challenge.ensures
     ∙ passed_two refused_challenge (good p) (bad_frame p) 3 (bad_challenge p) 11
     (cc) (omega arith) (omega arith) c.if-refusal-ne0.false

@@ -4,4 +4,4 @@ use Rattle.packets.proofs.Fields.{response_same}
 use Rattle.packets.proofs.responses.read_response.Goals as goal
 
 pub returns : goal.returns
-returns c = response_same c.response_at-lm.ensures c.response_at-nt.ensures c.octet-flag.ensures
+returns c = response_same c.array_at-lm.ensures c.array_at-nt.ensures c.octet-flag.ensures
