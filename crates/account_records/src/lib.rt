@@ -168,6 +168,6 @@ pub fn record_response(account: &[u8], hash: u32, challenge: &[u8], out: &mut [u
         return BAD_ARGUMENT;
     }
     let keys = octets::part_of(account, named_at(hash), KEYS_SIZE);
-    let response = credentials::scheduled_response(keys, octets::eight_at(challenge, 0));
+    let response = credentials::scheduled_response(keys, octets::array_at(challenge, 0));
     fill(no_hash_refusal(named_hash(head, hash)), &response, out)
 }

@@ -130,8 +130,8 @@ pub fn lm_hash(password: &[u8]) -> Hashed
     }
     let keys = lm_keys(password);
     let text = *b"KGS!@#$%";
-    let first = des::encrypt(octets::seven_at(&keys, 0), text);
-    let second = des::encrypt(octets::seven_at(&keys, 7), text);
+    let first = des::encrypt(octets::array_at(&keys, 0), text);
+    let second = des::encrypt(octets::array_at(&keys, 7), text);
     let hash = joined(first, second);
     Hashed { refusal: 0, hash }
 }
@@ -195,8 +195,8 @@ pub fn scheduled_response(keys: &[u8], challenge: [u8; 8]) -> [u8; 24]
 fn halves_under(first: [u8; 7], second: [u8; 7], hash: [u8; HASH_SIZE]) -> [u8; HASH_SIZE]
     ensures { result ≡ halves_under first second hash }
 {
-    let a = des::encrypt(first, octets::eight_at(&hash, 0));
-    let b = des::encrypt(second, octets::eight_at(&hash, 8));
+    let a = des::encrypt(first, octets::array_at(&hash, 0));
+    let b = des::encrypt(second, octets::array_at(&hash, 8));
     joined(a, b)
 }
 
@@ -204,8 +204,8 @@ fn halves_under(first: [u8; 7], second: [u8; 7], hash: [u8; HASH_SIZE]) -> [u8; 
 pub fn old_under_new(old: [u8; HASH_SIZE], new: [u8; HASH_SIZE]) -> [u8; HASH_SIZE]
     ensures { result ≡ old_under_new old new }
 {
-    let first = octets::seven_at(&new, 0);
-    let second = octets::seven_at(&new, 7);
+    let first = octets::array_at(&new, 0);
+    let second = octets::array_at(&new, 7);
     halves_under(first, second, old)
 }
 
@@ -214,7 +214,7 @@ pub fn old_under_new(old: [u8; HASH_SIZE], new: [u8; HASH_SIZE]) -> [u8; HASH_SI
 pub fn hash_under_challenge(hash: [u8; HASH_SIZE], challenge: [u8; 8]) -> [u8; HASH_SIZE]
     ensures { result ≡ hash_under_challenge hash challenge }
 {
-    let key = octets::seven_at(&challenge, 0);
+    let key = octets::array_at(&challenge, 0);
     halves_under(key, key, hash)
 }
 
@@ -222,9 +222,9 @@ pub fn hash_under_challenge(hash: [u8; HASH_SIZE], challenge: [u8; 8]) -> [u8; H
 pub fn hash_from_challenge(field: [u8; HASH_SIZE], challenge: [u8; 8]) -> [u8; HASH_SIZE]
     ensures { result ≡ hash_from_challenge field challenge }
 {
-    let key = octets::seven_at(&challenge, 0);
-    let a = des::decrypt(key, octets::eight_at(&field, 0));
-    let b = des::decrypt(key, octets::eight_at(&field, 8));
+    let key = octets::array_at(&challenge, 0);
+    let a = des::decrypt(key, octets::array_at(&field, 0));
+    let b = des::decrypt(key, octets::array_at(&field, 8));
     joined(a, b)
 }
 

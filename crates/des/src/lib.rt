@@ -142,9 +142,9 @@ pub fn encrypt_three(keys: [u8; 21], block: [u8; 8]) -> [u8; 24]
     let t = tables::folded();
     encrypt_three_with(
         &t,
-        octets::seven_at(&keys, 0),
-        octets::seven_at(&keys, 7),
-        octets::seven_at(&keys, 14),
+        octets::array_at(&keys, 0),
+        octets::array_at(&keys, 7),
+        octets::array_at(&keys, 14),
         octets::u64_from_be(block),
     )
 }
@@ -158,9 +158,9 @@ const STORED_SIZE: usize = 384;
 pub fn three_schedules(keys: [u8; 21]) -> [u64; 48]
     ensures { result ≡ three_schedules keys }
 {
-    let a = packed::schedule_put([0; 48], 0, octets::seven_at(&keys, 0));
-    let b = packed::schedule_put(a, 16, octets::seven_at(&keys, 7));
-    packed::schedule_put(b, 32, octets::seven_at(&keys, 14))
+    let a = packed::schedule_put([0; 48], 0, octets::array_at(&keys, 0));
+    let b = packed::schedule_put(a, 16, octets::array_at(&keys, 7));
+    packed::schedule_put(b, 32, octets::array_at(&keys, 14))
 }
 
 // The number in the eight octets from a place on, of which the compiler makes one load.

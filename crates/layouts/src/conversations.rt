@@ -89,7 +89,7 @@ fn decode_state(bytes: &[u8]) -> Conversation
     let phase = phase_of(change, packets::octet(bytes, AWAITED_AT));
     let id = packets::octet(bytes, IDENTIFIER_AT);
     let retries = packets::octet(bytes, RETRIES_AT);
-    let challenge = octets::eight_at(bytes, CHALLENGE_AT);
+    let challenge = octets::array_at(bytes, CHALLENGE_AT);
     let kept = decode_entry(octets::part_of(bytes, KEPT_AT, ENTRY_SIZE));
     let last = decode_last(octets::part_of(bytes, LAST_AT, LAST_SIZE));
     Conversation {

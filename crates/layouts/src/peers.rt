@@ -45,9 +45,9 @@ fn decode_turns(bytes: &[u8]) -> Peer
 {
     let present = is_flag(packets::octet(bytes, SENT_AT));
     let last = packets::octet(bytes, SENT_IDENTIFIER_AT);
-    let answered = octets::eight_at(bytes, SENT_CHALLENGE_AT);
+    let answered = octets::array_at(bytes, SENT_CHALLENGE_AT);
     let next = packets::octet(bytes, NEXT_IDENTIFIER_AT);
-    let challenge = octets::eight_at(bytes, NEXT_CHALLENGE_AT);
+    let challenge = octets::array_at(bytes, NEXT_CHALLENGE_AT);
     Peer {
         sent: Sent {
             present,

@@ -79,7 +79,7 @@ fn decode_hash(bytes: &[u8]) -> Hash
     ensures { result ≡ decode_hash bytes.now }
 {
     let present = is_flag(packets::octet(bytes, 0));
-    let octets = octets::sixteen_at(bytes, 1);
+    let octets = octets::array_at(bytes, 1);
     accounts::hash_if(present, octets)
 }
 

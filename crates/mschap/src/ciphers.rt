@@ -47,7 +47,7 @@ pub extern "C" fn mschap_des_encrypt(key: &[u8], block: &mut [u8]) -> u32
     if !are_sized(key, KEY_SIZE, block, DES_BLOCK_SIZE) {
         return BAD_ARGUMENT;
     }
-    let result = des::encrypt(octets::seven_at(key, 0), octets::eight_at(block, 0));
+    let result = des::encrypt(octets::array_at(key, 0), octets::array_at(block, 0));
     fill(0, &result, block)
 }
 
@@ -62,7 +62,7 @@ pub extern "C" fn mschap_des_decrypt(key: &[u8], block: &mut [u8]) -> u32
     if !are_sized(key, KEY_SIZE, block, DES_BLOCK_SIZE) {
         return BAD_ARGUMENT;
     }
-    let result = des::decrypt(octets::seven_at(key, 0), octets::eight_at(block, 0));
+    let result = des::decrypt(octets::array_at(key, 0), octets::array_at(block, 0));
     fill(0, &result, block)
 }
 
@@ -83,8 +83,8 @@ pub extern "C" fn mschap_challenge_response(
         return BAD_ARGUMENT;
     }
     let result = credentials::challenge_response(
-        octets::sixteen_at(hash, 0),
-        octets::eight_at(challenge, 0),
+        octets::array_at(hash, 0),
+        octets::array_at(challenge, 0),
     );
     fill(0, &result, response)
 }

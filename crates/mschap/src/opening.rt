@@ -40,7 +40,7 @@ fn open_on(id: u8, terms: u32, challenge: &[u8], list: &mut [u8], reply: &mut [u
         (opening_for id terms challenge.now list.old reply.old)
         list.old result list.new reply.new }
 {
-    let sent = octets::eight_at(challenge, 0);
+    let sent = octets::array_at(challenge, 0);
     let tries = retries_in(terms);
     let choice = lm_in(terms);
     let change = change_in(terms);

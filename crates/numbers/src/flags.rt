@@ -56,8 +56,8 @@ pub fn are_record_arguments(flags: u32, nt: &[u8], lm: &[u8]) -> bool
 pub fn record_from(flags: u32, nt: &[u8], lm: &[u8]) -> Lookup
     ensures { result ≡ record_from flags nt.now lm.now }
 {
-    let nt_hash = accounts::hash_if(is_set(NT, flags), octets::sixteen_at(nt, 0));
-    let lm_hash = accounts::hash_if(is_set(LM, flags), octets::sixteen_at(lm, 0));
+    let nt_hash = accounts::hash_if(is_set(NT, flags), octets::array_at(nt, 0));
+    let lm_hash = accounts::hash_if(is_set(LM, flags), octets::array_at(lm, 0));
     let disabled = is_set(DISABLED, flags);
     let hours = is_set(HOURS_DENIED, flags);
     let dialin = is_set(DIALIN_DENIED, flags);

@@ -9,6 +9,7 @@ use borrow.Author.Tests.{ltb-true}
 use lib.Dec.{ltb}
 use lib.ListN.{length, drop, get_or, drop_of_length-le}
 use lib.Seq.{drop-cons}
+use Rattle.std.specs.List.{fold}
 use Rattle.octets.specs.Digits.{digit_of, all_below}
 
 -- the values of the digits from the place k on
@@ -23,20 +24,13 @@ left_end ds k h = ap (map digit_of) (drop_of_length-le ds h)
 
 -- ---- whether they are digits
 
--- all were digits so far, and the rest are
-abbrev pub Judged : ℕ → List ℕ → Bool → ℕ → Type 0
-Judged base ds all k = (all && all_below base (left ds k)) ≡ all_below base (map digit_of ds)
-
-module _ (base : ℕ) (ds : List ℕ) (all : Bool) (k : ℕ) (inv : Judged base ds all k) where
-  pub one_more : k < length ds → {d : ℕ} → d ≡ digit_of (get_or ds k 0) → {next : Bool} → next ≡ (all && ltb d base)
-      → Judged base ds next (k + 1)
-  one_more h {d} e n =
-      ap (λ (t : Bool). t && all_below base (left ds (k + 1))) (n ∙ ap (λ (x : ℕ). all && ltb x base) e)
-      ∙ and_assoc all (ltb (digit_of (get_or ds k 0)) base) (all_below base (left ds (k + 1)))
-      ∙ sym (ap (λ (l : List ℕ). all && all_below base l) (left_cons ds k h)) ∙ inv
-
-  pub none_left : length ds ≤ k → all ≡ all_below base (map digit_of ds)
-  none_left h = sym (ap (λ (l : List ℕ). all && all_below base l) (left_end ds k h) ∙ and-true all) ∙ inv
+-- all were digits before them, and they are
+pub all_fold : (base : ℕ) (ds : List ℕ) (all : Bool)
+    → fold (λ all d. all && ltb (digit_of d) base) all ds ≡ (all && all_below base (map digit_of ds))
+all_fold base [] all = sym (and-true all)
+all_fold base (d ∷ ds) all =
+    all_fold base ds (all && ltb (digit_of d) base)
+    ∙ and_assoc all (ltb (digit_of d) base) (all_below base (map digit_of ds))
 
 -- the first of values that are all below the base, and the others
 pub below_first : (base d : ℕ) (ds : List ℕ) → all_below base (d ∷ ds) ≡ true → (d < base) × (all_below base ds ≡ true)

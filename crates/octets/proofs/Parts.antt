@@ -13,6 +13,7 @@ use lib.ListN.{length, length-append, length-drop, length-take, length-replicate
 use lib.Seq.{drop-cons, take-suc-set, drop-set-lt, append_snoc, take_at, drop_at, take_all, drop-append-le, drop-drop, take-add, length-take-le, take-append_seam, drop-append_seam}
 use lib.Bits.{bit_or, bit_xor, or_add_and, and_le_l, and_le_r, xor_self}
 use Rattle.octets.specs.Parts.{part, over, over_at, fixed, agrees}
+use Rattle.std.specs.List.{fold, zip}
 use Rattle.octets.proofs.Xor.{xor_none}
 
 -- ---- part
@@ -81,6 +82,21 @@ over_fills [] [] h = refl
 over_fills [] (y ∷ l) h = absurd (not-suc-le-zero h)
 over_fills (x ∷ xs) [] h = refl
 over_fills (x ∷ xs) (y ∷ l) h = ap (λ (m : List ℕ). x ∷ m) (over_fills xs l (le_of_suc-le-suc h))
+
+over_min : (xs l : List ℕ)
+    → take (min (length l) (length xs)) xs ++ drop (min (length l) (length xs)) l ≡ over xs l
+unfolding over
+over_min [] l = ap (λ (n : ℕ). take n [] ++ drop n l) (min-zero (length l))
+over_min (x ∷ xs) [] = ap (λ (n : ℕ). take n (x ∷ xs) ++ drop n []) (zero-min (length (x ∷ xs)))
+over_min (x ∷ xs) (y ∷ l) =
+    ap (λ (n : ℕ). take n (x ∷ xs) ++ drop n (y ∷ l)) (suc-min-suc (length l) (length xs))
+    ∙ ap (λ (m : List ℕ). x ∷ m) (over_min xs l)
+
+-- the front of a copy, as much of it as there is room for, and the rest as it was
+pub over_cut : (xs l : List ℕ) {n : ℕ} {front : List ℕ} → n ≡ min (length l) (length xs) → front ≡ take n xs
+    → front ++ drop n l ≡ over xs l
+over_cut xs l e f =
+    ap₂ (λ (m : List ℕ) (n : ℕ). m ++ drop n l) (f ∙ ap (λ (n : ℕ). take n xs) e) e ∙ over_min xs l
 
 -- a copy into k octets of p ++ q that start where q does, passed and handed back: p stays, and so
 -- does what of q the copy does not reach
@@ -245,16 +261,14 @@ none_more d x y = which (eqb d 0) (eqb x y) refl refl
     which true false p q = ne_eqb (bit_or d v) 0 (λ e. eqb-false x y q (xor_none x y (parts e).1))
     which false t p q = ne_eqb (bit_or d v) 0 (λ e. eqb-false d 0 p (parts e).0)
 
--- one turn of the loop: what is left agrees where nothing differed yet
-pub agrees_turn : (a b : List ℕ) (d i : ℕ) → i < length a → i < length b
-    → (eqb (bit_or d (bit_xor (get_or a i 0) (get_or b i 0))) 0 && agrees (drop (suc i) a) (drop (suc i) b)) ≡ (eqb d 0 && agrees (drop i a) (drop i b))
+-- the octets in pairs, and whether none differed before them or in them
+pub agrees_fold : (a b : List ℕ) (d : ℕ) → length a ≡ length b
+    → eqb (fold (λ d p. bit_or d (bit_xor p.0 p.1)) d (zip a b)) 0 ≡ (eqb d 0 && agrees a b)
 unfolding agrees
-agrees_turn a b d i h k =
-    ap (λ (t : Bool). t && agrees (drop (suc i) a) (drop (suc i) b)) (none_more d (get_or a i 0) (get_or b i 0))
-    ∙ and_assoc (eqb d 0) (eqb (get_or a i 0) (get_or b i 0)) (agrees (drop (suc i) a) (drop (suc i) b))
-    ∙ ap₂ (λ (x y : List ℕ). eqb d 0 && agrees x y) (sym (drop-cons a i 0 h)) (sym (drop-cons b i 0 k))
-
-pub agrees_end : (a b : List ℕ) (d i : ℕ) → length a ≤ i → length b ≤ i → (eqb d 0 && agrees (drop i a) (drop i b)) ≡ eqb d 0
-unfolding agrees
-agrees_end a b d i h k =
-    ap₂ (λ (x y : List ℕ). eqb d 0 && agrees x y) (drop_of_length-le a h) (drop_of_length-le b k) ∙ and-true (eqb d 0)
+agrees_fold [] [] d e = sym (and-true (eqb d 0))
+agrees_fold [] (y ∷ b) d e = absurd (omega (arith, e))
+agrees_fold (x ∷ a) [] d e = absurd (omega (arith, e))
+agrees_fold (x ∷ a) (y ∷ b) d e =
+    agrees_fold a b (bit_or d (bit_xor x y)) (omega (arith, e))
+    ∙ ap (λ (t : Bool). t && agrees a b) (none_more d x y)
+    ∙ and_assoc (eqb d 0) (eqb x y) (agrees a b)

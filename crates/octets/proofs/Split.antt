@@ -3,13 +3,12 @@
 use mathlib.Core.Path.{◌≡◌, refl, sym, ap, ◌∙◌}
 use mathlib.Core.Bool.{Bool, true, false, cond, ◌||◌, or_assoc, false≢true}
 use mathlib.Core.List.{List, [], ◌∷◌, ◌++◌}
-use Prim.Native.Nat.{ℕ, suc, ◌+◌, ◌≤◌, ◌<◌}
+use Prim.Native.Nat.{ℕ, suc, ◌+◌, ◌≤◌}
 use native.Mathlib.Numerals.{add-one}
 use native.Mathlib.Omega.{arith}
 use borrow.Author.Tests.{eq-eqb, ne_eqb, eqb-true, lt-ltb}
 use lib.Dec.{eqb, ltb, leb-suc-suc}
-use lib.ListN.{length, take, drop, get_or, drop_of_length-le}
-use lib.Seq.{drop-cons}
+use lib.ListN.{length, take, drop}
 use Rattle.octets.specs.Parts.{part}
 use Rattle.octets.specs.Split.{holds, before, behind}
 use Rattle.octets.proofs.Parts.{part_rest}
@@ -19,24 +18,13 @@ abbrev pub place : ℕ → List ℕ → ℕ
 place c l = length (before c l)
 
 module _ (c : ℕ) where
-  -- ---- octet by octet
+  -- the first octet is c, and stands at the place
+  pub found : (x : ℕ) (l : List ℕ) → x ≡ c → place c (x ∷ l) ≡ 0
+  found x l e = ap (λ (b : Bool). length (cond b [] (x ∷ before c l))) (eq-eqb x c e)
 
-  module _ (l : List ℕ) (i : ℕ) (h : i < length l) where
-    at : drop i l ≡ get_or l i 0 ∷ drop (i + 1) l
-    at = drop-cons l i 0 h ∙ ap (λ (k : ℕ). get_or l i 0 ∷ drop k l) (sym (add-one i))
-
-    opened : (t : Bool) → eqb (get_or l i 0) c ≡ t
-        → place c (drop i l) ≡ length (cond t [] (get_or l i 0 ∷ before c (drop (i + 1) l)))
-    opened t e = ap (place c) at ∙ ap (λ (b : Bool). length (cond b [] (get_or l i 0 ∷ before c (drop (i + 1) l)))) e
-
-    pub found : get_or l i 0 ≡ c → place c (drop i l) ≡ 0
-    found e = opened true (eq-eqb (get_or l i 0) c e)
-
-    pub passed : (get_or l i 0 ≡ c → ⊥) → place c (drop i l) ≡ suc (place c (drop (i + 1) l))
-    passed e = opened false (ne_eqb (get_or l i 0) c e)
-
-  pub ended : (l : List ℕ) (i : ℕ) → length l ≤ i → place c (drop i l) ≡ 0
-  ended l i h = ap (place c) (drop_of_length-le l h)
+  pub passed : (x : ℕ) (l : List ℕ) → (x ≡ c → ⊥) → place c (x ∷ l) ≡ place c l + 1
+  passed x l e =
+      ap (λ (b : Bool). length (cond b [] (x ∷ before c l))) (ne_eqb x c e) ∙ sym (add-one (place c l))
 
   -- ---- the parts by the place
 

@@ -3,7 +3,7 @@ ghost use Rattle.std.specs.Prelude.{◌≡◌, true, cond, map, ◌*◌, ◌+◌
 ghost use Rattle.octets.specs.Parts.{over};
 ghost use Rattle.octets.specs.Digits.{digit_of, all_below, pairs, hex_text};
 
-use crate::{are_digits, digit_value, hex_digit, least};
+use crate::{are_digits, digit_value, hex_digit};
 
 // ---- written
 
@@ -23,11 +23,8 @@ fn digit_at(s: &[u8], k: usize) -> u8
 pub fn encode_hex(s: &[u8], out: &mut [u8])
     ensures { out.new ≡ over (hex_text s.now) out.old }
 {
-    let n = least(out.len(), 2 * s.len());
-    let mut k = 0;
-    while k < n {
+    for k in 0..out.len().min(2 * s.len()) {
         out[k] = digit_at(s, k);
-        k += 1;
     }
 }
 
@@ -51,10 +48,7 @@ pub fn decode_hex(s: &[u8], out: &mut [u8])
     if !are_digits(s, 16) {
         return;
     }
-    let n = least(out.len(), s.len() / 2);
-    let mut i = 0;
-    while i < n {
+    for i in 0..out.len().min(s.len() / 2) {
         out[i] = octet_at(s, i);
-        i += 1;
     }
 }

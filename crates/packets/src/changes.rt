@@ -1,19 +1,17 @@
 // The Change Password packet, version 2, of 1,118 octets.
 ghost use Rattle.std.specs.Prelude.{◌≡◌, ◌≤◌, length};
-ghost use Rattle.octets.specs.Parts.{part, fixed};
 ghost use Rattle.refusals.specs.Refusal.{told};
 ghost use Rattle.packets.specs.Frame.{written_over, written_as};
-ghost use Rattle.packets.specs.Sizes.{block_size, change_size};
+ghost use Rattle.packets.specs.Sizes.{change_size};
 ghost use Rattle.packets.specs.Change.{change_packet, change_refusal, read_change};
 ghost use Rattle.packets.specs.Change.{change_written, change_out};
 
 use crate::Change;
 use crate::codes::CHANGE_CODE;
 use crate::frames::{admit_body, head, number_at, put_pair};
-use crate::responses::response_at;
 use crate::sizes::{
-    BLOCK_SIZE, CHANGE_SIZE, FLAGS_OFFSET, HEAD_SIZE, LM_ANSWER_OFFSET, LM_BLOCK_OFFSET,
-    LM_VERIFIER_OFFSET, NT_ANSWER_OFFSET, VERIFIER_OFFSET,
+    CHANGE_SIZE, FLAGS_OFFSET, HEAD_SIZE, LM_ANSWER_OFFSET, LM_BLOCK_OFFSET, LM_VERIFIER_OFFSET,
+    NT_ANSWER_OFFSET, VERIFIER_OFFSET,
 };
 use refusals::Refusal;
 
@@ -29,25 +27,16 @@ pub fn admit_change(packet: &[u8]) -> Result<(), Refusal>
     admit_body(packet, CHANGE_SIZE, FLAGS_OFFSET, MOST_FLAGS)
 }
 
-// A sealed block, from the place at on; 0 where the packet does not reach.
-fn block_at(packet: &[u8], at: usize) -> [u8; BLOCK_SIZE]
-    ensures { result ≡ fixed block_size (part at block_size packet.now) }
-{
-    let mut block = [0u8; BLOCK_SIZE];
-    octets::copy(&mut block, octets::part_of(packet, at, BLOCK_SIZE));
-    block
-}
-
 pub fn read_change(packet: &[u8]) -> Change
     ensures { result ≡ read_change packet.now }
 {
     Change {
-        block: block_at(packet, HEAD_SIZE),
-        verifier: octets::sixteen_at(packet, VERIFIER_OFFSET),
-        lmblock: block_at(packet, LM_BLOCK_OFFSET),
-        lmverifier: octets::sixteen_at(packet, LM_VERIFIER_OFFSET),
-        lm: response_at(packet, LM_ANSWER_OFFSET),
-        nt: response_at(packet, NT_ANSWER_OFFSET),
+        block: octets::array_at(packet, HEAD_SIZE),
+        verifier: octets::array_at(packet, VERIFIER_OFFSET),
+        lmblock: octets::array_at(packet, LM_BLOCK_OFFSET),
+        lmverifier: octets::array_at(packet, LM_VERIFIER_OFFSET),
+        lm: octets::array_at(packet, LM_ANSWER_OFFSET),
+        nt: octets::array_at(packet, NT_ANSWER_OFFSET),
         flags: number_at(packet, FLAGS_OFFSET),
     }
 }

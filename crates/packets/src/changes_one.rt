@@ -31,10 +31,10 @@ pub fn read_change_one(packet: &[u8]) -> ChangeOne
     ensures { result ≡ read_change_one packet.now }
 {
     ChangeOne {
-        lmold: octets::sixteen_at(packet, LM_OLD_OFFSET),
-        lmnew: octets::sixteen_at(packet, LM_NEW_OFFSET),
-        ntold: octets::sixteen_at(packet, NT_OLD_OFFSET),
-        ntnew: octets::sixteen_at(packet, NT_NEW_OFFSET),
+        lmold: octets::array_at(packet, LM_OLD_OFFSET),
+        lmnew: octets::array_at(packet, LM_NEW_OFFSET),
+        ntold: octets::array_at(packet, NT_OLD_OFFSET),
+        ntnew: octets::array_at(packet, NT_NEW_OFFSET),
         length: number_at(packet, LENGTH_OFFSET),
         flags: number_at(packet, ONE_FLAGS_OFFSET),
     }

@@ -86,7 +86,7 @@ pub fn read_challenge(packet: &[u8]) -> Result<Challenge, Refusal>
     }
     Ok(Challenge {
         id: octet(packet, 1),
-        challenge: octets::eight_at(packet, CHALLENGE_OFFSET),
+        challenge: octets::array_at(packet, CHALLENGE_OFFSET),
     })
 }
 

@@ -1,9 +1,8 @@
 // The Response packet: size of the value, LM response, NT response, flag, name.
 ghost use Rattle.std.specs.Prelude.{◌≡◌, ◌+◌, ◌≤◌, length};
-ghost use Rattle.octets.specs.Parts.{part, fixed};
 ghost use Rattle.refusals.specs.Refusal.{told};
 ghost use Rattle.packets.specs.Frame.{written_over, written_as};
-ghost use Rattle.packets.specs.Sizes.{answer_size, name_offset, longest_name};
+ghost use Rattle.packets.specs.Sizes.{name_offset, longest_name};
 ghost use Rattle.packets.specs.Response.{bad_response_size, bad_response_flag, response_refusal};
 ghost use Rattle.packets.specs.Response.{read_response, read_name, bad_name, short_for_response};
 ghost use Rattle.packets.specs.Response.{response_packet, response_written, response_out};
@@ -12,8 +11,8 @@ use crate::Response;
 use crate::codes::RESPONSE_CODE;
 use crate::frames::{behind, head, length, octet};
 use crate::sizes::{
-    ANSWER_SIZE, FLAG_OFFSET, HEAD_SIZE, LM_OFFSET, LONGEST_NAME, LONGEST_RESPONSE, NAME_OFFSET,
-    NT_OFFSET, SHORTEST_RESPONSE, VALUE_SIZE,
+    FLAG_OFFSET, HEAD_SIZE, LM_OFFSET, LONGEST_NAME, LONGEST_RESPONSE, NAME_OFFSET, NT_OFFSET,
+    SHORTEST_RESPONSE, VALUE_SIZE,
 };
 use refusals::Refusal;
 
@@ -46,22 +45,13 @@ pub fn admit_response(packet: &[u8]) -> Result<(), Refusal>
     Ok(())
 }
 
-// An LM or NT response, from the place at on; 0 where the packet does not reach.
-pub fn response_at(packet: &[u8], at: usize) -> [u8; ANSWER_SIZE]
-    ensures { result ≡ fixed answer_size (part at answer_size packet.now) }
-{
-    let mut answer = [0u8; ANSWER_SIZE];
-    octets::copy(&mut answer, octets::part_of(packet, at, ANSWER_SIZE));
-    answer
-}
-
 // The fields but the name.
 pub fn read_response(packet: &[u8]) -> Response
     ensures { result ≡ read_response packet.now }
 {
     Response {
-        lm: response_at(packet, LM_OFFSET),
-        nt: response_at(packet, NT_OFFSET),
+        lm: octets::array_at(packet, LM_OFFSET),
+        nt: octets::array_at(packet, NT_OFFSET),
         flag: octet(packet, FLAG_OFFSET),
     }
 }

@@ -15,7 +15,7 @@ pub fn names_hash(line: &[u8], k: usize) -> bool {
 fn read_numbers(octets: &[u8]) -> [u64; 48] {
     let mut numbers = [0u64; 48];
     for i in 0..48 {
-        numbers[i] = octets::u64_from_be(octets::eight_at(octets, 8 * i));
+        numbers[i] = octets::u64_from_be(octets::array_at(octets, 8 * i));
     }
     numbers
 }

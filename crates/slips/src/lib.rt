@@ -333,7 +333,7 @@ fn second_key(output: &mut impl Write) -> io::Result<()> {
     )?;
     let old = old_hash();
     let new = new_hash();
-    let half = des::encrypt(octets::seven_at(&new, 0), octets::eight_at(&old, 8));
+    let half = des::encrypt(octets::array_at(&new, 0), octets::array_at(&old, 8));
     slipped(output, 528, &half)
 }
 

@@ -52,7 +52,7 @@ returns c =
     let valid =
     sym (tested a.account.now a.challenge.now a.hash c.decode_head-head.ensures
     c.are_record_response_arguments.ensures) ∙ c.if-not-are_record_response_arguments.false in
-    let challenge = c.eight_at.ensures
+    let challenge = c.array_at.ensures
     ∙ fixed_whole 8 a.challenge.now
     (eight a.account.now a.hash a.challenge.now valid) in
     let keys = c.part_of-keys.ensures

@@ -16,4 +16,4 @@ returns c =
     let start = e₁ in
     halves_joined (des_encrypt start.args.first) (des_encrypt start.args.second)
     start.args.hash sixteen c.joined.ensures e₁.encrypt-a.ensures
-    e₂.encrypt-b.ensures e₁.eight_at.ensures e₂.eight_at-2.ensures
+    e₂.encrypt-b.ensures e₁.array_at.ensures e₂.array_at-2.ensures

@@ -22,11 +22,11 @@ returns c =
     let e₁ = e₂ in
     let k = e₁ in
     let start = k in
-    let key = k.seven_at-key.result in
+    let key = k.array_at-key.result in
     let n = sizes in
     halves_joined (des_decrypt key) (des_decrypt key) start.args.field n.0 c.joined.ensures
-    e₁.decrypt-a.ensures e₂.decrypt-b.ensures e₁.eight_at.ensures
-    e₂.eight_at-2.ensures
+    e₁.decrypt-a.ensures e₂.decrypt-b.ensures e₁.array_at.ensures
+    e₂.array_at-2.ensures
     ∙ ap (λ (x : List ℕ). des_decrypt x (part 0 8 start.args.field)
     ++ des_decrypt x (part 8 8 start.args.field))
-    (k.seven_at-key.ensures ∙ fixed_part 0 7 start.args.challenge (omega (arith, n.1)))
+    (k.array_at-key.ensures ∙ fixed_part 0 7 start.args.challenge (omega (arith, n.1)))

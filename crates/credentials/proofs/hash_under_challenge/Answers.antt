@@ -19,4 +19,4 @@ returns c =
     let start = k in
     c.halves_under.ensures
     ∙ ap (λ (x : List ℕ). halves_under x x start.args.hash)
-    (k.seven_at-key.ensures ∙ fixed_part 0 7 start.args.challenge (omega (arith, eight)))
+    (k.array_at-key.ensures ∙ fixed_part 0 7 start.args.challenge (omega (arith, eight)))

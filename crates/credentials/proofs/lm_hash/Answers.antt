@@ -27,5 +27,5 @@ returns c =
     let n : length keys ≡ 14 = ap length k.lm_keys-keys.ensures ∙ length_keys m in
     simp (le-ltb _ _ k.if-password-gt-LONGEST_LM.false)
     (ap (λ (h : List ℕ). record { refusal = 0; hash = h })
-    (two_blocks keys std_text std_text (omega arith) c.joined-hash.ensures e₁.encrypt-first.ensures e₂.encrypt-second.ensures e₁.seven_at.ensures e₂.seven_at-2.ensures
+    (two_blocks keys std_text std_text (omega arith) c.joined-hash.ensures e₁.encrypt-first.ensures e₂.encrypt-second.ensures e₁.array_at.ensures e₂.array_at-2.ensures
     ∙ ap (λ (x : List ℕ). des_encrypt (part 0 7 x) std_text ++ des_encrypt (part 7 7 x) std_text) k.lm_keys-keys.ensures))

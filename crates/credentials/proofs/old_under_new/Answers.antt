@@ -21,5 +21,5 @@ returns c =
     let n = sixteen in
     c.halves_under.ensures
     ∙ ap₂ (λ (x y : List ℕ). halves_under x y start.args.old)
-    (k₁.seven_at-first.ensures ∙ fixed_part 0 7 start.args.new (omega (arith, n)))
-    (k₂.seven_at-second.ensures ∙ fixed_part 7 7 start.args.new (omega (arith, n)))
+    (k₁.array_at-first.ensures ∙ fixed_part 0 7 start.args.new (omega (arith, n)))
+    (k₂.array_at-second.ensures ∙ fixed_part 7 7 start.args.new (omega (arith, n)))

@@ -25,6 +25,6 @@ returns c =
     let n : length keys ≡ 21 = search rules in
     let x = c.u64_from_be.ensures in
     c.encrypt_three_with.ensures
-    ∙ ap₂ ◌++◌ (under (part 0 7 keys) block (c.seven_at.ensures ∙ fixed_part 0 7 keys (omega arith)) x)
-    (ap₂ ◌++◌ (under (part 7 7 keys) block (c.seven_at-2.ensures ∙ fixed_part 7 7 keys (omega arith)) x)
-    (under (part 14 7 keys) block (c.seven_at-3.ensures ∙ fixed_part 14 7 keys (omega arith)) x))
+    ∙ ap₂ ◌++◌ (under (part 0 7 keys) block (c.array_at.ensures ∙ fixed_part 0 7 keys (omega arith)) x)
+    (ap₂ ◌++◌ (under (part 7 7 keys) block (c.array_at-2.ensures ∙ fixed_part 7 7 keys (omega arith)) x)
+    (under (part 14 7 keys) block (c.array_at-3.ensures ∙ fixed_part 14 7 keys (omega arith)) x))

@@ -26,7 +26,7 @@ returns c =
     ∙ r.ensures.1
     ∙ ap₂ ◌++◌
     (c.schedule_put-b.ensures.1
-    ∙ ap₂ ◌++◌ (c.schedule_put-a.ensures.1 ∙ ap stored_schedule (c.seven_at.ensures ∙ fixed_part 0 7 keys (omega arith)))
-    (ap stored_schedule (c.seven_at-2.ensures ∙ fixed_part 7 7 keys (omega arith))))
-    (ap stored_schedule (c.seven_at-3.ensures ∙ fixed_part 14 7 keys (omega arith)))
+    ∙ ap₂ ◌++◌ (c.schedule_put-a.ensures.1 ∙ ap stored_schedule (c.array_at.ensures ∙ fixed_part 0 7 keys (omega arith)))
+    (ap stored_schedule (c.array_at-2.ensures ∙ fixed_part 7 7 keys (omega arith))))
+    (ap stored_schedule (c.array_at-3.ensures ∙ fixed_part 14 7 keys (omega arith)))
     ∙ append_assoc a b d

@@ -1,20 +1,19 @@
-use mathlib.Core.Path.{refl}
-use Rattle.octets.proofs.DigitLoop.{one_more, none_left}
+-- `octets::are_digits` meets its contract.
+-- Assumes nothing.
+use mathlib.Core.Path.{◌∙◌}
+use mathlib.Core.Bool.{true, ◌&&◌}
+use borrow.Author.Rules.{rules}
+use borrow.Author.Tests.{tests}
+use lib.Dec.{ltb}
+use Rattle.std.proofs.lemmas.Iterator.{YieldsList-from_slice}
+use Rattle.std.proofs.lemmas.Iterator.Consumers.{fold_from_yields_List}
+use Rattle.octets.specs.Digits.{digit_of}
+use Rattle.octets.proofs.DigitLoop.{all_fold}
 use Rattle.octets.proofs.are_digits.Goals as goal
-
-pub loop-i-preserved : goal.loop-i-preserved
-loop-i-preserved c =
-    let t = c in
-    let h = t in
-    let a = h.args in
-    one_more a.base a.digits.now h.loop-i.all h.loop-i.i h.loop-i.invariant t.loop-i-test.true
-    c.digit_value.ensures c.and-all.ensures
 
 pub returns : goal.returns
 returns c =
-    let h = c in
-    let a = h.args in
-    none_left a.base a.digits.now h.loop-i.all h.loop-i.i h.loop-i.invariant c.loop-i-test.false
-
-pub loop-i-init : goal.loop-i-init
-loop-i-init c = refl
+    let a = c.args in
+    fold_from_yields_List _ (λ all d. all && ltb (digit_of d) a.base) true _ c.fold.ensures.ran
+    (YieldsList-from_slice a.digits.now cc) (λ b x r q k. search (rules, tests))
+    ∙ all_fold a.base a.digits.now true

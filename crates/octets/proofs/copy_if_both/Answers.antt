@@ -26,7 +26,7 @@ octet true e h = h.0 e
 octet false e h = h.1 e
 
 pub loop-i-init : goal.loop-i-init
-loop-i-init c = (c.least-n.ensures, omega arith, refl, refl)
+loop-i-init c = (c.min-n.ensures, refl, refl)
 
 pub loop-i-preserved : goal.loop-i-preserved
 loop-i-preserved c =
@@ -38,19 +38,18 @@ loop-i-preserved c =
     let i = h.loop-i.i in
     let o = octet t h.where_both-mask.ensures c.masked.ensures in (
       h.loop-i.invariant.0,
-      omega arith,
-      simp length-set h.loop-i.invariant.2,
+      simp length-set h.loop-i.invariant.1,
       rw (add-one i)
           (ap (λ (x : ℕ). finished t xs (suc i) (set l i x)) o
-          ∙ turn t xs l i (omega arith) (omega arith) ∙ h.loop-i.invariant.3),
+          ∙ turn t xs l i (omega arith) (omega arith) ∙ h.loop-i.invariant.2),
     )
 
 pub shape_of-target : goal.shape_of-target
-shape_of-target c = c.loop-i.invariant.2
+shape_of-target c = c.loop-i.invariant.1
 
 pub returns : goal.returns
 returns c =
     let h = c in
     let s = h.args in
     sym (end (s.a && s.b) s.source.now h.loop-i.target h.loop-i.i (omega arith))
-    ∙ h.loop-i.invariant.3
+    ∙ h.loop-i.invariant.2

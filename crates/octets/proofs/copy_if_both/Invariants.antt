@@ -4,7 +4,7 @@
 use mathlib.Core.Path.{◌≡◌}
 use mathlib.Core.Bool.{Bool, cond, ◌&&◌}
 use mathlib.Core.List.{List, ◌++◌}
-use Prim.Native.Nat.{ℕ, ◌-◌, ◌≤◌, min}
+use Prim.Native.Nat.{ℕ, min}
 use lib.ListN.{length, take, drop}
 use Rattle.octets.specs.Parts.{over}
 use Rattle.octets.proofs.copy_if_both.Given as goal
@@ -14,8 +14,5 @@ finished t xs i l = cond t (take i l ++ over (drop i xs) (drop i l)) l
 
 abbrev pub invariant-loop-i : goal.invariant-loop-i
 invariant-loop-i l =
-    (l.n ≡ min (length l.initial.target) (length l.source)) × (l.i ≤ l.n) × (length l.target ≡ length l.initial.target)
+    (l.n ≡ min (length l.initial.target) (length l.source)) × (length l.target ≡ length l.initial.target)
     × (finished (l.a && l.b) l.source l.i l.target ≡ cond (l.a && l.b) (over l.source l.initial.target) l.initial.target)
-
-abbrev pub decreases-loop-i : goal.decreases-loop-i
-decreases-loop-i l = l.n - l.i

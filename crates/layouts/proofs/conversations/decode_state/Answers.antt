@@ -22,7 +22,7 @@ returns c =
     let version =
     change.version_from-change.ensures ∙ ap version_from change.octet-2.ensures in
     conversation_same (lm.is_flag-lm.ensures ∙ ap is_flag lm.octet.ensures)
-    limit.octet-limit.ensures version id.octet-id.ensures challenge.eight_at-challenge.ensures
+    limit.octet-limit.ensures version id.octet-id.ensures challenge.array_at-challenge.ensures
     retries.octet-retries.ensures
     (phase.phase_of-phase.ensures ∙ ap₂ phase_of version phase.octet-3.ensures)
     (kept.decode_entry-kept.ensures ∙ ap decode_entry kept.part_of.ensures)

@@ -15,5 +15,5 @@ returns c =
     let last = answered in
     let present = last in
     peer_same (present.is_flag-present.ensures ∙ ap is_flag present.octet.ensures)
-    last.octet-last.ensures answered.eight_at-answered.ensures next.octet-next.ensures
-    c.eight_at-challenge.ensures
+    last.octet-last.ensures answered.array_at-answered.ensures next.octet-next.ensures
+    c.array_at-challenge.ensures

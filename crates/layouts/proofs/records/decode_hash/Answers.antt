@@ -11,4 +11,4 @@ returns c =
     let present = octets in
     c.hash_if.ensures
     ∙ hash_same (present.is_flag-present.ensures ∙ ap is_flag present.octet.ensures)
-    octets.sixteen_at-octets.ensures
+    octets.array_at-octets.ensures

@@ -30,7 +30,7 @@ returns c =
     let whole = taken_whole 16 a.hash.now 8 a.challenge.now good in
     let value =
     made.challenge_response-result.ensures
-    ∙ ap₂ response_of (first.sixteen_at.ensures ∙ whole.0)
-    (second.eight_at.ensures ∙ whole.1) in
+    ∙ ap₂ response_of (first.array_at.ensures ∙ whole.0)
+    (second.array_at-2.ensures ∙ whole.1) in
     let size : length made.challenge_response-result.result ≡ 24 = search rules in
     filled_behind 16 a.hash.now 8 a.challenge.now good size value put.fill.ensures

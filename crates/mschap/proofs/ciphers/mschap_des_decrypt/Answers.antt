@@ -30,7 +30,7 @@ returns c =
     let whole = taken_whole 7 key 8 block good in
     let value =
     made.decrypt-result.ensures
-    ∙ ap₂ des_decrypt (first.seven_at.ensures ∙ whole.0) (second.eight_at.ensures ∙ whole.1) in
+    ∙ ap₂ des_decrypt (first.array_at.ensures ∙ whole.0) (second.array_at-2.ensures ∙ whole.1) in
     let size : length made.decrypt-result.result ≡ 8 = search rules in
     valid_argument good (eqb-true (length block) 8 (both (sized 7 key) (sized 8 block) good).1)
     (filled_with size value refl put.fill.ensures)

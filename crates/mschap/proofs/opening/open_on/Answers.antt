@@ -21,7 +21,7 @@ returns-then-answer-eq0 c =
     let o = opening_for a.id a.terms a.challenge.now a.list.now a.reply.now in
     let same =
     opening_same a.id a.reply.now
-    (c.eight_at-sent.ensures ∙ fixed_whole 8 a.challenge.now c.requires.challenge_len)
+    (c.array_at-sent.ensures ∙ fixed_whole 8 a.challenge.now c.requires.challenge_len)
     c.retries_in-tries.ensures c.lm_in-choice.ensures c.change_in-change.ensures
     c.limit_in-limit.ensures
     (issued_same (places_whole a.list.now) c.used_in-used.ensures
@@ -47,7 +47,7 @@ returns-else-answer-eq0 c =
     let o = opening_for a.id a.terms a.challenge.now a.list.now a.reply.now in
     let same =
     opening_same a.id a.reply.now
-    (c.eight_at-sent.ensures ∙ fixed_whole 8 a.challenge.now c.requires.challenge_len)
+    (c.array_at-sent.ensures ∙ fixed_whole 8 a.challenge.now c.requires.challenge_len)
     c.retries_in-tries.ensures c.lm_in-choice.ensures c.change_in-change.ensures
     c.limit_in-limit.ensures
     (issued_same (places_whole a.list.now) c.used_in-used.ensures

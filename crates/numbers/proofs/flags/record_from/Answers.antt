@@ -24,8 +24,8 @@ returns c =
     (account.account_with-account.ensures
     ∙ ap account_of (entry_same
     (nt.hash_if-nt_hash.ensures ∙ hash_same nt.is_set.ensures
-    nt.sixteen_at.ensures)
+    nt.array_at.ensures)
     (lm.hash_if-lm_hash.ensures ∙ hash_same lm.is_set-2.ensures
-    lm.sixteen_at-2.ensures)
+    lm.array_at-2.ensures)
     disabled.is_set-disabled.ensures hours.is_set-hours.ensures dialin.is_set-dialin.ensures
     expired.is_set-expired.ensures refl))

@@ -20,7 +20,7 @@ returns-then-not-are_digits c =
     sym (ap (λ (t : Bool). cond t (over (octets_of a.s.now) a.out.now) a.out.now) (sym c.are_digits.ensures ∙ c.if-not-are_digits.true))
 
 pub loop-i-init : goal.loop-i-init
-loop-i-init c = (c.least-n.ensures, omega arith, refl, refl)
+loop-i-init c = (c.min-i-end.ensures, refl, refl)
 
 pub octet_at-requires : goal.octet_at-requires
 octet_at-requires c = let h = c in (omega arith, sym h.are_digits.ensures ∙ h.if-not-are_digits.false)
@@ -30,10 +30,9 @@ loop-i-preserved c =
     let h = c in
     let s = h.args.s.now in (
       h.loop-i.invariant.0,
-      omega arith,
-      simp length-set h.loop-i.invariant.2,
+      simp length-set h.loop-i.invariant.1,
       over_step (octets_of s) h.loop-i.out h.loop-i.i _ c.octet_at.ensures (omega (arith, half s)) (omega arith)
-          ∙ h.loop-i.invariant.3,
+          ∙ h.loop-i.invariant.2,
     )
 
 pub returns : goal.returns
@@ -41,8 +40,8 @@ returns c =
     let h = c in
     let a = h.args in
     let s = a.s.now in
-    sym (over_end (octets_of s) h.loop-i.out h.loop-i.i (omega (arith, half s))) ∙ h.loop-i.invariant.3
+    sym (over_end (octets_of s) h.loop-i.out h.loop-i.i (omega (arith, half s))) ∙ h.loop-i.invariant.2
     ∙ sym (ap (λ (t : Bool). cond t (over (octets_of s) a.out.now) a.out.now) (sym h.are_digits.ensures ∙ h.if-not-are_digits.false))
 
 pub shape_of-out : goal.shape_of-out
-shape_of-out c = c.loop-i.invariant.2
+shape_of-out c = c.loop-i.invariant.1

@@ -3,7 +3,7 @@
 -- Assumes nothing.
 use mathlib.Core.Path.{◌≡◌}
 use mathlib.Core.List.{List, ◌++◌, map}
-use Prim.Native.Nat.{ℕ, ◌/◌, ◌-◌, ◌≤◌, min}
+use Prim.Native.Nat.{ℕ, ◌/◌, min}
 use lib.ListN.{length, take, drop}
 use Rattle.octets.specs.Digits.{digit_of, pairs}
 use Rattle.octets.specs.Parts.{over}
@@ -15,8 +15,5 @@ octets_of s = pairs (map digit_of s)
 
 abbrev pub invariant-loop-i : goal.invariant-loop-i
 invariant-loop-i l =
-    (l.n ≡ min (length l.initial.out) (length l.s / 2)) × (l.i ≤ l.n) × (length l.out ≡ length l.initial.out)
+    (l.i-end ≡ min (length l.initial.out) (length l.s / 2)) × (length l.out ≡ length l.initial.out)
     × (take l.i l.out ++ over (drop l.i (octets_of l.s)) (drop l.i l.out) ≡ over (octets_of l.s) l.initial.out)
-
-abbrev pub decreases-loop-i : goal.decreases-loop-i
-decreases-loop-i l = l.n - l.i

@@ -3,7 +3,7 @@
 -- Assumes nothing.
 use mathlib.Core.Path.{◌≡◌}
 use mathlib.Core.List.{◌++◌}
-use Prim.Native.Nat.{◌*◌, ◌-◌, ◌≤◌, min}
+use Prim.Native.Nat.{◌*◌, min}
 use lib.ListN.{length, take, drop}
 use Rattle.octets.specs.Digits.{hex_text}
 use Rattle.octets.specs.Parts.{over}
@@ -11,8 +11,5 @@ use Rattle.octets.proofs.hex.encode_hex.Given as goal
 
 abbrev pub invariant-loop-k : goal.invariant-loop-k
 invariant-loop-k l =
-    (l.n ≡ min (length l.initial.out) (2 * length l.s)) × (l.k ≤ l.n) × (length l.out ≡ length l.initial.out)
+    (l.k-end ≡ min (length l.initial.out) (2 * length l.s)) × (length l.out ≡ length l.initial.out)
     × (take l.k l.out ++ over (drop l.k (hex_text l.s)) (drop l.k l.out) ≡ over (hex_text l.s) l.initial.out)
-
-abbrev pub decreases-loop-k : goal.decreases-loop-k
-decreases-loop-k l = l.n - l.k

@@ -6,6 +6,6 @@ use Rattle.packets.proofs.changes.read_change.Goals as goal
 pub returns : goal.returns
 returns c =
     change_same
-    c.block_at.ensures c.sixteen_at.ensures
-    c.block_at-2.ensures c.sixteen_at-2.ensures
-    c.response_at.ensures c.response_at-2.ensures c.number_at.ensures
+    c.array_at.ensures c.array_at-2.ensures
+    c.array_at-3.ensures c.array_at-4.ensures
+    c.array_at-5.ensures c.array_at-6.ensures c.number_at.ensures

@@ -6,6 +6,6 @@ use Rattle.packets.proofs.changes_one.read_change_one.Goals as goal
 pub returns : goal.returns
 returns c =
     change_one_same
-    c.sixteen_at.ensures c.sixteen_at-2.ensures
-    c.sixteen_at-3.ensures c.sixteen_at-4.ensures
+    c.array_at.ensures c.array_at-2.ensures
+    c.array_at-3.ensures c.array_at-4.ensures
     c.number_at.ensures c.number_at-2.ensures

@@ -4,4 +4,4 @@ use Rattle.packets.proofs.Fields.{response_same}
 use Rattle.packets.proofs.responses.read_response.Goals as goal
 
 pub returns : goal.returns
-returns c = response_same c.response_at.ensures c.response_at-2.ensures c.octet.ensures
+returns c = response_same c.array_at.ensures c.array_at-2.ensures c.octet.ensures

@@ -1,7 +1,0 @@
--- `octets::u64_to_be` meets its contract.
--- Assumes nothing.
-use native.Mathlib.Nat.{div-one}
-use Rattle.octets.proofs.u64_to_be.Goals as goal
-
-pub returns : goal.returns
-returns c = rw div-one
