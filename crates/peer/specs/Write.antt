@@ -1,9 +1,9 @@
 -- The peer's packets, each from a turn and passwords, and when they are refused (document 01: 8,
 -- 10, 12, 9 in that order). The version 1 change is document 02's, request 2026-07.
 -- Assumes nothing: these are definitions.
-use Rattle.std.specs.Prelude.{Bool, cond, ◌||◌, List, ℕ, length, replicate}
+use Rattle.std.specs.Prelude.{Bool, cond, ◌||◌, List, ℕ, replicate}
 use Rattle.credentials.specs.Credentials.{nt_hash_of, bad_nt_password, bad_filler, response_of, old_under_new, hash_under_challenge, sealed_block}
-use Rattle.packets.specs.Frame.{answer_by, out_by}
+use Rattle.packets.specs.Frame.{Written, answer_by, out_by}
 use Rattle.packets.specs.Sizes.{answer_size, hash_size, block_size}
 use Rattle.packets.specs.Response.{response_packet, response_write_refusal}
 use Rattle.packets.specs.Change.{change_packet, change_write_refusal}
@@ -11,7 +11,6 @@ use Rattle.packets.specs.ChangeOne.{change_one_packet, change_one_write_refusal}
 use Rattle.packets.specs.declared.Response.{Response}
 use Rattle.packets.specs.declared.Change.{Change}
 use Rattle.packets.specs.declared.ChangeOne.{ChangeOne}
-use Rattle.packets.specs.declared.Written.{Written}
 use Rattle.peer.specs.declared.Turn.{Turn}
 
 -- a Response from an NT hash: the LM response is zero-filled, the flag is 1
@@ -83,9 +82,6 @@ write_change_refusal old new filler out =
 -- 8, 9
 unfoldable pub write_change_one_refusal : List ℕ → List ℕ → List ℕ → ℕ
 write_change_one_refusal old new out = cond (bad_passwords old new) 8 (change_one_write_refusal out)
-
-abbrev pub refused_by : ℕ → Written
-refused_by n = record { refusal = n; length = 0 }
 
 -- a writer's answer and its buffer afterwards
 pub record Wrote : Type 0 where

@@ -5,8 +5,8 @@ mod peers;
 mod turns;
 mod writes;
 
-use message::Reading;
-use packets::{CHALLENGE_SIZE, Written};
+use message::Verdict;
+use packets::CHALLENGE_SIZE;
 
 // The identifier and the challenge of the peer's next packet.
 #[derive(Clone, Copy)]
@@ -16,7 +16,9 @@ pub struct Turn {
 }
 
 // The last packet that the peer sent, if there is one: its identifier, and the challenge of the
-// last Response. Reading leaves it alone, so that a reply may be read again.
+// last Response. Reading leaves it alone, so that a reply may be read again. (A flag and not an
+// `Option`: C keeps a peer in 21 bytes of which any are a peer, and those behind the flag are
+// handed back as they came: layouts `is_encoded_peer`.)
 #[derive(Clone, Copy)]
 pub struct Sent {
     pub present: bool,
@@ -31,23 +33,16 @@ pub struct Peer {
     pub turn: Turn,
 }
 
-// A Challenge was read: the refusal (0 is none), and the peer, of fixed values beside a refusal.
-#[derive(Clone, Copy)]
-pub struct ChallengeRead {
-    pub refusal: u8,
-    pub peer: Peer,
-}
-
-// A packet was written: what its writer answers, and the peer, as it was beside a refusal.
+// A packet was written: how many octets it has, and the peer that has sent it.
 #[derive(Clone, Copy)]
 pub struct PacketWritten {
-    pub written: Written,
+    pub length: usize,
     pub peer: Peer,
 }
 
-// A reply was read: what it says, and the peer, as it was beside a refusal.
+// A reply was read: what it says, and the peer with the turn that follows.
 #[derive(Clone, Copy)]
 pub struct ReplyRead {
-    pub reading: Reading,
+    pub verdict: Verdict,
     pub peer: Peer,
 }

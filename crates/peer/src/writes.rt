@@ -1,57 +1,62 @@
 // The peer's packets. Refusals go 8, 10, 12, 9; a refusal writes nothing.
-ghost use Rattle.std.specs.Prelude.{false, ◌≡◌};
-ghost use Rattle.credentials.specs.Credentials.{bad_nt_password, bad_filler};
-ghost use Rattle.peer.specs.Write.{refused_by, response_fields_of, change_fields_of, change_one_fields_of, response_fields, change_fields, change_one_fields, bad_passwords, write_response, write_change, write_change_one};
+ghost use Rattle.std.specs.Prelude.{◌≡◌, cond};
+ghost use Rattle.credentials.specs.Credentials.{bad_nt_password, bad_filler, nt_hash_of, sealed_block};
+ghost use Rattle.packets.specs.Frame.{written_as};
+ghost use Rattle.peer.specs.Write.{response_fields_of, change_fields_of, change_one_fields_of};
+ghost use Rattle.peer.specs.Write.{write_response, write_change, write_change_one};
+ghost use Rattle.refusals.specs.declared.Refusal.TheVariants.{Input, Filler};
 
 use crate::Turn;
-use packets::{
-    ANSWER_SIZE, BLOCK_SIZE, CHALLENGE_SIZE, Change, ChangeOne, HASH_SIZE, Response, Written,
-};
-use refusals::refuse_if;
+use packets::{ANSWER_SIZE, BLOCK_SIZE, CHALLENGE_SIZE, Change, ChangeOne, HASH_SIZE, Response};
+use refusals::Refusal;
 
-fn refused(number: u8) -> Written
-    ensures { result ≡ refused_by number }
+fn nt_hash(password: &[u8]) -> Result<[u8; 16], Refusal>
+    ensures { result ≡ cond (bad_nt_password password.now) (Err Input) (Ok (nt_hash_of password.now)) }
 {
-    Written {
-        refusal: number,
-        length: 0,
+    if credentials::is_bad_nt_password(password) {
+        return Err(Refusal::Input);
     }
+    Ok(credentials::nt_hash(password).hash)
+}
+
+fn seal(old: [u8; 16], password: &[u8], filler: &[u8]) -> Result<[u8; BLOCK_SIZE], Refusal>
+    ensures { result ≡ cond (bad_nt_password password.now) (Err Input)
+        (cond (bad_filler filler.now) (Err Filler) (Ok (sealed_block old filler.now password.now))) }
+{
+    if credentials::is_bad_nt_password(password) {
+        return Err(Refusal::Input);
+    }
+    if credentials::is_bad_filler(filler) {
+        return Err(Refusal::Filler);
+    }
+    Ok(credentials::seal(old, password, filler).block)
 }
 
 // The Response from an NT hash. The LM response is zero-filled.
 fn response_fields(hash: [u8; HASH_SIZE], challenge: [u8; CHALLENGE_SIZE]) -> Response
     ensures { result ≡ response_fields_of challenge hash }
 {
-    let nt = credentials::challenge_response(hash, challenge);
     Response {
         lm: [0; ANSWER_SIZE],
-        nt,
+        nt: credentials::challenge_response(hash, challenge),
         flag: 1,
     }
 }
 
-// The Response from a password that is not refused.
-fn response_from(challenge: [u8; CHALLENGE_SIZE], password: &[u8]) -> Response
-    requires { bad_nt_password password.now ≡ false }
-    ensures { result ≡ response_fields challenge password.now }
-{
-    let hash = credentials::nt_hash(password).hash;
-    response_fields(hash, challenge)
-}
-
 // Writes a Response from a password at the front of out. Refusal 8: the password; 10: the name; 9:
 // too little room.
-pub(crate) fn write_response(turn: Turn, password: &[u8], name: &[u8], out: &mut [u8]) -> Written
-    ensures { (result ≡ (write_response turn password.now name.now
-        out.old).answer)
-        × (out.new ≡ (write_response turn password.now name.now
-        out.old).out) }
+pub(crate) fn write_response(
+    turn: Turn,
+    password: &[u8],
+    name: &[u8],
+    out: &mut [u8],
+) -> Result<usize, Refusal>
+    ensures answer { written_as result
+        ≡ (write_response turn password.now name.now out.old).answer }
+    ensures out { out.new ≡ (write_response turn password.now name.now out.old).out }
 {
-    if credentials::is_bad_nt_password(password) {
-        return refused(8);
-    }
-    let challenge = turn.challenge;
-    let fields = response_from(challenge, password);
+    let hash = nt_hash(password)?;
+    let fields = response_fields(hash, turn.challenge);
     packets::write_response(turn.id, fields, name, out)
 }
 
@@ -65,36 +70,16 @@ fn change_fields(
 ) -> Change
     ensures { result ≡ change_fields_of challenge old new block }
 {
-    let verifier = credentials::old_under_new(old, new);
     let nt = credentials::challenge_response(new, challenge);
     Change {
         block,
-        verifier,
+        verifier: credentials::old_under_new(old, new),
         lmblock: [0; BLOCK_SIZE],
         lmverifier: [0; HASH_SIZE],
         lm: [0; ANSWER_SIZE],
         nt,
         flags: 1,
     }
-}
-
-// The version 2 change from passwords and a filler that are not refused.
-fn change_from(challenge: [u8; CHALLENGE_SIZE], old: &[u8], new: &[u8], filler: &[u8]) -> Change
-    requires { (bad_passwords old.now new.now ≡ false) × (bad_filler filler.now ≡ false) }
-    ensures { result ≡ change_fields challenge old.now new.now
-        filler.now }
-{
-    let before = credentials::nt_hash(old).hash;
-    let after = credentials::nt_hash(new).hash;
-    let block = credentials::seal(before, new, filler).block;
-    change_fields(before, after, block, challenge)
-}
-
-// One of the two passwords is refused.
-fn are_bad_passwords(old: &[u8], new: &[u8]) -> bool
-    ensures { result ≡ bad_passwords old.now new.now }
-{
-    credentials::is_bad_nt_password(old) || credentials::is_bad_nt_password(new)
 }
 
 // Writes a version 2 change from the old and the new password at the front of out. Refusal 8:
@@ -105,19 +90,15 @@ pub(crate) fn write_change(
     new: &[u8],
     filler: &[u8],
     out: &mut [u8],
-) -> Written
-    ensures { (result ≡ (write_change turn old.now new.now
-        filler.now out.old).answer)
-        × (out.new ≡ (write_change turn old.now new.now
-        filler.now out.old).out) }
+) -> Result<usize, Refusal>
+    ensures answer { written_as result
+        ≡ (write_change turn old.now new.now filler.now out.old).answer }
+    ensures out { out.new ≡ (write_change turn old.now new.now filler.now out.old).out }
 {
-    let bad = are_bad_passwords(old, new);
-    let refusal = refuse_if(bad, 8, refuse_if(credentials::is_bad_filler(filler), 12, 0));
-    if refusal != 0 {
-        return refused(refusal);
-    }
-    let challenge = turn.challenge;
-    let fields = change_from(challenge, old, new, filler);
+    let before = nt_hash(old)?;
+    let after = nt_hash(new)?;
+    let block = seal(before, new, filler)?;
+    let fields = change_fields(before, after, block, turn.challenge);
     packets::write_change(turn.id, fields, out)
 }
 
@@ -130,40 +111,30 @@ fn change_one_fields(
 ) -> ChangeOne
     ensures { result ≡ change_one_fields_of challenge old new }
 {
-    let ntold = credentials::hash_under_challenge(old, challenge);
-    let ntnew = credentials::hash_under_challenge(new, challenge);
     ChangeOne {
         lmold: [0; HASH_SIZE],
         lmnew: [0; HASH_SIZE],
-        ntold,
-        ntnew,
+        ntold: credentials::hash_under_challenge(old, challenge),
+        ntnew: credentials::hash_under_challenge(new, challenge),
         length: 65535,
         flags: 1,
     }
 }
 
-// The version 1 change from passwords that are not refused.
-fn change_one_from(challenge: [u8; CHALLENGE_SIZE], old: &[u8], new: &[u8]) -> ChangeOne
-    requires { bad_passwords old.now new.now ≡ false }
-    ensures { result ≡ change_one_fields challenge old.now new.now }
-{
-    let before = credentials::nt_hash(old).hash;
-    let after = credentials::nt_hash(new).hash;
-    change_one_fields(before, after, challenge)
-}
-
 // Writes a version 1 change from the old and the new password at the front of out. Refusal 8:
 // either password; 9: too little room.
-pub(crate) fn write_change_one(turn: Turn, old: &[u8], new: &[u8], out: &mut [u8]) -> Written
-    ensures { (result ≡ (write_change_one turn old.now new.now
-        out.old).answer)
-        × (out.new ≡ (write_change_one turn old.now new.now
-        out.old).out) }
+pub(crate) fn write_change_one(
+    turn: Turn,
+    old: &[u8],
+    new: &[u8],
+    out: &mut [u8],
+) -> Result<usize, Refusal>
+    ensures answer { written_as result
+        ≡ (write_change_one turn old.now new.now out.old).answer }
+    ensures out { out.new ≡ (write_change_one turn old.now new.now out.old).out }
 {
-    if are_bad_passwords(old, new) {
-        return refused(8);
-    }
-    let challenge = turn.challenge;
-    let fields = change_one_from(challenge, old, new);
+    let before = nt_hash(old)?;
+    let after = nt_hash(new)?;
+    let fields = change_one_fields(before, after, turn.challenge);
     packets::write_change_one(turn.id, fields, out)
 }

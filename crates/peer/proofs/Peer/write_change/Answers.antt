@@ -1,8 +1,0 @@
--- `peer::Peer::write_change` meets its contract.
--- Assumes nothing.
-use Rattle.peer.proofs.Peer.write_change.Goals as goal
-
-pub returns : goal.returns
-returns c =
-    let wrote = c.write_change-written.ensures in
-    record { answer = rw (c.after_writing-peer.ensures, wrote.0); out = wrote.1 }
