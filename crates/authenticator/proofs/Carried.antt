@@ -2,6 +2,7 @@
 -- hands out has those that it was passed with or, after a change, those of its own hash (document
 -- 02, request 2026-10).
 -- Assumes nothing.
+use Rattle.std.specs.Prelude.{None}
 use mathlib.Core.Bool.{Bool, true, false, cond, false≢true}
 use mathlib.Core.List.{List}
 use mathlib.Core.Path.{◌≡◌, refl, sym, ap, ◌∙◌, subst}
@@ -14,7 +15,6 @@ use Rattle.packets.specs.Frame.{written_over}
 use Rattle.packets.specs.Response.{read_response}
 use Rattle.verify.specs.Faults.{is_faultless}
 use Rattle.verify.specs.Response.{judging_keys, carrying_lookup, checked_response}
-use Rattle.verify.specs.declared.ChangeFault.TheVariants.{NoFault}
 use Rattle.verify.specs.declared.CheckedResponse.{CheckedResponse}
 use Rattle.verify.proofs.Carried.{checked_carried}
 use Rattle.authenticator.specs.Conversation.{answer_with, with_last}
@@ -54,7 +54,7 @@ module _ (c : Conversation) (p b : List ℕ) where
       record {
         stepped = record {
           kind = Judged (reason_of r);
-          fault = NoFault;
+          fault = None;
           next = with_last (answer_with c r) (after_reason c v.updated.entry v.reason);
           written = length (reply_packet c.terms c.id r);
           updated = v.updated;

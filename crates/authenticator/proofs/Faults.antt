@@ -2,6 +2,7 @@
 -- is the first fault that holds, it stands "beside the 709" and nowhere else, and "Replies on the
 -- wire do not change": nothing of it is in the reply, nor in the next conversation.
 -- Assumes nothing.
+use Rattle.std.specs.Prelude.{Option}
 use mathlib.Core.Bool.{Bool, true, false, cond}
 use mathlib.Core.List.{List}
 use mathlib.Core.Logic.{◌≢◌}
@@ -26,7 +27,7 @@ use Rattle.verify.specs.declared.ChangeVersion.{ChangeVersion}
 use Rattle.verify.specs.declared.ChangeVersion.TheVariants.{One, Two}
 use Rattle.verify.specs.FirstFault.{Holds, HoldsOne, IsFirst}
 use Rattle.verify.specs.declared.ChangeFault.{ChangeFault}
-use Rattle.verify.specs.declared.CheckedChange.{CheckedChange}
+use Rattle.verify.specs.Change.{CheckedChange}
 use Rattle.verify.proofs.FirstFault.{first_fault_lem}
 use Rattle.verify.proofs.Reasons.{response_not_changing}
 use Rattle.authenticator.specs.Judge.{reason_of, judge_response, checked_for, judge_change}
@@ -46,7 +47,7 @@ use Rattle.authenticator.proofs.Steps.{Case, refused, repeated, judged, case_of,
 use Rattle.authenticator.proofs.Steps.{fault_step}
 
 -- a change that is not accepted: all but the fault is the same for all of them
-abbrev pub not_accepted : Conversation → ChangeFault → Judgement
+abbrev pub not_accepted : Conversation → Option ChangeFault → Judgement
 not_accepted c fault =
     record {
       reply = Failure changing_password false;
@@ -149,7 +150,7 @@ module _ (c : Conversation) (p : List ℕ) (l : Lookup) (b : List ℕ) where
   -- ---- "the first that holds"
 
   -- what each fault says of the change that the terms name
-  abbrev pub HoldsFor : ChangeVersion → ChangeFault → Type 0
+  abbrev pub HoldsFor : ChangeVersion → Option ChangeFault → Type 0
   HoldsFor One x = HoldsOne c.terms c.kept c.challenge (read_change_one p) x
   HoldsFor Two x = Holds c.kept c.challenge (read_change p) x
 

@@ -2,6 +2,7 @@
 -- is permitted to log on, an accepted change. And "No record and an invalid response give the same
 -- reply and the same next conversation, octet for octet", and so does a locked account.
 -- Assumes nothing.
+use Rattle.std.specs.Prelude.{None}
 use mathlib.Core.Bool.{Bool, true, false, cond}
 use mathlib.Core.List.{List}
 use mathlib.Core.Logic.{◌≢◌}
@@ -28,10 +29,9 @@ use Rattle.packets.specs.Change.{read_change}
 use Rattle.verify.specs.Response.{judged_valid, found_valid, response_reason, counted_lookup}
 use Rattle.verify.specs.Change.{checked_with}
 use Rattle.verify.specs.Accepted.{SameButIgnored}
-use Rattle.verify.specs.declared.ChangeFault.TheVariants.{NoFault}
 use Rattle.verify.specs.declared.ChangeVersion.{ChangeVersion}
 use Rattle.verify.specs.declared.ChangeVersion.TheVariants.{Two}
-use Rattle.verify.specs.declared.CheckedChange.{CheckedChange}
+use Rattle.verify.specs.Change.{CheckedChange}
 use Rattle.verify.proofs.Accepted.{ignored_change}
 use Rattle.verify.proofs.Reasons.{reason_invalid, permitted_reason}
 use Rattle.verify.proofs.Counting.{judged_at_limit, counted_valid}
@@ -63,7 +63,7 @@ abbrev pub try_again : Conversation → Lookup → Judgement
 try_again c updated =
     record {
       reply = Failure authentication_failure true;
-      fault = NoFault;
+      fault = None;
       next = retried c;
       updated = updated;
     }
@@ -72,19 +72,19 @@ abbrev pub expired_for : Conversation → Account → Judgement
 expired_for c a =
     record {
       reply = Failure password_expired false;
-      fault = NoFault;
+      fault = None;
       next = awaiting_change c (entry_of a);
       updated = found a;
     }
 
 abbrev pub accepted : Conversation → Account → Judgement
-accepted c a = record { reply = Success; fault = NoFault; next = ended c; updated = found a }
+accepted c a = record { reply = Success; fault = None; next = ended c; updated = found a }
 
 abbrev pub changed_to : Conversation → Hash → Hash → Judgement
 changed_to c nt lm =
     record {
       reply = Success;
-      fault = NoFault;
+      fault = None;
       next = ended c;
       updated = found (changed c.kept nt lm);
     }
@@ -145,7 +145,7 @@ module _ (c : Conversation) (p b : List ℕ) (ok : Passes c p b) where
   -- a change with no fault, of the version that the terms name; the record passed with it has no
   -- effect
   pub change_law : (l : Lookup) (nt lm : Hash) → c.phase ≡ Change
-      → checked_for c.terms.change c p ≡ checked_with NoFault nt lm
+      → checked_for c.terms.change c p ≡ checked_with None nt lm
       → step c p l b ≡ judged_as c (changed_to c nt lm) b
   change_law l nt lm ph e =
       change_step c p b ok l ph

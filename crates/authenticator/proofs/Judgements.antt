@@ -1,5 +1,6 @@
 -- Verdicts put together from the parts that the code made.
 -- Assumes nothing.
+use Rattle.std.specs.Prelude.{Option, None}
 use mathlib.Core.Bool.{Bool, true, false, cond}
 use mathlib.Core.Path.{◌≡◌, sym, ap, ap₂, ◌∙◌}
 use Rattle.accounts.specs.Account.{
@@ -15,8 +16,7 @@ use Rattle.accounts.specs.declared.EntryLookup.{EntryLookup}
 use Rattle.message.specs.Reasons.{changing_password}
 use Rattle.verify.specs.Faults.{is_faultless}
 use Rattle.verify.specs.declared.ChangeFault.{ChangeFault}
-use Rattle.verify.specs.declared.ChangeFault.TheVariants.{NoFault}
-use Rattle.verify.specs.declared.CheckedChange.{CheckedChange}
+use Rattle.verify.specs.Change.{CheckedChange}
 use Rattle.verify.specs.declared.CheckedResponse.{CheckedResponse}
 use Rattle.authenticator.specs.Conversation.{ended}
 use Rattle.authenticator.specs.Judge.{verdict_of, reply_for, after_reason, change_judgement}
@@ -25,10 +25,10 @@ use Rattle.authenticator.specs.declared.Verdict.{Verdict}
 use Rattle.authenticator.specs.declared.Reply.{Reply}
 use Rattle.authenticator.specs.declared.Reply.TheVariants.{Success, Failure}
 
-abbrev verdict : Reply → ChangeFault → Conversation → EntryLookup → Verdict
+abbrev verdict : Reply → Option ChangeFault → Conversation → EntryLookup → Verdict
 verdict r f n l = record { reply = r; fault = f; next = n; updated = l }
 
-pub verdict_same : {r s : Reply} {f : ChangeFault} {n m : Conversation} {l k : EntryLookup}
+pub verdict_same : {r s : Reply} {f : Option ChangeFault} {n m : Conversation} {l k : EntryLookup}
     → r ≡ s → n ≡ m → l ≡ k → verdict r f n l ≡ verdict s f m k
 verdict_same {r} {s} {f} {n} {m} {l} {k} e h g =
     ap₂ (λ (x : Reply) (y : Conversation). verdict x f y l) e h ∙ ap (verdict s f m) g
@@ -36,7 +36,7 @@ verdict_same {r} {s} {f} {n} {m} {l} {k} e h g =
 -- of a Response that was checked
 abbrev pub verdict_for : Conversation → CheckedResponse → Verdict
 verdict_for c v =
-    verdict (reply_for c v.reason) NoFault (after_reason c v.updated.entry v.reason)
+    verdict (reply_for c v.reason) None (after_reason c v.updated.entry v.reason)
     v.updated
 
 -- a change that is accepted or not

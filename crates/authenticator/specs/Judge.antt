@@ -3,8 +3,8 @@
 -- how a Response is counted, is defined in `verify`; here is what follows: the reply, the next
 -- conversation and the updated record.
 -- Assumes nothing: these are definitions.
+use Rattle.std.specs.Prelude.{Option, None}
 use Rattle.std.specs.Prelude.{Bool, false, cond, ◌&&◌, List, ℕ, eqb, ltb}
-use Rattle.std.proofs.Math.Option.{Option}
 use Rattle.accounts.specs.Account.{not_found, found, changed, entry_of, entry_lookup_of}
 use Rattle.accounts.specs.declared.Account.{Account}
 use Rattle.accounts.specs.declared.Entry.{Entry}
@@ -27,8 +27,7 @@ use Rattle.verify.specs.ChangeOne.{checked_change_one}
 use Rattle.verify.specs.declared.ChangeVersion.{ChangeVersion}
 use Rattle.verify.specs.declared.ChangeVersion.TheVariants.{One, Two}
 use Rattle.verify.specs.declared.ChangeFault.{ChangeFault}
-use Rattle.verify.specs.declared.ChangeFault.TheVariants.{NoFault}
-use Rattle.verify.specs.declared.CheckedChange.{CheckedChange}
+use Rattle.verify.specs.Change.{CheckedChange}
 use Rattle.authenticator.specs.Conversation.{ended, retried, awaiting_change}
 use Rattle.authenticator.specs.declared.Conversation.{Conversation}
 use Rattle.authenticator.specs.declared.Phase.{Phase}
@@ -41,7 +40,7 @@ use Rattle.authenticator.specs.declared.Verdict.{Verdict}
 -- record that is handed out
 pub record Judgement : Type 0 where
   pub reply : Reply
-  pub fault : ChangeFault
+  pub fault : Option ChangeFault
   pub next : Conversation
   pub updated : Lookup
 
@@ -84,7 +83,7 @@ abbrev pub judgement_for : Conversation → Lookup → ℕ → Judgement
 judgement_for c updated e =
     record {
       reply = reply_for c e;
-      fault = NoFault;
+      fault = None;
       next = after_reason c (entry_of updated.account) e;
       updated = updated;
     }
@@ -127,7 +126,7 @@ judge_change c p = change_judgement c (checked_for c.terms.change c p)
 abbrev pub judge_in : Phase → Conversation → List ℕ → Lookup → Judgement
 judge_in Response c p l = judge_response c l (read_response p)
 judge_in Change c p l = judge_change c p
-judge_in Ended c p l = record { reply = Success; fault = NoFault; next = c; updated = not_found }
+judge_in Ended c p l = record { reply = Success; fault = None; next = c; updated = not_found }
 
 unfoldable pub judge : Conversation → List ℕ → Lookup → Judgement
 judge c p l = judge_in c.phase c p l

@@ -2,6 +2,7 @@
 -- packet is refused, a repeat, or awaited (specs/Admit), an awaited one is judged (specs/Judge),
 -- and the reply is encoded (specs/Encode).
 -- Assumes nothing: these are definitions.
+use Rattle.std.specs.Prelude.{Option, None}
 use Rattle.std.specs.Prelude.{Bool, true, false, cond, ◌&&◌, List, ℕ, eqb, length}
 use Rattle.accounts.specs.Account.{not_found, lookup_of, with_schedules, account_of, entry_lookup_of}
 use Rattle.accounts.specs.declared.Account.{Account}
@@ -16,7 +17,6 @@ use Rattle.verify.specs.ChangeOne.{change_one_fault}
 use Rattle.verify.specs.declared.ChangeFault.{ChangeFault}
 use Rattle.verify.specs.declared.ChangeVersion.{ChangeVersion}
 use Rattle.verify.specs.declared.ChangeVersion.TheVariants.{One, Two}
-use Rattle.verify.specs.declared.ChangeFault.TheVariants.{NoFault}
 use Rattle.authenticator.specs.Conversation.{awaits_response, answer_with, with_last}
 use Rattle.authenticator.specs.Admit.{is_repeat, step_refusal}
 use Rattle.authenticator.specs.Judge.{Judgement, reason_of, judge}
@@ -86,7 +86,7 @@ judged_as c j b =
 -- handed out
 abbrev pub unjudged : Kind → Conversation → ℕ → Answer
 unjudged kind c written =
-    record { kind = kind; fault = NoFault; next = c; written = written; updated = not_found }
+    record { kind = kind; fault = None; next = c; written = written; updated = not_found }
 
 -- "draws the same reply octets and is not judged; the conversation stays as it was, and no record
 -- is handed out", and "a repeat carries no reason" for a 709 (document 02, request 2026-04)
@@ -119,7 +119,7 @@ step_repeats c p b = eqb (step_refusal c p b) 0 && is_repeat c.last p
 
 -- what is wrong with a change that is judged, by its number; 0 is none, and beside every other
 -- answer
-abbrev pub fault_for : ChangeVersion → Conversation → List ℕ → ChangeFault
+abbrev pub fault_for : ChangeVersion → Conversation → List ℕ → Option ChangeFault
 fault_for One c p = change_one_fault c.terms c.kept c.challenge (read_change_one p)
 fault_for Two c p = change_fault c.kept c.challenge (read_change p)
 

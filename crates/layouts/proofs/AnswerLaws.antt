@@ -1,6 +1,7 @@
 -- The layout of a step's answer, field by field: a value is its fields, and what is decoded from
 -- the encoding of a value is the value.
 -- Assumes nothing.
+use Rattle.std.specs.Prelude.{Option}
 use mathlib.Core.Path.{◌≡◌, ap, ap₂, subst, ◌∙◌}
 use mathlib.Core.Bool.{Bool, true, ◌&&◌}
 use mathlib.Core.List.{List, [], ◌∷◌, ◌++◌}
@@ -28,7 +29,7 @@ use Rattle.layouts.proofs.Filling.{both}
 use Rattle.layouts.proofs.RecordLaws.{SizedEntry, decoded_entry_lookup_sized, length_entry_lookup}
 use Rattle.layouts.proofs.RecordLaws.{flag_back, entry_lookup_back}
 
-pub result_same : {b b' : Bool} {n n' : ℕ} {f f' : ChangeFault} {l l' : EntryLookup} → b ≡ b' → n ≡ n'
+pub result_same : {b b' : Bool} {n n' : ℕ} {f f' : Option ChangeFault} {l l' : EntryLookup} → b ≡ b' → n ≡ n'
     → f ≡ f' → l ≡ l'
     → ◌≡◌ {A = StepResult} (record { repeated = b; reason = n; fault = f; updated = l })
     (record { repeated = b'; reason = n'; fault = f'; updated = l' })

@@ -21,7 +21,7 @@ use Rattle.verify.specs.Response.{found_valid, counted, response_reason}
 use Rattle.verify.specs.Faults.{is_faultless}
 use Rattle.verify.specs.declared.ChangeVersion.{ChangeVersion}
 use Rattle.verify.specs.declared.ChangeVersion.TheVariants.{One, Two}
-use Rattle.verify.specs.declared.CheckedChange.{CheckedChange}
+use Rattle.verify.specs.Change.{CheckedChange}
 use Rattle.verify.specs.declared.Terms.{Terms}
 use Rattle.verify.proofs.Counting.{one_more_lem, never_falls, counted_failed, judged_at_limit}
 use Rattle.verify.proofs.Reasons.{three_digits, response_not_changing}

@@ -2,10 +2,10 @@
 -- force by two openings, no recorded answer or version 2 change is right in two conversations, and
 -- nothing that was recorded opens a second box.
 -- Assumes nothing.
+use Rattle.std.specs.Prelude.{Option, Some, None}
 use mathlib.Core.Bool.{Bool, true, false, cond, ◌&&◌, false≢true}
 use mathlib.Core.List.{List, [], ◌∷◌, ◌++◌}
 use mathlib.Core.Logic.{◌≢◌, inl, inr}
-use mathlib.Core.Option.{Option, none, some}
 use mathlib.Core.Path.{◌≡◌, refl, sym, ap, ◌∙◌, subst}
 use Prim.Native.Nat.{ℕ}
 use native.Mathlib.Omega.{arith}
@@ -161,7 +161,7 @@ module _ (i : Issued) (first second : Opening) (two : Two spends_all i first sec
 
     -- ---- a recorded change
 
-    changed_both : (f : Change) (h : List ℕ) → new_hash_in in_first f ≡ some h → new_hash_in in_second f ≡ some h → ⊥
+    changed_both : (f : Change) (h : List ℕ) → new_hash_in in_first f ≡ Some h → new_hash_in in_second f ≡ Some h → ⊥
     changed_both f h p q =
         let a = accepted_only in_first.kept in_first.challenge f h p in
         let b = accepted_only in_second.kept in_second.challenge f h q in
@@ -169,15 +169,15 @@ module _ (i : Issued) (first second : Opening) (two : Two spends_all i first sec
         (b.0.response ∙ ap (λ (x : List ℕ). response_of x in_second.challenge) (sym b.1))
 
     -- under the same NT hash the block holds the same password
-    unchanged : (f : Change) (h : List ℕ) → new_hash_in in_first f ≡ some h → in_second.kept.nt.octets ≡ in_first.kept.nt.octets → new_hash_in in_second f ≡ none
+    unchanged : (f : Change) (h : List ℕ) → new_hash_in in_first f ≡ Some h → in_second.kept.nt.octets ≡ in_first.kept.nt.octets → new_hash_in in_second f ≡ None
     unchanged f h p e = which (new_hash_in in_second f) refl
       where
-        which : (o : Option (List ℕ)) → new_hash_in in_second f ≡ o → new_hash_in in_second f ≡ none
-        which none q = q
-        which (some k) q =
+        which : (o : Option (List ℕ)) → new_hash_in in_second f ≡ o → new_hash_in in_second f ≡ None
+        which None q = q
+        which (Some k) q =
             let same : k ≡ h = (accepted_only in_second.kept in_second.challenge f k q).1
             ∙ ap (λ (x : List ℕ). nt_hash_of (password_in (unsealed_as x f.block) (length_under x f.block))) e ∙ sym (accepted_only in_first.kept in_first.challenge f h p).1 in
-            absurd (changed_both f h p (q ∙ ap some same))
+            absurd (changed_both f h p (q ∙ ap Some same))
 
 -- what is not true is false
 refuted : (t : Bool) → (t ≡ true → ⊥) → t ≡ false

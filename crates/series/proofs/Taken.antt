@@ -1,8 +1,8 @@
 -- The steps that take our peer's packets, each as the outcome that it is equal to.
 -- Assumes nothing.
+use Rattle.std.specs.Prelude.{Some, None}
 use mathlib.Core.Bool.{Bool, true, false, cond, ◌&&◌}
 use mathlib.Core.List.{List, ◌++◌}
-use mathlib.Core.Option.{some}
 use mathlib.Core.Path.{◌≡◌, refl, sym, ap, ap₂, ◌∙◌}
 use Prim.Native.Nat.{ℕ, ◌%◌, ◌≤◌, ◌<◌}
 use native.Mathlib.Omega.{arith}
@@ -22,7 +22,6 @@ use Rattle.authenticator.specs.Admit.{change_refusal_of, body_refusal}
 use Rattle.verify.specs.AcceptedOne.{AcceptedNt}
 use Rattle.verify.specs.Change.{checked_with, checked_change}
 use Rattle.verify.specs.ChangeOne.{new_in, checked_change_one}
-use Rattle.verify.specs.declared.ChangeFault.TheVariants.{NoFault}
 use Rattle.verify.specs.declared.ChangeVersion.{ChangeVersion}
 use Rattle.verify.specs.declared.ChangeVersion.TheVariants.{One, Two}
 use Rattle.verify.specs.Accepted.{hash_for, Accepted}
@@ -218,17 +217,17 @@ module _ (c : Conversation) (t : Turn) (h : InStep c t) (fresh : Fresh c) (ph : 
           response = ap₂ response_of (sym inside) (sym h.challenge);
         }
 
-    change_hash : new_hash_in c fields ≡ some (nt_hash_of new)
-    change_hash = accepted_if c.kept c.challenge fields change_accepted ∙ ap some inside
+    change_hash : new_hash_in c fields ≡ Some (nt_hash_of new)
+    change_hash = accepted_if c.kept c.challenge fields change_accepted ∙ ap Some inside
 
   -- either has no fault, and gives the new NT hash and no LM hash
   change_checked : (v : ChangeVersion) → Full v filler
-      → checked_for v c (change v) ≡ checked_with NoFault (hash_of (nt_hash_of new)) no_hash
+      → checked_for v c (change v) ≡ checked_with None (hash_of (nt_hash_of new)) no_hash
   change_checked One full =
       ap (checked_change_one c.terms c.kept c.challenge)
       (change_one_found t old new after).fields
       ∙ accepted_nt c.terms c.kept c.challenge one one_accepted
-      ∙ ap (λ (x : Hash). checked_with NoFault x no_hash) one_new
+      ∙ ap (λ (x : Hash). checked_with None x no_hash) one_new
   change_checked Two full =
       ap (checked_change c.kept c.challenge)
       (change_found t old new filler full fits.0 after).fields

@@ -2,6 +2,7 @@
 -- each. Demand 3 holds of ours (proofs/Demand3) and of none of the others (proofs/Wrong,
 -- WrongRefusals, WrongRepeats, WrongCounts, WrongSchedules, WrongChanges).
 -- Assumes nothing: these are definitions.
+use Rattle.std.specs.Prelude.{Some, None}
 use Rattle.std.specs.Prelude.{Bool, true, false, cond, not, ◌&&◌, List, ℕ, suc, ◌%◌, eqb, ltb}
 use Rattle.message.specs.Reasons.{no_reason, changing_password}
 use Rattle.packets.specs.Codes.{response_code, change_code, change_one_code}
@@ -14,7 +15,7 @@ use Rattle.accounts.specs.Account.{with_failures}
 use Rattle.accounts.specs.declared.Lookup.{Lookup}
 use Rattle.verify.specs.Lockout.{is_locked, one_more}
 use Rattle.verify.specs.Response.{found_valid}
-use Rattle.verify.specs.declared.ChangeFault.TheVariants.{NoFault, HashWrong}
+use Rattle.verify.specs.declared.ChangeFault.TheVariants.{HashWrong}
 use Rattle.verify.specs.declared.ChangeVersion.{ChangeVersion}
 use Rattle.authenticator.specs.Conversation.{is_ended, ended}
 use Rattle.authenticator.specs.Judge.{Judgement}
@@ -257,7 +258,7 @@ hands_out_record c s =
     record {
       answer = record {
         kind = Refused (refusal_at step_on c s);
-        fault = NoFault;
+        fault = None;
         next = c;
         written = 0;
         updated = s.account;
@@ -288,7 +289,7 @@ ends_unseen c s =
     record {
       answer = record {
         kind = Judged 0;
-        fault = NoFault;
+        fault = None;
         next = ended c;
         written = 0;
         updated = not_found;
@@ -432,7 +433,7 @@ turns_one_away c s =
     cond (eqb (octet 0 s.packet) change_one_code)
     (record {
       reply = Failure changing_password false;
-      fault = HashWrong;
+      fault = (Some HashWrong);
       next = ended c;
       updated = not_found;
     })

@@ -2,8 +2,8 @@
 -- the same list." What follows is said of any opener, so that it can be shown which ones the claim
 -- shuts out.
 -- Assumes nothing: these are definitions.
+use Rattle.std.specs.Prelude.{Some, None}
 use Rattle.std.specs.Prelude.{true, false, List, ◌∷◌, ◌++◌, ◌≢◌, ◌⊎◌, ◌≡◌, ℕ, suc, ◌+◌, ◌≤◌, ◌<◌, length, get_or, take}
-use Rattle.std.proofs.Math.Option.{none, some}
 use Rattle.issued.specs.Issued.{Issued, places, listed, contains, contains_any, counts_of, bad_buffer}
 use Rattle.packets.specs.Codes.{response_code, success_code}
 use Rattle.packets.specs.Frame.{octet}
@@ -107,10 +107,10 @@ module _ (opener : Opener) where
   NoneChangedTwice =
       (i : Issued) (first second : Opening) → Two i first second
       → (ss ts : List StepInput) (f : Change) (h : List ℕ)
-      → new_hash_in (reached first ss) f ≡ some h
-      → (new_hash_in (reached second ts) f ≢ some h)
+      → new_hash_in (reached first ss) f ≡ Some h
+      → (new_hash_in (reached second ts) f ≢ Some h)
       × ((reached second ts).kept.nt.octets ≡ (reached first ss).kept.nt.octets
-      → new_hash_in (reached second ts) f ≡ none)
+      → new_hash_in (reached second ts) f ≡ None)
 
   -- A packet that was recorded: a Response that is valid, for the record that is passed with it
   -- now, in a conversation that an opening led to; or any packet of another code, changes of either

@@ -1,6 +1,7 @@
 -- What a step writes is valid for the next step: the library never refuses an encoding of its own
 -- as a bad argument.
 -- Assumes nothing.
+use Rattle.std.specs.Prelude.{Option}
 use mathlib.Core.Bool.{Bool, true, false, cond}
 use mathlib.Core.List.{List, ◌++◌}
 use mathlib.Core.Path.{◌≡◌, refl, sym, ap, ap₂, ◌∙◌, subst}
@@ -35,7 +36,7 @@ use Rattle.verify.specs.ChangeOne.{checked_change_one}
 use Rattle.verify.specs.declared.ChangeFault.{ChangeFault}
 use Rattle.verify.specs.declared.ChangeVersion.{ChangeVersion}
 use Rattle.verify.specs.declared.ChangeVersion.TheVariants.{One, Two}
-use Rattle.verify.specs.declared.CheckedChange.{CheckedChange}
+use Rattle.verify.specs.Change.{CheckedChange}
 use Rattle.authenticator.specs.Step.{Outcome, step, refusal_in, reason_in, step_fault}
 use Rattle.authenticator.specs.Step.{stepped_of, hands_back, handed_out}
 use Rattle.authenticator.proofs.Carried.{handed_back}
@@ -109,7 +110,7 @@ record SizedChange (v : CheckedChange) : Type 0 where
   nt : length v.nt.octets ≡ 16
   lm : length v.lm.octets ≡ 16
 
-with_sized : (fault : ChangeFault) (nt lm : Hash) → length nt.octets ≡ 16
+with_sized : (fault : Option ChangeFault) (nt lm : Hash) → length nt.octets ≡ 16
     → length lm.octets ≡ 16 → SizedChange (checked_with fault nt lm)
 with_sized fault nt lm h k =
     record { nt = by nt h (is_faultless fault); lm = by lm k (is_faultless fault) }

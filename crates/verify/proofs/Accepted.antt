@@ -1,9 +1,9 @@
 -- "A change is accepted exactly when ..": the six conditions of document 01 give a new hash, and a
 -- new hash is found only where all of them hold. What is to be ignored has no effect.
 -- Assumes nothing.
+use Rattle.std.specs.Prelude.{Option, Some, None}
 use mathlib.Core.Bool.{Bool, true, false, cond, not, true≢false, false≢true}
 use mathlib.Core.List.{List}
-use mathlib.Core.Option.{none, some}
 use mathlib.Core.Path.{◌≡◌, refl, sym, ap, ap₂, ◌∙◌}
 use Prim.Native.Nat.{ℕ, ◌%◌, ◌≤◌}
 use native.Mathlib.Omega.{arith}
@@ -23,7 +23,6 @@ use Rattle.verify.specs.Faults.{first_fault, is_faultless}
 use Rattle.verify.specs.Change.{bad_verifier, bad_response, change_fault, checked_with}
 use Rattle.verify.specs.Change.{checked_change, new_hash}
 use Rattle.verify.specs.declared.ChangeFault.{ChangeFault}
-use Rattle.verify.specs.declared.ChangeFault.TheVariants.{NoFault}
 
 -- ---- what a writer makes
 
@@ -45,7 +44,7 @@ module _ (old filler new : List ℕ) (full : length filler ≡ 512) (fits : leng
 -- ---- the six tests
 
 none_holds : {a b c d e g : Bool} → a ≡ false → b ≡ false → c ≡ false → d ≡ false → e ≡ false
-    → g ≡ false → first_fault a b c d e g ≡ NoFault
+    → g ≡ false → first_fault a b c d e g ≡ None
 unfolding first_fault
 none_holds p q r s t u = rw (p, q, r, s, t, u)
 
@@ -71,16 +70,16 @@ agreed x y e = ap (λ (z : List ℕ). not (agrees x z)) (sym e) ∙ ap not (agre
 module _ (kept : Entry) (challenge : List ℕ) (f : Change) where
   -- ---- if
 
-  pub accepted_fault : Accepted kept challenge f → change_fault kept challenge f ≡ NoFault
+  pub accepted_fault : Accepted kept challenge f → change_fault kept challenge f ≡ None
   unfolding change_fault
   accepted_fault a =
       none_holds (ap not a.has_hash) (ap not (eq-eqb (f.flags % 2) 1 a.bit0))
       (le-ltb 512 (length_for kept f) a.at_most_512) (ap (λ (n : ℕ). eqb n 1) a.even)
       (agreed f.verifier _ a.old_hash) (agreed f.nt _ a.response)
 
-  pub accepted_if : Accepted kept challenge f → new_hash kept challenge f ≡ some (hash_for kept f)
+  pub accepted_if : Accepted kept challenge f → new_hash kept challenge f ≡ Some (hash_for kept f)
   accepted_if a =
-      ap (λ (x : ChangeFault). cond (is_faultless x) (some (hash_for kept f)) none) (accepted_fault a)
+      ap (λ (x : Option ChangeFault). cond (is_faultless x) (Some (hash_for kept f)) None) (accepted_fault a)
 
   -- ---- only if
 
@@ -100,23 +99,23 @@ module _ (kept : Entry) (challenge : List ℕ) (f : Change) where
         response = agrees_equal f.nt _ (denied _ t.5);
       }
 
-  pub accepted_only : (h : List ℕ) → new_hash kept challenge f ≡ some h
+  pub accepted_only : (h : List ℕ) → new_hash kept challenge f ≡ Some h
       → Accepted kept challenge f × (h ≡ hash_for kept f)
   accepted_only h e = which (is_faultless (change_fault kept challenge f)) refl e
     where
       which : (t : Bool) → is_faultless (change_fault kept challenge f) ≡ t
-          → cond t (some (hash_for kept f)) none ≡ some h
+          → cond t (Some (hash_for kept f)) None ≡ Some h
           → Accepted kept challenge f × (h ≡ hash_for kept f)
       which true p q = (no_fault_accepted p, cc)
       which false p q = absurd (let z : ◌≡◌ {A = ℕ} 0 1 = cc in omega arith)
 
   -- and what is checked is that hash, with no fault
-  pub checked_accepted : (h : List ℕ) → new_hash kept challenge f ≡ some h
-      → checked_change kept challenge f ≡ checked_with NoFault (hash_of h) no_hash
+  pub checked_accepted : (h : List ℕ) → new_hash kept challenge f ≡ Some h
+      → checked_change kept challenge f ≡ checked_with None (hash_of h) no_hash
   unfolding checked_change
   checked_accepted h e =
       let a = accepted_only h e in
-      ap₂ (λ (x : ChangeFault) (y : List ℕ). checked_with x (hash_of y) no_hash) (accepted_fault
+      ap₂ (λ (x : Option ChangeFault) (y : List ℕ). checked_with x (hash_of y) no_hash) (accepted_fault
       a.0)
       (sym a.1)
 

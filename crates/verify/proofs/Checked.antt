@@ -1,6 +1,7 @@
 -- What a change is checked to be, by what the code found in the block (a hash, or the fault of its
 -- length) and by the tests that it makes of that.
 -- Assumes nothing.
+use Rattle.std.specs.Prelude.{Option, Some, None}
 use mathlib.Core.Path.{◌≡◌, refl}
 use mathlib.Core.Bool.{Bool, true, false, cond}
 use mathlib.Core.List.{List}
@@ -13,15 +14,15 @@ use Rattle.verify.specs.Faults.{first_fault, is_faultless}
 use Rattle.verify.specs.Change.{checked_with}
 use Rattle.verify.specs.Inner.{checked_content}
 use Rattle.verify.specs.declared.ChangeFault.{ChangeFault}
-use Rattle.verify.specs.declared.ChangeFault.TheVariants.{NoFault, NoNtHash, NoNtResponse}
+use Rattle.verify.specs.declared.ChangeFault.TheVariants.{NoNtHash, NoNtResponse}
 use Rattle.verify.specs.declared.ChangeFault.TheVariants.{OldHashWrong, ResponseWrong}
 
 -- the faults in the order in which the code composes them, around what it found in the block
-abbrev pub composed : Bool → Bool → ChangeFault → Bool → Bool → ChangeFault
+abbrev pub composed : Bool → Bool → Option ChangeFault → Bool → Bool → Option ChangeFault
 composed absent clear found old response =
-    cond absent NoNtHash
-    (cond clear NoNtResponse
-    (cond (is_faultless found) (cond old OldHashWrong (cond response ResponseWrong NoFault)) found))
+    cond absent (Some NoNtHash)
+    (cond clear (Some NoNtResponse)
+    (cond (is_faultless found) (cond old (Some OldHashWrong) (cond response (Some ResponseWrong) None)) found))
 
 -- over and odd are the two tests of the length n; the tests of the hash are functions of it
 pub by_tests : (absent clear over odd : Bool) (n : ℕ) (o : Unsealed) (old response : List ℕ → Bool)

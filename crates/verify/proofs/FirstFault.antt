@@ -1,6 +1,7 @@
 -- "the first that holds": what is told of a change holds, and none before it does; of an accepted
 -- change none is told. Each fault has a number of its own.
 -- Assumes nothing.
+use Rattle.std.specs.Prelude.{Option, Some, None}
 use mathlib.Core.Bool.{Bool, true, false, not, true≢false, false≢true}
 use mathlib.Core.List.{List}
 use mathlib.Core.Path.{◌≡◌, refl, sym, ap, ◌∙◌, subst}
@@ -18,7 +19,6 @@ use Rattle.verify.specs.Change.{bad_verifier, bad_response, change_fault}
 use Rattle.verify.specs.FirstFault.{Holds, IsFirst}
 use Rattle.verify.specs.declared.ChangeFault.{ChangeFault}
 use Rattle.verify.specs.declared.ChangeFault.TheVariants.{
-  NoFault,
   NoNtHash,
   NoNtResponse,
   LengthOver,
@@ -34,33 +34,33 @@ use Rattle.verify.proofs.Accepted.{accepted_fault, no_fault_accepted, denied}
 
 -- ---- numbers
 
-pub fault_back : (fault : ChangeFault) → fault_with (fault_number fault) ≡ fault
-fault_back NoFault = refl
-fault_back NoNtHash = refl
-fault_back NoNtResponse = refl
-fault_back LengthOver = refl
-fault_back LengthOdd = refl
-fault_back OldHashWrong = refl
-fault_back ResponseWrong = refl
-fault_back LmNotAllowed = refl
-fault_back LengthOverLm = refl
-fault_back HashAbsent = refl
-fault_back HashWrong = refl
+pub fault_back : (fault : Option ChangeFault) → fault_with (fault_number fault) ≡ fault
+fault_back None = refl
+fault_back (Some NoNtHash) = refl
+fault_back (Some NoNtResponse) = refl
+fault_back (Some LengthOver) = refl
+fault_back (Some LengthOdd) = refl
+fault_back (Some OldHashWrong) = refl
+fault_back (Some ResponseWrong) = refl
+fault_back (Some LmNotAllowed) = refl
+fault_back (Some LengthOverLm) = refl
+fault_back (Some HashAbsent) = refl
+fault_back (Some HashWrong) = refl
 
-pub fault_small : (fault : ChangeFault) → fault_number fault < 11
-fault_small NoFault = omega arith
-fault_small NoNtHash = omega arith
-fault_small NoNtResponse = omega arith
-fault_small LengthOver = omega arith
-fault_small LengthOdd = omega arith
-fault_small OldHashWrong = omega arith
-fault_small ResponseWrong = omega arith
-fault_small LmNotAllowed = omega arith
-fault_small LengthOverLm = omega arith
-fault_small HashAbsent = omega arith
-fault_small HashWrong = omega arith
+pub fault_small : (fault : Option ChangeFault) → fault_number fault < 11
+fault_small None = omega arith
+fault_small (Some NoNtHash) = omega arith
+fault_small (Some NoNtResponse) = omega arith
+fault_small (Some LengthOver) = omega arith
+fault_small (Some LengthOdd) = omega arith
+fault_small (Some OldHashWrong) = omega arith
+fault_small (Some ResponseWrong) = omega arith
+fault_small (Some LmNotAllowed) = omega arith
+fault_small (Some LengthOverLm) = omega arith
+fault_small (Some HashAbsent) = omega arith
+fault_small (Some HashWrong) = omega arith
 
-pub same_number : (x y : ChangeFault) → fault_number x ≡ fault_number y → x ≡ y
+pub same_number : (x y : Option ChangeFault) → fault_number x ≡ fault_number y → x ≡ y
 same_number x y e = sym (fault_back x) ∙ ap fault_with e ∙ fault_back y
 
 -- ---- tests
@@ -75,13 +75,13 @@ differ x y n e =
 
 -- ---- the first of them, whatever each says
 
-module _ (Holds : ChangeFault → Type 0) where
+module _ (Holds : Option ChangeFault → Type 0) where
   -- none with a number under this one holds
   abbrev pub Below : ℕ → Type 0
-  Below n = (other : ChangeFault) → fault_number other < n → Holds other → ⊥
+  Below n = (other : Option ChangeFault) → fault_number other < n → Holds other → ⊥
 
   -- one more that does not hold
-  pub below_next : (x : ChangeFault) → Below (fault_number x) → (Holds x → ⊥)
+  pub below_next : (x : Option ChangeFault) → Below (fault_number x) → (Holds x → ⊥)
       → Below (suc (fault_number x))
   below_next x below fails y lt h = which (eqb (fault_number y) (fault_number x)) refl
     where
@@ -94,7 +94,7 @@ module _ (Holds : ChangeFault → Type 0) where
   below_none y lt h = omega (arith, lt)
 
   -- there is one alone, so that the sentence decides which is told
-  pub one_first : (x y : ChangeFault) → IsFirst Holds x → IsFirst Holds y → x ≡ y
+  pub one_first : (x y : Option ChangeFault) → IsFirst Holds x → IsFirst Holds y → x ≡ y
   one_first x y p q =
       which (ltb (fault_number x) (fault_number y)) (ltb (fault_number y) (fault_number x)) refl refl
     where
@@ -114,19 +114,19 @@ module _ (kept : Entry) (challenge : List ℕ) (f : Change) where
   under n = Below (Holds kept challenge f) n
 
   -- where a fault is told, the change is not accepted
-  below_first : {x : ChangeFault} → change_fault kept challenge f ≡ x → 0 < fault_number x → under 1
-  below_first e pos = below_next (Holds kept challenge f) NoFault
+  below_first : {x : Option ChangeFault} → change_fault kept challenge f ≡ x → 0 < fault_number x → under 1
+  below_first e pos = below_next (Holds kept challenge f) None
       (below_none (Holds kept challenge f))
       (λ h. omega (arith, pos, ap fault_number (sym e ∙ accepted_fault kept challenge f h)))
 
   -- a test that fails
   absent : not kept.nt.present ≡ false → under 1 → under 2
-  absent e b = below_next (Holds kept challenge f) NoNtHash b (λ h. false≢true (sym h ∙ denied
+  absent e b = below_next (Holds kept challenge f) (Some NoNtHash) b (λ h. false≢true (sym h ∙ denied
       kept.nt.present e))
 
   clear : not (eqb (f.flags % 2) 1) ≡ false → under 2 → under 3
   clear e b =
-      below_next (Holds kept challenge f) NoNtResponse b (λ h. omega (
+      below_next (Holds kept challenge f) (Some NoNtResponse) b (λ h. omega (
         arith,
         h,
         eqb-true
@@ -134,7 +134,7 @@ module _ (kept : Entry) (challenge : List ℕ) (f : Change) where
       ))
 
   over : ltb 512 (length_for kept f) ≡ false → under 3 → under 4
-  over e b = below_next (Holds kept challenge f) LengthOver b (λ h. omega (
+  over e b = below_next (Holds kept challenge f) (Some LengthOver) b (λ h. omega (
     arith,
     h,
     ltb-false 512
@@ -142,10 +142,10 @@ module _ (kept : Entry) (challenge : List ℕ) (f : Change) where
   ))
 
   odd : eqb (length_for kept f % 2) 1 ≡ false → under 4 → under 5
-  odd e b = below_next (Holds kept challenge f) LengthOdd b (eqb-false (length_for kept f % 2) 1 e)
+  odd e b = below_next (Holds kept challenge f) (Some LengthOdd) b (eqb-false (length_for kept f % 2) 1 e)
 
   old : bad_verifier kept f (hash_for kept f) ≡ false → under 5 → under 6
-  old e b = below_next (Holds kept challenge f) OldHashWrong b (λ h. h (agrees_equal
+  old e b = below_next (Holds kept challenge f) (Some OldHashWrong) b (λ h. h (agrees_equal
       f.verifier _ (denied _ e)))
 
   pub first_fault_lem : IsFirst (Holds kept challenge f) (change_fault kept challenge f)

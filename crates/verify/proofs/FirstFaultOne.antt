@@ -1,6 +1,7 @@
 -- "its reason the first of ..": what is told of a version 1 change holds, and none before it does;
 -- a change is accepted exactly where none is told, and what its record then gets.
 -- Assumes nothing.
+use Rattle.std.specs.Prelude.{Option, Some, None}
 use mathlib.Core.Bool.{Bool, true, false, cond, not, false≢true}
 use mathlib.Core.List.{List}
 use mathlib.Core.Logic.{inl, inr}
@@ -31,7 +32,7 @@ use Rattle.verify.specs.ChangeOne.{
 }
 use Rattle.verify.specs.FirstFault.{asked_hash, asked_field, HoldsOne, IsFirst}
 use Rattle.verify.specs.declared.ChangeFault.{ChangeFault}
-use Rattle.verify.specs.declared.ChangeFault.TheVariants.{NoFault, NoNtHash, NoNtResponse}
+use Rattle.verify.specs.declared.ChangeFault.TheVariants.{NoNtHash, NoNtResponse}
 use Rattle.verify.specs.declared.ChangeFault.TheVariants.{LengthOver, LengthOdd}
 use Rattle.verify.specs.declared.ChangeFault.TheVariants.{OldHashWrong, ResponseWrong}
 use Rattle.verify.specs.declared.ChangeFault.TheVariants.{LmNotAllowed, LengthOverLm}
@@ -56,11 +57,11 @@ module _ (t : Terms) (kept : Entry) (challenge : List ℕ) (f : ChangeOne) where
 
   -- ---- if
 
-  nt_faultless : AcceptedNt kept challenge f → nt_fault kept challenge f ≡ NoFault
+  nt_faultless : AcceptedNt kept challenge f → nt_fault kept challenge f ≡ None
   unfolding first_fault_one
   nt_faultless a = rw (ap not a.has_hash, agreed f.ntold _ a.old_hash)
 
-  lm_faultless : AcceptedLm t kept challenge f → lm_fault t kept challenge f ≡ NoFault
+  lm_faultless : AcceptedLm t kept challenge f → lm_fault t kept challenge f ≡ None
   unfolding first_fault_one
   lm_faultless a =
       rw (
@@ -71,7 +72,7 @@ module _ (t : Terms) (kept : Entry) (challenge : List ℕ) (f : ChangeOne) where
       )
 
   pub accepted_fault_one : AcceptedOne t kept challenge f
-      → change_one_fault t kept challenge f ≡ NoFault
+      → change_one_fault t kept challenge f ≡ None
   unfolding change_one_fault
   accepted_fault_one (inl a) =
       ap (λ (b : Bool). cond b (nt_fault kept challenge f) (lm_fault t kept challenge f))
@@ -86,24 +87,24 @@ module _ (t : Terms) (kept : Entry) (challenge : List ℕ) (f : ChangeOne) where
   -- else none"
   pub accepted_nt : AcceptedNt kept challenge f
       → checked_change_one t kept challenge f
-      ≡ checked_with NoFault (new_in challenge f.ntnew)
+      ≡ checked_with None (new_in challenge f.ntnew)
       (cond (over_lm f) no_hash (new_in challenge f.lmnew))
   unfolding checked_change_one
   accepted_nt a =
       ap (λ (b : Bool). cond b (checked_nt kept challenge f) (checked_lm t kept challenge f))
       (asked a.bit0)
-      ∙ ap (λ (x : ChangeFault). checked_with x (new_in challenge f.ntnew)
+      ∙ ap (λ (x : Option ChangeFault). checked_with x (new_in challenge f.ntnew)
       (cond (over_lm f) no_hash (new_in challenge f.lmnew))) (nt_faultless a)
 
   -- "the record gets the new LM hash and no NT hash"
   pub accepted_lm : AcceptedLm t kept challenge f
       → checked_change_one t kept challenge f
-      ≡ checked_with NoFault no_hash (new_in challenge f.lmnew)
+      ≡ checked_with None no_hash (new_in challenge f.lmnew)
   unfolding checked_change_one
   accepted_lm a =
       ap (λ (b : Bool). cond b (checked_nt kept challenge f) (checked_lm t kept challenge f))
       (not_asked a.bit0)
-      ∙ ap (λ (x : ChangeFault). checked_with x no_hash (new_in challenge f.lmnew))
+      ∙ ap (λ (x : Option ChangeFault). checked_with x no_hash (new_in challenge f.lmnew))
       (lm_faultless a)
 
   -- the fault that is told is that of the definition
@@ -119,16 +120,16 @@ module _ (t : Terms) (kept : Entry) (challenge : List ℕ) (f : ChangeOne) where
 
   -- ---- the first
 
-  abbrev H : ChangeFault → Type 0
+  abbrev H : Option ChangeFault → Type 0
   H x = HoldsOne t kept challenge f x
 
   -- where a fault is told, the change is not accepted, and none of version 2's holds
-  below_one : {x : ChangeFault} → change_one_fault t kept challenge f ≡ x → 0 < fault_number x
+  below_one : {x : Option ChangeFault} → change_one_fault t kept challenge f ≡ x → 0 < fault_number x
       → Below H 7
   below_one e pos =
-      below_next H ResponseWrong (below_next H OldHashWrong (below_next H LengthOdd
-      (below_next H LengthOver (below_next H NoNtResponse (below_next H NoNtHash
-      (below_next H NoFault (below_none H)
+      below_next H (Some ResponseWrong) (below_next H (Some OldHashWrong) (below_next H (Some LengthOdd)
+      (below_next H (Some LengthOver) (below_next H (Some NoNtResponse) (below_next H (Some NoNtHash)
+      (below_next H None (below_none H)
       (λ h. omega (arith, pos, ap fault_number (sym e ∙ accepted_fault_one h))))
       (λ h. h)) (λ h. h)) (λ h. h)) (λ h. h)) (λ h. h)) (λ h. h)
 
@@ -140,17 +141,17 @@ module _ (t : Terms) (kept : Entry) (challenge : List ℕ) (f : ChangeOne) where
   asked_field_lem e = ap (λ (b : Bool). cond b f.ntold f.lmold) e
 
   absent_holds : {b : Bool} → nt_asked f ≡ b → not (cond b kept.nt kept.lm).present ≡ true
-      → H HashAbsent
+      → H (Some HashAbsent)
   absent_holds e n = ap (λ (h : Hash). h.present) (asked_hash_lem e) ∙ affirmed _ n
 
   absent_fails : {b : Bool} → nt_asked f ≡ b → not (cond b kept.nt kept.lm).present ≡ false
-      → H HashAbsent → ⊥
+      → H (Some HashAbsent) → ⊥
   absent_fails e n h =
       false≢true (sym h ∙ ap (λ (h : Hash). h.present) (asked_hash_lem e) ∙ denied _ n)
 
   wrong_holds : {b : Bool} → nt_asked f ≡ b
       → bad_old (cond b kept.nt kept.lm) challenge (cond b f.ntold f.lmold) ≡ true
-      → H HashWrong
+      → H (Some HashWrong)
   wrong_holds e n h =
       differ _ _ n (sym (asked_field_lem e) ∙ h
       ∙ ap (λ (x : Hash). hash_under_challenge x.octets challenge) (asked_hash_lem e))
@@ -166,7 +167,7 @@ module _ (t : Terms) (kept : Entry) (challenge : List ℕ) (f : ChangeOne) where
       nt a w e p q z =
           let odd = eqb-true (f.flags % 2) 1 e in
           let begin : 0 < fault_number (first_fault_one false false a w) → Below H 9 =
-          λ pos. below_next H LengthOverLm (below_next H LmNotAllowed (below_one z pos)
+          λ pos. below_next H (Some LengthOverLm) (below_next H (Some LmNotAllowed) (below_one z pos)
           (λ h. omega (arith, h.0, odd))) (λ h. omega (arith, h.0, odd)) in
           by a w e p q odd begin
         where
@@ -179,7 +180,7 @@ module _ (t : Terms) (kept : Entry) (challenge : List ℕ) (f : ChangeOne) where
           by false true e p q odd begin =
               record {
                 holds = wrong_holds e q;
-                none_before = below_next H HashAbsent (begin (omega arith)) (absent_fails e p);
+                none_before = below_next H (Some HashAbsent) (begin (omega arith)) (absent_fails e p);
               }
           by false false e p q odd begin =
               record {
@@ -201,11 +202,11 @@ module _ (t : Terms) (kept : Entry) (challenge : List ℕ) (f : ChangeOne) where
           even = omega (arith, eqb-false (f.flags % 2) 1 e)
 
           allowed : not t.lm ≡ false → Below H 7 → Below H 8
-          allowed n b = below_next H LmNotAllowed b (λ h. false≢true (sym h.1 ∙ denied _ n))
+          allowed n b = below_next H (Some LmNotAllowed) b (λ h. false≢true (sym h.1 ∙ denied _ n))
 
           short : over_lm f ≡ false → Below H 8 → Below H 9
           short n b =
-              below_next H LengthOverLm b (λ h. omega (arith, h.1, ltb-false 14 f.length n))
+              below_next H (Some LengthOverLm) b (λ h. omega (arith, h.1, ltb-false 14 f.length n))
 
           by : (l o a w : Bool) → not t.lm ≡ l → over_lm f ≡ o → not kept.lm.present ≡ a
               → bad_old kept.lm challenge f.lmold ≡ w
@@ -226,7 +227,7 @@ module _ (t : Terms) (kept : Entry) (challenge : List ℕ) (f : ChangeOne) where
           by false false false true p q r s begin =
               record {
                 holds = wrong_holds e s;
-                none_before = below_next H HashAbsent (short q (allowed p (begin (omega arith))))
+                none_before = below_next H (Some HashAbsent) (short q (allowed p (begin (omega arith))))
                     (absent_fails e r);
               }
           by false false false false p q r s begin =
@@ -259,7 +260,7 @@ module _ (t : Terms) (kept : Entry) (challenge : List ℕ) (f : ChangeOne) where
   pub no_fault_one : is_faultless (change_one_fault t kept challenge f) ≡ true
       → AcceptedOne t kept challenge f
   no_fault_one e =
-      subst H (same_number (change_one_fault t kept challenge f) NoFault (eqb-true _ 0 e))
+      subst H (same_number (change_one_fault t kept challenge f) None (eqb-true _ 0 e))
       first_fault_one_lem.holds
 
 -- ---- what the challenge decides

@@ -5,3 +5,4 @@ pub mod FirstFaultOne
 pub mod Reasons
 pub mod Counting
 pub mod Carried
+pub mod Choices

@@ -3,8 +3,8 @@
 -- change stands in specs/Accepted and document 02's on the first fault in specs/FirstFault; that
 -- these say the same is proved (proofs/Accepted, proofs/FirstFault).
 -- Assumes nothing: these are definitions.
+use Rattle.std.specs.Prelude.{Option, Some, None, Result, Ok, Err}
 use Rattle.std.specs.Prelude.{Bool, cond, not, List, ℕ, ◌%◌, eqb, ltb}
-use Rattle.std.proofs.Math.Option.{Option, none, some}
 use Rattle.octets.specs.Parts.{agrees}
 use Rattle.credentials.specs.Credentials.{longest_nt, response_of, old_under_new}
 use Rattle.accounts.specs.Account.{no_hash, hash_of}
@@ -14,10 +14,21 @@ use Rattle.packets.specs.declared.Change.{Change}
 use Rattle.verify.specs.Accepted.{length_for, hash_for}
 use Rattle.verify.specs.Faults.{first_fault, is_faultless}
 use Rattle.verify.specs.declared.ChangeFault.{ChangeFault}
-use Rattle.verify.specs.declared.CheckedChange.{CheckedChange}
+use Rattle.verify.specs.declared.NewHashes.{NewHashes}
+
+-- a change that was checked: what is wrong with it, or none and its new hashes, NT, LM or both
+-- (none beside a fault)
+pub record CheckedChange : Type 0 where
+  pub fault : Option ChangeFault
+  pub nt : Hash
+  pub lm : Hash
+
+abbrev pub checked_as : Result NewHashes ChangeFault → CheckedChange
+checked_as (Ok h) = record { fault = None; nt = h.nt; lm = h.lm }
+checked_as (Err f) = record { fault = Some f; nt = no_hash; lm = no_hash }
 
 -- the new hashes, or none beside a fault
-abbrev pub checked_with : ChangeFault → Hash → Hash → CheckedChange
+abbrev pub checked_with : Option ChangeFault → Hash → Hash → CheckedChange
 checked_with fault nt lm =
     record {
       fault = fault;
@@ -39,7 +50,7 @@ bad_response challenge f h = not (agrees f.nt (response_of h challenge))
 
 -- Document 02, request 2026-04, on document 01's conditions. Bit 1 of the flags and the LM fields
 -- are ignored.
-unfoldable pub change_fault : Entry → List ℕ → Change → ChangeFault
+unfoldable pub change_fault : Entry → List ℕ → Change → Option ChangeFault
 change_fault kept challenge f =
     first_fault
     (not kept.nt.present)
@@ -57,4 +68,4 @@ checked_change kept challenge f =
 -- the new hash of an accepted change
 abbrev pub new_hash : Entry → List ℕ → Change → Option (List ℕ)
 new_hash kept challenge f =
-    cond (is_faultless (change_fault kept challenge f)) (some (hash_for kept f)) none
+    cond (is_faultless (change_fault kept challenge f)) (Some (hash_for kept f)) None

@@ -3,6 +3,7 @@
 -- 9): two cases, by bit 0 of the flags. The sentence, condition by condition, stands in
 -- specs/AcceptedOne and specs/FirstFault; that these say the same is proved.
 -- Assumes nothing: these are definitions.
+use Rattle.std.specs.Prelude.{Option}
 use Rattle.std.specs.Prelude.{Bool, false, cond, not, List, ℕ, ◌%◌, eqb, ltb}
 use Rattle.octets.specs.Parts.{agrees}
 use Rattle.credentials.specs.Credentials.{longest_lm, hash_under_challenge, hash_from_challenge}
@@ -13,7 +14,7 @@ use Rattle.packets.specs.declared.ChangeOne.{ChangeOne}
 use Rattle.verify.specs.Change.{checked_with}
 use Rattle.verify.specs.Faults.{first_fault_one}
 use Rattle.verify.specs.declared.ChangeFault.{ChangeFault}
-use Rattle.verify.specs.declared.CheckedChange.{CheckedChange}
+use Rattle.verify.specs.Change.{CheckedChange}
 use Rattle.verify.specs.declared.Terms.{Terms}
 
 -- "Bit 0 set"
@@ -35,7 +36,7 @@ new_in challenge field = hash_of (hash_from_challenge field challenge)
 
 -- "Bit 0 set: the old NT hash must agree; the record gets the new NT hash, and the new LM hash if
 -- the password length is at most 14, else none."
-abbrev pub nt_fault : Entry → List ℕ → ChangeOne → ChangeFault
+abbrev pub nt_fault : Entry → List ℕ → ChangeOne → Option ChangeFault
 nt_fault kept challenge f =
     first_fault_one false false (not kept.nt.present) (bad_old kept.nt challenge f.ntold)
 
@@ -46,7 +47,7 @@ checked_nt kept challenge f =
 
 -- "Bit 0 clear: LM must be allowed, the length at most 14 and the old LM hash agree; the record
 -- gets the new LM hash and no NT hash."
-abbrev pub lm_fault : Terms → Entry → List ℕ → ChangeOne → ChangeFault
+abbrev pub lm_fault : Terms → Entry → List ℕ → ChangeOne → Option ChangeFault
 lm_fault t kept challenge f =
     first_fault_one (not t.lm) (over_lm f) (not kept.lm.present)
     (bad_old kept.lm challenge f.lmold)
@@ -57,7 +58,7 @@ checked_lm t kept challenge f =
 
 -- ---- a change
 
-unfoldable pub change_one_fault : Terms → Entry → List ℕ → ChangeOne → ChangeFault
+unfoldable pub change_one_fault : Terms → Entry → List ℕ → ChangeOne → Option ChangeFault
 change_one_fault t kept challenge f =
     cond (nt_asked f) (nt_fault kept challenge f) (lm_fault t kept challenge f)
 

@@ -5,6 +5,7 @@
 -- wrong". That `change_fault` (specs/Change) and `change_one_fault` (specs/ChangeOne) say the same is
 -- proved in proofs/FirstFault and FirstFaultOne.
 -- Assumes nothing: these are definitions.
+use Rattle.std.specs.Prelude.{Option, Some, None}
 use Rattle.std.specs.Prelude.{false, cond, List, ◌≢◌, ◌≡◌, ℕ, ◌%◌, ◌<◌}
 use Rattle.credentials.specs.Credentials.{response_of, old_under_new, hash_under_challenge}
 use Rattle.accounts.specs.declared.Entry.{Entry}
@@ -17,7 +18,6 @@ use Rattle.verify.specs.ChangeOne.{nt_asked}
 use Rattle.verify.specs.Faults.{fault_number}
 use Rattle.verify.specs.declared.ChangeFault.{ChangeFault}
 use Rattle.verify.specs.declared.ChangeFault.TheVariants.{
-  NoFault,
   NoNtHash,
   NoNtResponse,
   LengthOver,
@@ -32,25 +32,25 @@ use Rattle.verify.specs.declared.ChangeFault.TheVariants.{
 use Rattle.verify.specs.declared.Terms.{Terms}
 
 -- a fault holds, by what each of them says, and none before it does
-pub record IsFirst (Holds : ChangeFault → Type 0) (fault : ChangeFault) : Type 0 where
+pub record IsFirst (Holds : Option ChangeFault → Type 0) (fault : Option ChangeFault) : Type 0 where
   pub holds : Holds fault
-  pub none_before : (other : ChangeFault) → fault_number other < fault_number fault → Holds other → ⊥
+  pub none_before : (other : Option ChangeFault) → fault_number other < fault_number fault → Holds other → ⊥
 
 -- What each of them says by itself; none is told of an accepted change. Of a version 2 change none
 -- of version 1's holds, and the other way round.
 module _ (kept : Entry) (challenge : List ℕ) (f : Change) where
-  abbrev pub Holds : ChangeFault → Type 0
-  Holds NoFault = Accepted kept challenge f
-  Holds NoNtHash = kept.nt.present ≡ false
-  Holds NoNtResponse = f.flags % 2 ≡ 0
-  Holds LengthOver = 512 < length_for kept f
-  Holds LengthOdd = length_for kept f % 2 ≡ 1
-  Holds OldHashWrong = f.verifier ≢ old_under_new kept.nt.octets (hash_for kept f)
-  Holds ResponseWrong = f.nt ≢ response_of (hash_for kept f) challenge
-  Holds LmNotAllowed = ⊥
-  Holds LengthOverLm = ⊥
-  Holds HashAbsent = ⊥
-  Holds HashWrong = ⊥
+  abbrev pub Holds : Option ChangeFault → Type 0
+  Holds None = Accepted kept challenge f
+  Holds (Some NoNtHash) = kept.nt.present ≡ false
+  Holds (Some NoNtResponse) = f.flags % 2 ≡ 0
+  Holds (Some LengthOver) = 512 < length_for kept f
+  Holds (Some LengthOdd) = length_for kept f % 2 ≡ 1
+  Holds (Some OldHashWrong) = f.verifier ≢ old_under_new kept.nt.octets (hash_for kept f)
+  Holds (Some ResponseWrong) = f.nt ≢ response_of (hash_for kept f) challenge
+  Holds (Some LmNotAllowed) = ⊥
+  Holds (Some LengthOverLm) = ⊥
+  Holds (Some HashAbsent) = ⊥
+  Holds (Some HashWrong) = ⊥
 
 -- the kept hash that bit 0 asks for, and the field of the old one
 abbrev pub asked_hash : Entry → ChangeOne → Hash
@@ -60,15 +60,15 @@ abbrev pub asked_field : ChangeOne → List ℕ
 asked_field f = cond (nt_asked f) f.ntold f.lmold
 
 module _ (t : Terms) (kept : Entry) (challenge : List ℕ) (f : ChangeOne) where
-  abbrev pub HoldsOne : ChangeFault → Type 0
-  HoldsOne NoFault = AcceptedOne t kept challenge f
-  HoldsOne NoNtHash = ⊥
-  HoldsOne NoNtResponse = ⊥
-  HoldsOne LengthOver = ⊥
-  HoldsOne LengthOdd = ⊥
-  HoldsOne OldHashWrong = ⊥
-  HoldsOne ResponseWrong = ⊥
-  HoldsOne LmNotAllowed = (f.flags % 2 ≡ 0) × (t.lm ≡ false)
-  HoldsOne LengthOverLm = (f.flags % 2 ≡ 0) × (14 < f.length)
-  HoldsOne HashAbsent = (asked_hash kept f).present ≡ false
-  HoldsOne HashWrong = asked_field f ≢ hash_under_challenge (asked_hash kept f).octets challenge
+  abbrev pub HoldsOne : Option ChangeFault → Type 0
+  HoldsOne None = AcceptedOne t kept challenge f
+  HoldsOne (Some NoNtHash) = ⊥
+  HoldsOne (Some NoNtResponse) = ⊥
+  HoldsOne (Some LengthOver) = ⊥
+  HoldsOne (Some LengthOdd) = ⊥
+  HoldsOne (Some OldHashWrong) = ⊥
+  HoldsOne (Some ResponseWrong) = ⊥
+  HoldsOne (Some LmNotAllowed) = (f.flags % 2 ≡ 0) × (t.lm ≡ false)
+  HoldsOne (Some LengthOverLm) = (f.flags % 2 ≡ 0) × (14 < f.length)
+  HoldsOne (Some HashAbsent) = (asked_hash kept f).present ≡ false
+  HoldsOne (Some HashWrong) = asked_field f ≢ hash_under_challenge (asked_hash kept f).octets challenge

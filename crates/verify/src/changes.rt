@@ -7,41 +7,39 @@
 ghost use Rattle.std.specs.Prelude.{◌≡◌, cond, ◌-◌, ◌%◌, ◌≤◌, length};
 ghost use Rattle.octets.specs.Parts.{part, agrees};
 ghost use Rattle.credentials.specs.Credentials.{longest_nt, nt_hash_of, ValidLength};
-ghost use Rattle.verify.specs.Change.{checked_with, bad_verifier, bad_response, checked_change};
+ghost use Rattle.verify.specs.Change.{checked_as, checked_with, bad_verifier, bad_response};
+ghost use Rattle.verify.specs.Change.{checked_change};
 ghost use Rattle.verify.specs.Inner.{content_fault, content_length, block_with, checked_block};
-ghost use Rattle.verify.specs.declared.ChangeFault.TheVariants.{NoFault};
 ghost use Rattle.verify.specs.declared.ChangeFault.TheVariants.{OldHashWrong, ResponseWrong};
 
-use crate::faults::{fault_before, fault_if, is_faultless};
-use crate::{ChangeFault, CheckedBlock, CheckedChange};
+use crate::{ChangeFault, CheckedBlock, NewHashes};
 use accounts::{Entry, Hash, hash_of, no_hash};
 use credentials::{Content, HASH_SIZE, LONGEST_NT, Unsealed};
 
 // What was found: the new hashes, unless something is wrong.
-pub(crate) fn checked_with(fault: ChangeFault, nt: Hash, lm: Hash) -> CheckedChange
-    ensures { result ≡ checked_with fault nt lm }
+pub(crate) fn checked_with(
+    fault: Option<ChangeFault>,
+    nt: Hash,
+    lm: Hash,
+) -> Result<NewHashes, ChangeFault>
+    ensures { checked_as result ≡ checked_with fault nt lm }
 {
-    if is_faultless(fault) {
-        return CheckedChange { fault, nt, lm };
-    }
-    let none = no_hash();
-    CheckedChange {
-        fault,
-        nt: none,
-        lm: none,
+    match fault {
+        Some(fault) => Err(fault),
+        None => Ok(NewHashes { nt, lm }),
     }
 }
 
 // What was found in a block: the hash, unless something is wrong.
-fn block_with(fault: ChangeFault, hash: [u8; HASH_SIZE]) -> CheckedBlock
+fn block_with(fault: Option<ChangeFault>, hash: [u8; HASH_SIZE]) -> CheckedBlock
     ensures { result ≡ block_with fault hash }
 {
-    if is_faultless(fault) {
-        return CheckedBlock { fault, hash };
-    }
-    CheckedBlock {
-        fault,
-        hash: [0; HASH_SIZE],
+    match fault {
+        Some(_) => CheckedBlock {
+            fault,
+            hash: [0; HASH_SIZE],
+        },
+        None => CheckedBlock { fault, hash },
     }
 }
 
@@ -54,13 +52,13 @@ fn hash_of_last(octets: &[u8], n: usize) -> [u8; HASH_SIZE]
 }
 
 // The fault of an unsealed block's length.
-fn content_fault(content: Content) -> ChangeFault
+fn content_fault(content: Content) -> Option<ChangeFault>
     ensures { result ≡ content_fault content }
 {
     match content {
-        Content::Over => ChangeFault::LengthOver,
-        Content::Odd => ChangeFault::LengthOdd,
-        Content::Password(n) => ChangeFault::NoFault,
+        Content::Over => Some(ChangeFault::LengthOver),
+        Content::Odd => Some(ChangeFault::LengthOdd),
+        Content::Password(_) => None,
     }
 }
 
@@ -69,8 +67,7 @@ fn content_length(content: Content) -> usize
     ensures { result ≡ content_length content }
 {
     match content {
-        Content::Over => 0,
-        Content::Odd => 0,
+        Content::Over | Content::Odd => 0,
         Content::Password(n) => n,
     }
 }
@@ -101,14 +98,15 @@ fn is_same_response(a: [u8; 24], b: [u8; 24]) -> bool
 
 // What is wrong with the proof of a new hash: the old hash under it, or its response, is not the
 // one that was sent.
+#[tactic(auto, using(crate::proofs::Choices::chosen))]
 fn proof_fault(
     kept: Entry,
     challenge: [u8; 8],
     fields: packets::Change,
     hash: [u8; HASH_SIZE],
-) -> ChangeFault
-    ensures { result ≡ cond (bad_verifier kept fields hash) OldHashWrong
-        (cond (bad_response challenge fields hash) ResponseWrong NoFault) }
+) -> Option<ChangeFault>
+    ensures { result ≡ cond (bad_verifier kept fields hash) (Some OldHashWrong)
+        (cond (bad_response challenge fields hash) (Some ResponseWrong) None) }
 {
     let nt = kept.nt;
     let old = nt.octets;
@@ -119,29 +117,27 @@ fn proof_fault(
         response,
         credentials::challenge_response(hash, challenge),
     );
-    let rest = fault_if(
-        !same_response,
-        ChangeFault::ResponseWrong,
-        ChangeFault::NoFault,
-    );
-    fault_if(!same_hash, ChangeFault::OldHashWrong, rest)
+    let wrong_hash = (!same_hash).then_some(ChangeFault::OldHashWrong);
+    let wrong_response = (!same_response).then_some(ChangeFault::ResponseWrong);
+    wrong_hash.or(wrong_response)
 }
 
 // The new hash of an accepted version 2 change, or the first thing that is wrong with it.
-pub fn check_change(kept: Entry, challenge: [u8; 8], fields: packets::Change) -> CheckedChange
-    ensures { result ≡ checked_change kept challenge fields }
+pub fn check_change(
+    kept: Entry,
+    challenge: [u8; 8],
+    fields: packets::Change,
+) -> Result<NewHashes, ChangeFault>
+    ensures { checked_as result ≡ checked_change kept challenge fields }
 {
     let nt = kept.nt;
     let old = nt.octets;
     let block = fields.block;
-    let absent = !nt.present;
-    let clear = fields.flags % 2 != 1;
+    let absent = (!nt.present).then_some(ChangeFault::NoNtHash);
+    let clear = (fields.flags % 2 != 1).then_some(ChangeFault::NoNtResponse);
     let found = checked_block(credentials::unseal(old, block));
     let hash = found.hash;
-    let length = found.fault;
     let proof = proof_fault(kept, challenge, fields, hash);
-    let inside = fault_before(length, proof);
-    let sent = fault_if(clear, ChangeFault::NoNtResponse, inside);
-    let fault = fault_if(absent, ChangeFault::NoNtHash, sent);
+    let fault = absent.or(clear.or(found.fault.or(proof)));
     checked_with(fault, hash_of(hash), no_hash())
 }

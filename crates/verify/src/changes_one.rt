@@ -7,24 +7,23 @@
 ghost use Rattle.std.specs.Prelude.{◌≡◌, cond, not};
 ghost use Rattle.accounts.specs.Account.{no_hash};
 ghost use Rattle.verify.specs.Faults.{first_fault_one};
-ghost use Rattle.verify.specs.Change.{checked_with};
+ghost use Rattle.verify.specs.Change.{checked_as, checked_with};
 ghost use Rattle.verify.specs.ChangeOne.{bad_old, new_in, nt_fault, checked_change_one};
 
 use crate::changes::{checked_with, is_same_hash};
-use crate::faults::fault_if;
-use crate::{ChangeFault, CheckedChange, Terms};
+use crate::{ChangeFault, NewHashes, Terms};
 use accounts::{Entry, Hash, hash_of, no_hash};
 use credentials::{HASH_SIZE, LONGEST_LM};
 use packets::ChangeOne;
 
 // The first fault, by whether each of them holds.
-fn first_fault(lm: bool, over: bool, absent: bool, wrong: bool) -> ChangeFault
+fn first_fault(lm: bool, over: bool, absent: bool, wrong: bool) -> Option<ChangeFault>
     ensures { result ≡ first_fault_one lm over absent wrong }
 {
-    let last = fault_if(wrong, ChangeFault::HashWrong, ChangeFault::NoFault);
-    let hash = fault_if(absent, ChangeFault::HashAbsent, last);
-    let length = fault_if(over, ChangeFault::LengthOverLm, hash);
-    fault_if(lm, ChangeFault::LmNotAllowed, length)
+    let absent = absent.then_some(ChangeFault::HashAbsent);
+    let hash = absent.or(wrong.then_some(ChangeFault::HashWrong));
+    let length = over.then_some(ChangeFault::LengthOverLm).or(hash);
+    lm.then_some(ChangeFault::LmNotAllowed).or(length)
 }
 
 // Whether the kept hash, under the challenge in force, is not the field that was sent.
@@ -50,8 +49,13 @@ fn none_if(test: bool, hash: Hash) -> Hash
 }
 
 // Bit 0 is set: the NT fields count, and the new LM hash goes with them unless the length is over.
-fn check_nt(kept: Entry, challenge: [u8; 8], fields: ChangeOne, over: bool) -> CheckedChange
-    ensures { result ≡ checked_with (nt_fault kept challenge fields)
+fn check_nt(
+    kept: Entry,
+    challenge: [u8; 8],
+    fields: ChangeOne,
+    over: bool,
+) -> Result<NewHashes, ChangeFault>
+    ensures { checked_as result ≡ checked_with (nt_fault kept challenge fields)
         (new_in challenge fields.ntnew) (cond over no_hash (new_in challenge fields.lmnew)) }
 {
     let hash = kept.nt;
@@ -71,8 +75,8 @@ fn check_lm(
     challenge: [u8; 8],
     fields: ChangeOne,
     over: bool,
-) -> CheckedChange
-    ensures { result ≡ checked_with (first_fault_one (not terms.lm) over
+) -> Result<NewHashes, ChangeFault>
+    ensures { checked_as result ≡ checked_with (first_fault_one (not terms.lm) over
         (not kept.lm.present) (bad_old kept.lm challenge fields.lmold))
         no_hash (new_in challenge fields.lmnew) }
 {
@@ -91,8 +95,8 @@ pub fn check_change_one(
     kept: Entry,
     challenge: [u8; 8],
     fields: ChangeOne,
-) -> CheckedChange
-    ensures { result ≡ checked_change_one terms kept challenge fields }
+) -> Result<NewHashes, ChangeFault>
+    ensures { checked_as result ≡ checked_change_one terms kept challenge fields }
 {
     let over = LONGEST_LM < fields.length as usize;
     if fields.flags % 2 == 1 {

@@ -42,45 +42,43 @@ pub struct CheckedResponse {
 // What is wrong with a change that is not accepted: the first that holds, in this order.
 #[derive(Clone, Copy)]
 pub enum ChangeFault {
-    NoFault,
     // version 2: the kept record has no NT hash
-    NoNtHash,
+    NoNtHash = 1,
     // flag bit 0 is clear: the peer does not ask for its NT response (RFC 2433, section 10)
-    NoNtResponse,
+    NoNtResponse = 2,
     // the opened block's length is over 512, or odd
-    LengthOver,
-    LengthOdd,
+    LengthOver = 3,
+    LengthOdd = 4,
     // the old hash under the new one is not the one that was sent
-    OldHashWrong,
+    OldHashWrong = 5,
     // the NT response is not that of the new hash to the challenge in force
-    ResponseWrong,
+    ResponseWrong = 6,
     // version 1: bit 0 is clear, and LM is not allowed or the password's length is over 14
-    LmNotAllowed,
-    LengthOverLm,
+    LmNotAllowed = 7,
+    LengthOverLm = 8,
     // the kept record has not the hash that bit 0 asks for, or its field is not the one under the
     // challenge in force
-    HashAbsent,
-    HashWrong,
+    HashAbsent = 9,
+    HashWrong = 10,
 }
 
-// A change that was checked: what is wrong with it, or none and its new hashes, NT, LM or both
-// (none beside a fault).
+// The new hashes of an accepted change: NT, LM or both.
 #[derive(Clone, Copy)]
-pub struct CheckedChange {
-    pub fault: ChangeFault,
+pub struct NewHashes {
     pub nt: Hash,
     pub lm: Hash,
 }
 
-// The opened block of a version 2 change: the fault of its length, or none and the hash of the
-// password in it (sixteen octets 0 beside a fault).
+// The opened block of a version 2 change: the fault of its length, or none, and the hash of the
+// password in it (sixteen octets 0 beside a fault). Both, and not a `Result`: the tests of the hash
+// are made beside a fault too, so that a change takes the same work whatever is wrong with it.
 #[derive(Clone, Copy)]
 pub(crate) struct CheckedBlock {
-    fault: ChangeFault,
+    fault: Option<ChangeFault>,
     hash: [u8; 16],
 }
 
 pub use changes::check_change;
 pub use changes_one::check_change_one;
-pub use faults::{fault_number, fault_with, is_faultless};
+pub use faults::{fault_number, fault_with};
 pub use responses::{check_response, uses_nt};

@@ -5,7 +5,7 @@ use mathlib.Core.Path.{sym, ap, ◌∙◌}
 use Rattle.verify.specs.Change.{checked_change}
 use Rattle.verify.specs.ChangeOne.{checked_change_one}
 use Rattle.verify.specs.declared.ChangeVersion.{ChangeVersion}
-use Rattle.verify.specs.declared.CheckedChange.{CheckedChange}
+use Rattle.verify.specs.Change.{CheckedChange}
 use Prim.Native.Nat.{ℕ}
 use Rattle.authenticator.specs.declared.Conversation.{Conversation}
 use Rattle.authenticator.specs.Judge.{checked_for}

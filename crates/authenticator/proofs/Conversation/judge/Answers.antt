@@ -1,12 +1,12 @@
 -- `authenticator::Conversation::judge` meets its contract, by the phase.
 -- Assumes nothing.
+use Rattle.std.specs.Prelude.{None}
 use Prim.Native.Nat.{ℕ}
 use mathlib.Core.List.{List}
 use mathlib.Core.Path.{sym, ap, ◌∙◌}
 use Rattle.accounts.specs.declared.EntryLookup.{EntryLookup}
 use Rattle.accounts.specs.Account.{stored_in}
 use Rattle.verify.specs.Response.{carrying_lookup}
-use Rattle.verify.specs.declared.ChangeFault.TheVariants.{NoFault}
 use Rattle.authenticator.specs.declared.Conversation.{Conversation}
 use Rattle.authenticator.specs.Judge.{verdict_of, judge, judge_in}
 use Rattle.authenticator.specs.declared.Verdict.{Verdict}
@@ -39,7 +39,7 @@ returns-in-Ended c =
     let a = c.args in
     ap (λ (l : EntryLookup). let v : Verdict = record {
       reply = Success;
-      fault = NoFault;
+      fault = None;
       next = a.self;
       updated = l;
     } in v)

@@ -1,10 +1,10 @@
 -- `authenticator::Conversation::repeat` meets its contract.
 -- Assumes nothing.
+use Rattle.std.specs.Prelude.{None}
 use mathlib.Core.Path.{◌≡◌, ap₂, ◌∙◌, ap}
 use Prim.Native.Nat.{ℕ}
 use lib.ListN.{length}
 use Rattle.accounts.specs.declared.EntryLookup.{EntryLookup}
-use Rattle.verify.specs.declared.ChangeFault.TheVariants.{NoFault}
 use Rattle.authenticator.specs.Encode.{reply_packet}
 use Rattle.authenticator.specs.Judge.{reason_of}
 use Rattle.authenticator.specs.declared.Stepped.{Stepped}
@@ -20,7 +20,7 @@ returns c =
     let answer : ℕ → ℕ → EntryLookup → Stepped =
     λ reason n l. record {
       kind = Repeated reason;
-      fault = NoFault;
+      fault = None;
       next = a.self;
       written = n;
       updated = l;

@@ -1,6 +1,7 @@
 -- `authenticator::Conversation::step_by` meets its contract: refused; the last answer again; or judged
 -- and the reply written.
 -- Assumes nothing.
+use Rattle.std.specs.Prelude.{None}
 use mathlib.Core.Bool.{Bool}
 use mathlib.Core.List.{List}
 use mathlib.Core.Logic.{◌≢◌}
@@ -12,7 +13,6 @@ use Rattle.accounts.specs.declared.Lookup.{Lookup}
 use Rattle.packets.specs.Frame.{written_over}
 use Rattle.accounts.specs.Account.{stored_in}
 use Rattle.verify.specs.Response.{carrying_lookup}
-use Rattle.verify.specs.declared.ChangeFault.TheVariants.{NoFault}
 use Rattle.authenticator.specs.Conversation.{answer_with, with_last}
 use Rattle.authenticator.specs.Admit.{refusal_for, step_refusal}
 use Rattle.authenticator.specs.Judge.{verdict_of, reason_of, judge}
@@ -49,7 +49,7 @@ returns-then-refusal-ne0 c =
     let whole = refused_step a.self p l b some in (
       ap₂ (λ (n : ℕ) (l : EntryLookup). let s : Stepped = record {
         kind = Refused n;
-        fault = NoFault;
+        fault = None;
         next = a.self;
         written = 0;
         updated = l;

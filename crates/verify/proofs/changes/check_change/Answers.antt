@@ -1,8 +1,9 @@
 -- `verify::changes::check_change` meets its contract: each test is the definition's, and what was
 -- found in the block stands in their order.
 -- Assumes nothing.
+use Rattle.std.specs.Prelude.{Option, Some, None}
 use mathlib.Core.Bool.{cond, not}
-use mathlib.Core.Path.{sym, ap, ap₂, ◌∙◌, subst}
+use mathlib.Core.Path.{◌≡◌, sym, ap, ap₂, ◌∙◌, subst}
 use Prim.Native.Nat.{◌%◌}
 use lib.Dec.{eqb, ltb}
 use Rattle.credentials.specs.Credentials.{ValidLength, content_for, unsealed_as}
@@ -17,7 +18,10 @@ use Rattle.verify.specs.Inner.{checked_block}
 use Rattle.verify.specs.declared.ChangeFault.{ChangeFault}
 use Rattle.verify.specs.declared.ChangeFault.TheVariants.{NoNtHash, NoNtResponse}
 use Rattle.verify.specs.declared.CheckedBlock.{CheckedBlock}
-use Rattle.verify.specs.declared.CheckedChange.{CheckedChange}
+use Rattle.verify.specs.Change.{CheckedChange}
+use Rattle.std.specs.Option.{option_or}
+use Rattle.verify.specs.declared.ChangeFault.TheVariants.{OldHashWrong, ResponseWrong}
+use Rattle.verify.proofs.Choices.{chosen, found_before}
 use Rattle.verify.proofs.Checked.{composed, by_tests}
 use Rattle.verify.proofs.changes.check_change.Goals as goal
 
@@ -39,16 +43,24 @@ returns c =
     let whole : CheckedBlock → CheckedChange =
     λ v. checked_with (composed absent clear v.fault (bad_verifier a.kept f v.hash)
     (bad_response a.challenge f v.hash)) (hash_of v.hash) no_hash in
+    let proof = cond (bad_verifier a.kept f found.hash) (Some OldHashWrong)
+    (cond (bad_response a.challenge f found.hash) (Some ResponseWrong) None) in
+    let e : c.or-fault.result
+    ≡ composed absent clear found.fault (bad_verifier a.kept f found.hash)
+    (bad_response a.challenge f found.hash) =
+    c.or-fault.ensures
+    ∙ ap₂ option_or c.then_some-absent.ensures
+    (c.or-2.ensures
+    ∙ ap₂ option_or c.then_some-clear.ensures
+    (c.or.ensures
+    ∙ ap (option_or found.fault) c.proof_fault-proof.ensures
+    ∙ found_before found.fault proof)
+    ∙ chosen clear NoNtResponse (cond (is_faultless found.fault) proof found.fault))
+    ∙ chosen absent NoNtHash
+    (cond clear (Some NoNtResponse) (cond (is_faultless found.fault) proof found.fault)) in
     c.checked_with.ensures
-    ∙ ap₂ (checked_with c.fault_if-fault.result) c.hash_of.ensures c.no_hash.ensures
-    ∙ ap (λ (x : ChangeFault). checked_with x (hash_of found.hash) no_hash)
-    (c.fault_if-fault.ensures
-    ∙ ap (cond absent NoNtHash)
-    (c.fault_if-sent.ensures
-    ∙ ap (cond clear NoNtResponse)
-    (c.fault_before-inside.ensures
-    ∙ ap (λ (x : ChangeFault). cond (is_faultless found.fault) x found.fault)
-    c.proof_fault-proof.ensures)))
+    ∙ ap₂ (checked_with c.or-fault.result) c.hash_of.ensures c.no_hash.ensures
+    ∙ ap (λ (x : Option ChangeFault). checked_with x (hash_of found.hash) no_hash) e
     ∙ ap whole
     (c.checked_block-found.ensures ∙ ap checked_block c.unseal.ensures.0)
     ∙ by_tests absent clear (ltb 512 n) (eqb (n % 2) 1) n o (bad_verifier a.kept f)

@@ -9,7 +9,7 @@ use Rattle.accounts.specs.declared.Entry.{Entry}
 use Rattle.packets.specs.declared.ChangeOne.{ChangeOne}
 use Rattle.verify.specs.declared.Terms.{Terms}
 use Rattle.verify.specs.ChangeOne.{checked_nt, checked_lm, checked_change_one}
-use Rattle.verify.specs.declared.CheckedChange.{CheckedChange}
+use Rattle.verify.specs.Change.{CheckedChange}
 use Rattle.verify.proofs.changes_one.check_change_one.Goals as goal
 
 abbrev chosen : Terms → Entry → List ℕ → ChangeOne → Bool → CheckedChange
