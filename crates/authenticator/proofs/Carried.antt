@@ -24,10 +24,10 @@ use Rattle.authenticator.specs.Judge.{judge_response, checked_for, judge_change,
 use Rattle.authenticator.specs.Step.{Outcome, judged_as, step}
 use Rattle.authenticator.specs.Step.{stepped_of, hands_back, handed_out}
 use Rattle.authenticator.specs.declared.Conversation.{Conversation}
-use Rattle.authenticator.specs.declared.Kind.TheVariants.{Judged}
+use Rattle.authenticator.specs.Step.{Judged}
 use Rattle.authenticator.specs.declared.Phase.{Phase}
 use Rattle.authenticator.specs.declared.Phase.TheVariants.{Response, Change, Ended}
-use Rattle.authenticator.specs.declared.Stepped.{Stepped}
+use Rattle.authenticator.specs.Step.{Stepped}
 use Rattle.authenticator.proofs.Admitted.{Passes}
 use Rattle.authenticator.proofs.Judged.{by_case, step_in, response_step}
 use Rattle.authenticator.proofs.Steps.{Case, refused, repeated, judged, case_of}

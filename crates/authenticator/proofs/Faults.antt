@@ -37,7 +37,7 @@ use Rattle.authenticator.specs.Encode.{version}
 use Rattle.authenticator.specs.Step.{Outcome, judged_as, step_fault, step}
 use Rattle.authenticator.specs.declared.Conversation.{Conversation}
 use Rattle.authenticator.specs.Judge.{Judgement}
-use Rattle.authenticator.specs.declared.Kind.TheVariants.{Judged}
+use Rattle.authenticator.specs.Step.{Judged}
 use Rattle.authenticator.specs.declared.Phase.{Phase}
 use Rattle.authenticator.specs.declared.Phase.TheVariants.{Response, Change, Ended}
 use Rattle.authenticator.specs.declared.Reply.TheVariants.{Success, Failure}

@@ -23,7 +23,7 @@ use Rattle.packets.proofs.Writing.{taken}
 use Rattle.authenticator.specs.Conversation.{closed}
 use Rattle.authenticator.specs.Opening.{Opening, retries_of, spends, no_limit, too_many_retries, open_refusal, opened_issued, first_conversation, opening_packet, opened_by, opened, opened_buffer, OpenedAs}
 use Rattle.authenticator.specs.declared.Conversation.{Conversation}
-use Rattle.authenticator.specs.declared.Opened.{Opened}
+use Rattle.authenticator.specs.Opening.{Opened}
 use Rattle.authenticator.proofs.Spends.{challenges_wide, challenges_distinct}
 
 -- the answer's number is the refusal

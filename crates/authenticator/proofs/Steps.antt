@@ -41,7 +41,7 @@ use Rattle.authenticator.specs.Step.{
 }
 use Rattle.authenticator.specs.Steps.{StepInput, step_on, drew_reply, refusal_at}
 use Rattle.authenticator.specs.Steps.{reply_of}
-use Rattle.authenticator.specs.declared.Answer.{Answer}
+use Rattle.authenticator.specs.Step.{Answer}
 use Rattle.authenticator.specs.declared.Conversation.{Conversation}
 use Rattle.authenticator.specs.Judge.{Judgement}
 use Rattle.authenticator.specs.declared.Phase.{Phase}

@@ -1,5 +1,6 @@
 -- The terms, which the opening fixes: LM is off unless it was asked for, and no step changes them.
 -- Assumes nothing.
+use Rattle.std.specs.Prelude.{Option, Some, None}
 use mathlib.Core.Bool.{Bool, true, false, cond}
 use mathlib.Core.List.{List}
 use mathlib.Core.Logic.{◌≢◌}
@@ -25,8 +26,6 @@ use Rattle.authenticator.specs.Judge.{
 use Rattle.authenticator.specs.Step.{Outcome}
 use Rattle.authenticator.specs.Steps.{StepInput, step_on, next_after}
 use Rattle.authenticator.specs.declared.Conversation.{Conversation}
-use Rattle.authenticator.specs.declared.LmChoice.{LmChoice}
-use Rattle.authenticator.specs.declared.LmChoice.TheVariants.{Silent, Allowed, Disallowed}
 use Rattle.authenticator.specs.declared.Phase.{Phase}
 use Rattle.authenticator.specs.declared.Phase.TheVariants.{Response, Change, Ended}
 use Rattle.authenticator.proofs.Openings.{opened_either}
@@ -35,13 +34,13 @@ use Rattle.authenticator.proofs.Steps.{Case, refused, repeated, judged, case_of}
 -- ---- the opening
 
 -- silence is no
-not_asked : (l : LmChoice) → l ≢ Allowed → lm_allowed l ≡ false
-not_asked Silent h = refl
-not_asked Allowed h = absurd (h refl)
-not_asked Disallowed h = refl
+not_asked : (l : Option Bool) → l ≢ (Some true) → lm_allowed l ≡ false
+not_asked None h = refl
+not_asked (Some true) h = absurd (h refl)
+not_asked (Some false) h = refl
 
 -- in what an opening hands out, refused or not
-pub opened_off : (o : Opening) → o.lm ≢ Allowed → (opened o).conversation.terms.lm ≡ false
+pub opened_off : (o : Opening) → o.lm ≢ (Some true) → (opened o).conversation.terms.lm ≡ false
 opened_off o h =
     opened_either o (λ (c : Conversation). c.terms.lm ≡ false) (not_asked o.lm h) refl
 

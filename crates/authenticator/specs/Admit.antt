@@ -41,16 +41,21 @@ body_refusal v Response p = response_refusal p
 body_refusal v Change p = change_refusal_of v p
 body_refusal v Ended p = 0
 
+-- 1, then 4 to 7; 0: the packet is judged
+abbrev pub awaited_refusal : Conversation → List ℕ → ℕ
+awaited_refusal c p =
+    cond (is_ended c.phase) 1
+    (cond (bad_code c.terms.change c.phase p) 4
+    (cond (bad_id c.id p) 5
+    (body_refusal c.terms.change c.phase p)))
+
 -- "2 and 3 first, then the repeat, then 1, then 4 to 7"; 0: a repeat, or the packet is judged
 unfoldable pub refusal_for : Bool → Conversation → List ℕ → List ℕ → ℕ
 refusal_for repeated c p buffer =
     cond (bad_reply_buffer buffer) 2
     (cond (bad_frame p) 3
     (cond repeated 0
-    (cond (is_ended c.phase) 1
-    (cond (bad_code c.terms.change c.phase p) 4
-    (cond (bad_id c.id p) 5
-    (body_refusal c.terms.change c.phase p))))))
+    (awaited_refusal c p)))
 
 abbrev pub step_refusal : Conversation → List ℕ → List ℕ → ℕ
 step_refusal c p buffer = refusal_for (is_repeat c.last p) c p buffer

@@ -2,6 +2,7 @@
 -- request 2026-09), spends its challenge and its successors, which adds them to the list of issued
 -- challenges (request 2026-03), and writes the Challenge.
 -- Assumes nothing: these are definitions.
+use Rattle.std.specs.Prelude.{Option, Some, None, Result, Ok, Err}
 use Rattle.std.specs.Prelude.{Bool, true, false, cond, List, ◌≡◌, ℕ, suc, eqb, ltb, length}
 use Rattle.issued.specs.Issued.{Issued, spend_refusal, added}
 use Rattle.packets.specs.Frame.{written_over}
@@ -11,27 +12,19 @@ use Rattle.accounts.specs.Account.{blank_entry}
 use Rattle.verify.specs.declared.ChangeVersion.{ChangeVersion}
 use Rattle.verify.specs.declared.ChangeVersion.TheVariants.{One, Two}
 use Rattle.authenticator.specs.Conversation.{no_answer, closed}
-use Rattle.authenticator.specs.declared.Retries.{Retries}
-use Rattle.authenticator.specs.declared.Retries.TheVariants.{Default, Count}
-use Rattle.authenticator.specs.declared.LmChoice.{LmChoice}
-use Rattle.authenticator.specs.declared.LmChoice.TheVariants.{Silent, Allowed, Disallowed}
-use Rattle.authenticator.specs.declared.ChangeChoice.{ChangeChoice}
-use Rattle.authenticator.specs.declared.ChangeChoice.TheVariants.{
-  Unspecified,
-  VersionOne,
-  VersionTwo,
-}
 use Rattle.authenticator.specs.declared.Conversation.{Conversation}
 use Rattle.authenticator.specs.declared.Phase.TheVariants.{Response}
-use Rattle.authenticator.specs.declared.Opened.{Opened}
+use Rattle.refusals.specs.Refusal.{number}
+use Rattle.refusals.specs.declared.Refusal.{Refusal}
+use Rattle.authenticator.specs.declared.Started.{Started}
 
 -- what is passed to an opening
 pub record Opening : Type 0 where
   pub id : ℕ
   pub challenge : List ℕ
-  pub retries : Retries
-  pub lm : LmChoice
-  pub change : ChangeChoice
+  pub retries : Option ℕ
+  pub lm : Option Bool
+  pub change : Option ChangeVersion
   pub limit : ℕ
   pub issued : Issued
   pub buffer : List ℕ
@@ -43,22 +36,22 @@ default_retries = 2
 abbrev pub most_retries : ℕ
 most_retries = 7
 
-abbrev pub retries_of : Retries → ℕ
-retries_of Default = default_retries
-retries_of (Count r) = r
+abbrev pub retries_of : Option ℕ → ℕ
+retries_of None = default_retries
+retries_of (Some r) = r
 
 -- "An opening that is silent about LM now disallows it" (document 02, request 2026-06)
-abbrev pub lm_allowed : LmChoice → Bool
-lm_allowed Silent = false
-lm_allowed Allowed = true
-lm_allowed Disallowed = false
+abbrev pub lm_allowed : Option Bool → Bool
+lm_allowed None = false
+lm_allowed (Some true) = true
+lm_allowed (Some false) = false
 
 -- "A box opened for it .. awaits code 5 after 648" (document 02, request 2026-07); silence means
 -- version 2, document 01's change
-abbrev pub change_of : ChangeChoice → ChangeVersion
-change_of Unspecified = Two
-change_of VersionOne = One
-change_of VersionTwo = Two
+abbrev pub change_of : Option ChangeVersion → ChangeVersion
+change_of None = Two
+change_of (Some One) = One
+change_of (Some Two) = Two
 
 -- "the challenge and its r successors by the 23 rule"
 abbrev pub spends : Opening → List (List ℕ)
@@ -102,6 +95,22 @@ first_conversation o =
 abbrev pub opening_packet : Opening → List ℕ
 opening_packet o = challenge_packet o.id o.challenge
 
+-- What an opening answers: the number of the refusal (0 is none), the conversation (an ended one of
+-- fixed values beside a refusal), how many octets of the reply buffer the Challenge takes, and how
+-- many places of the list of issued challenges are used then.
+pub record Opened : Type 0 where
+  pub refusal : ℕ
+  pub conversation : Conversation
+  pub written : ℕ
+  pub used : ℕ
+
+-- where it refuses, as many places are used as before
+abbrev pub opened_as : Opening → Result Started Refusal → Opened
+opened_as o (Ok s) =
+    record { refusal = 0; conversation = s.conversation; written = s.written; used = s.used }
+opened_as o (Err r) =
+    record { refusal = number r; conversation = closed; written = 0; used = o.issued.used }
+
 -- the answer, by the refusal, and the reply buffer afterwards
 abbrev pub opened_by : ℕ → Opening → Opened
 opened_by n o =
@@ -122,7 +131,7 @@ opened_buffer o = cond (eqb (open_refusal o) 0) (written_over (opening_packet o)
     o.buffer
 
 -- what an opening answers (r), and leaves in the list and in the reply buffer
-pub record OpenedAs (o : Opening) (r : Opened) (issued : Issued) (buffer : List ℕ) : Type 0 where
-  pub answer : r ≡ opened o
+pub record OpenedAs (o : Opening) (r : Result Started Refusal) (issued : Issued) (buffer : List ℕ) : Type 0 where
+  pub answer : opened_as o r ≡ opened o
   pub list : issued ≡ opened_issued o
   pub reply : buffer ≡ opened_buffer o

@@ -2,7 +2,7 @@
 -- packet is refused, a repeat, or awaited (specs/Admit), an awaited one is judged (specs/Judge),
 -- and the reply is encoded (specs/Encode).
 -- Assumes nothing: these are definitions.
-use Rattle.std.specs.Prelude.{Option, None}
+use Rattle.std.specs.Prelude.{Option, None, Result, Ok, Err}
 use Rattle.std.specs.Prelude.{Bool, true, false, cond, ◌&&◌, List, ℕ, eqb, length}
 use Rattle.accounts.specs.Account.{not_found, lookup_of, with_schedules, account_of, entry_lookup_of}
 use Rattle.accounts.specs.declared.Account.{Account}
@@ -21,13 +21,39 @@ use Rattle.authenticator.specs.Conversation.{awaits_response, answer_with, with_
 use Rattle.authenticator.specs.Admit.{is_repeat, step_refusal}
 use Rattle.authenticator.specs.Judge.{Judgement, reason_of, judge}
 use Rattle.authenticator.specs.Encode.{reply_packet}
+use Rattle.refusals.specs.Refusal.{number}
+use Rattle.refusals.specs.declared.Refusal.{Refusal}
 use Rattle.authenticator.specs.declared.Conversation.{Conversation}
+use Rattle.authenticator.specs.declared.Drawn.{Drawn}
+use Rattle.authenticator.specs.declared.Drawn.TheVariants as drawn
+use Rattle.authenticator.specs.declared.Step.{Step}
+use Rattle.authenticator.specs.declared.EntryStep.{EntryStep}
 use Rattle.authenticator.specs.declared.Phase.{Phase}
 use Rattle.authenticator.specs.declared.Phase.TheVariants.{Response, Change, Ended}
-use Rattle.authenticator.specs.declared.Kind.{Kind}
-use Rattle.authenticator.specs.declared.Kind.TheVariants.{Refused, Repeated, Judged}
-use Rattle.authenticator.specs.declared.Answer.{Answer}
-use Rattle.authenticator.specs.declared.Stepped.{Stepped}
+
+-- A step's packet is refused with a number; or it repeats the packet last answered and draws the
+-- same reply, whose reason is here; or it is judged with a reason (0 is Success).
+pub data Kind : Type 0 where
+  Refused : ℕ → Kind
+  Repeated : ℕ → Kind
+  Judged : ℕ → Kind
+
+-- What a step answers: the kind, beside a change that was judged and not accepted what is wrong with
+-- it, the next conversation, how many octets of the reply buffer the reply takes, and the record
+-- that is handed out; and the same without the round keys of the record.
+pub record Answer : Type 0 where
+  pub kind : Kind
+  pub fault : Option ChangeFault
+  pub next : Conversation
+  pub written : ℕ
+  pub updated : Lookup
+
+pub record Stepped : Type 0 where
+  pub kind : Kind
+  pub fault : Option ChangeFault
+  pub next : Conversation
+  pub written : ℕ
+  pub updated : EntryLookup
 
 -- document 01's refusal number of an answer (0 is none); the reason that its reply gives (0 is
 -- Success, and none beside a refusal); and whether the reply is the last one again
@@ -165,3 +191,33 @@ handed_out back passed u =
     lookup_of u.found
     (cond back (with_schedules u.entry passed.nt_keys passed.lm_keys)
     (account_of u.entry))
+
+-- ---- what the code answers
+
+-- what a packet draws that is not refused
+abbrev pub kind_of : Drawn → Kind
+kind_of (drawn.Repeated e) = Repeated e
+kind_of (drawn.Judged e) = Judged e
+
+-- the answer of a step from c: where it refuses, all stays as it was
+abbrev pub answer_as : Conversation → Result Step Refusal → Answer
+answer_as c (Ok s) =
+    record {
+      kind = kind_of s.drawn;
+      fault = s.fault;
+      next = s.next;
+      written = s.written;
+      updated = s.updated;
+    }
+answer_as c (Err r) = unjudged (Refused (number r)) c 0
+
+abbrev pub stepped_as : Conversation → Result EntryStep Refusal → Stepped
+stepped_as c (Ok s) =
+    record {
+      kind = kind_of s.drawn;
+      fault = s.fault;
+      next = s.next;
+      written = s.written;
+      updated = s.updated;
+    }
+stepped_as c (Err r) = stepped_of (unjudged (Refused (number r)) c 0)

@@ -1,14 +1,14 @@
 // The first part of a step: whether a packet repeats the one last answered, and whether the
-// conversation takes it or with which number it refuses it.
+// conversation takes it or why it is refused.
 ghost use Rattle.std.specs.Prelude.{◌≡◌};
-ghost use Rattle.packets.specs.Frame.{bad_id};
+ghost use Rattle.refusals.specs.Refusal.{told};
 ghost use Rattle.authenticator.specs.Conversation.{change_code_of, awaited_code};
-ghost use Rattle.authenticator.specs.Conversation.{awaits_response, is_ended};
+ghost use Rattle.authenticator.specs.Conversation.{awaits_response};
 ghost use Rattle.authenticator.specs.Admit.{is_repeat, bad_code, change_refusal_of};
-ghost use Rattle.authenticator.specs.Admit.{body_refusal, refusal_for};
+ghost use Rattle.authenticator.specs.Admit.{body_refusal, awaited_refusal, refusal_for};
 
 use crate::{Conversation, LastAnswer, Phase};
-use refusals::refuse_if;
+use refusals::Refusal;
 use verify::ChangeVersion;
 
 // The code of a version's change.
@@ -21,7 +21,8 @@ fn change_code(change: ChangeVersion) -> u8
     }
 }
 
-// The code of the packet that a phase awaits; 0 is none.
+// The code of the packet that a phase awaits; 0 is none. (A number and not an `Option`: C keeps the
+// phase by this octet, layouts `encode_state`.)
 pub fn awaited_code(change: ChangeVersion, phase: Phase) -> u8
     ensures { result ≡ awaited_code change phase }
 {
@@ -46,18 +47,7 @@ pub(crate) fn awaits_response(phase: Phase) -> bool
 {
     match phase {
         Phase::Response => true,
-        Phase::Change => false,
-        Phase::Ended => false,
-    }
-}
-
-fn is_ended(phase: Phase) -> bool
-    ensures { result ≡ is_ended phase }
-{
-    match phase {
-        Phase::Response => false,
-        Phase::Change => false,
-        Phase::Ended => true,
+        Phase::Change | Phase::Ended => false,
     }
 }
 
@@ -67,40 +57,62 @@ fn is_bad_code(change: ChangeVersion, phase: Phase, packet: &[u8]) -> bool
     packets::octet(packet, 0) != awaited_code(change, phase)
 }
 
-fn change_refusal(change: ChangeVersion, packet: &[u8]) -> u8
-    ensures { result ≡ change_refusal_of change packet.now }
+fn admit_change(change: ChangeVersion, packet: &[u8]) -> Result<(), Refusal>
+    ensures { told result ≡ change_refusal_of change packet.now }
 {
     match change {
-        ChangeVersion::One => packets::change_one_refusal(packet),
-        ChangeVersion::Two => packets::change_refusal(packet),
+        ChangeVersion::One => packets::admit_change_one(packet),
+        ChangeVersion::Two => packets::admit_change(packet),
     }
 }
 
-fn body_refusal(change: ChangeVersion, phase: Phase, packet: &[u8]) -> u8
-    ensures { result ≡ body_refusal change phase packet.now }
+fn admit_body(change: ChangeVersion, phase: Phase, packet: &[u8]) -> Result<(), Refusal>
+    ensures { told result ≡ body_refusal change phase packet.now }
 {
     match phase {
-        Phase::Response => packets::response_refusal(packet),
-        Phase::Change => change_refusal(change, packet),
-        Phase::Ended => 0,
+        Phase::Response => packets::admit_response(packet),
+        Phase::Change => admit_change(change, packet),
+        Phase::Ended => Ok(()),
     }
 }
 
 impl Conversation {
-    // The refusals 2 and 3, then none for a repeat, then 1, then 4 to 7; 0 is none.
-    pub(crate) fn refusal(self, repeated: bool, packet: &[u8], reply: &[u8]) -> u8
-        ensures { result
-            ≡ refusal_for repeated self packet.now reply.now }
+    // A packet that is awaited: the refusals 1, then 4 to 7.
+    fn admit_awaited(self, packet: &[u8]) -> Result<(), Refusal>
+        ensures { told result ≡ awaited_refusal self packet.now }
     {
-        let terms = self.terms;
-        let change = terms.change;
+        let change = self.terms.change;
         let phase = self.phase;
-        let body = body_refusal(change, phase, packet);
-        let id = refuse_if(packets::is_bad_id(self.id, packet), 5, body);
-        let code = refuse_if(is_bad_code(change, phase, packet), 4, id);
-        let ended = refuse_if(is_ended(phase), 1, code);
-        let again = refuse_if(repeated, 0, ended);
-        let frame = refuse_if(packets::is_bad_frame(packet), 3, again);
-        refuse_if(packets::is_bad_reply_buffer(reply), 2, frame)
+        if let Phase::Ended = phase {
+            return Err(Refusal::Ended);
+        }
+        if is_bad_code(change, phase, packet) {
+            return Err(Refusal::Code);
+        }
+        if packets::is_bad_id(self.id, packet) {
+            return Err(Refusal::Identifier);
+        }
+        admit_body(change, phase, packet)
+    }
+
+    // The refusals 2 and 3, then none for a repeat, then 1, then 4 to 7.
+    pub(crate) fn admit(
+        self,
+        repeated: bool,
+        packet: &[u8],
+        reply: &[u8],
+    ) -> Result<(), Refusal>
+        ensures { told result ≡ refusal_for repeated self packet.now reply.now }
+    {
+        if packets::is_bad_reply_buffer(reply) {
+            return Err(Refusal::ReplyBuffer);
+        }
+        if packets::is_bad_frame(packet) {
+            return Err(Refusal::Frame);
+        }
+        if repeated {
+            return Ok(());
+        }
+        self.admit_awaited(packet)
     }
 }

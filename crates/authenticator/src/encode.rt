@@ -12,10 +12,7 @@ use verify::{ChangeVersion, Terms};
 pub fn version(change: ChangeVersion) -> u8
     ensures { result ≡ version change }
 {
-    match change {
-        ChangeVersion::One => 1,
-        ChangeVersion::Two => 2,
-    }
+    change as u8
 }
 
 // The reason that a reply gives; 0 is Success.
@@ -24,14 +21,14 @@ pub fn reason_of(reply: Reply) -> u16
 {
     match reply {
         Reply::Success => reasons::NO_REASON,
-        Reply::Failure(reason, retry) => reason,
+        Reply::Failure(reason, _) => reason,
     }
 }
 
 fn retry_digit(retry: bool) -> u8
     ensures { result ≡ retry_digit retry }
 {
-    if retry { 1 } else { 0 }
+    u8::from(retry)
 }
 
 // Writes a reply to the packet with an identifier, and answers how many octets it takes.
@@ -39,8 +36,7 @@ pub(crate) fn write_reply(terms: Terms, id: u8, reply: Reply, out: &mut [u8]) ->
     ensures { (result ≡ written_length (reply_packet terms id reply) out.old)
         × (out.new ≡ written_over (reply_packet terms id reply) out.old) }
 {
-    let change = terms.change;
-    let v = version(change);
+    let v = version(terms.change);
     match reply {
         Reply::Success => packets::write_success(id, out),
         Reply::Failure(reason, retry) => {

@@ -3,6 +3,7 @@
 // found out by `verify`.
 ghost use Rattle.std.specs.Prelude.{◌≡◌};
 ghost use Rattle.packets.specs.Response.{read_response};
+ghost use Rattle.verify.specs.Change.{checked_as};
 ghost use Rattle.authenticator.specs.Judge.{
   may_retry,
   reply_for,
@@ -19,7 +20,7 @@ ghost use Rattle.verify.specs.Response.{carrying_lookup};
 use crate::{Conversation, Phase, Reply, Verdict};
 use accounts::{Entry, EntryLookup, changed_entry, no_entry};
 use message::reasons;
-use verify::{ChangeFault, ChangeVersion, CheckedChange, is_faultless};
+use verify::{ChangeFault, ChangeVersion, NewHashes};
 
 impl Conversation {
     fn may_retry(self, reason: u16) -> bool
@@ -57,35 +58,31 @@ impl Conversation {
             (carrying_lookup lookup (stored_in keys.now))
             (read_response packet.now)) }
     {
-        let terms = self.terms;
-        let challenge = self.challenge;
         let fields = packets::read_response(packet);
-        let checked = verify::check_response(terms, challenge, lookup, keys, fields);
+        let checked =
+            verify::check_response(self.terms, self.challenge, lookup, keys, fields);
         let reason = checked.reason;
         let updated = checked.updated;
-        let entry = updated.entry;
         let reply = self.reply_for(reason);
-        let next = self.after(entry, reason);
+        let next = self.after(updated.entry, reason);
         Verdict {
             reply,
-            fault: ChangeFault::NoFault,
+            fault: None,
             next,
             updated,
         }
     }
 
     // What is found of the change that the terms name.
-    fn checked(self, packet: &[u8]) -> CheckedChange
-        ensures { result ≡ checked_for self.terms.change self packet.now }
+    fn checked(self, packet: &[u8]) -> Result<NewHashes, ChangeFault>
+        ensures { checked_as result ≡ checked_for self.terms.change self packet.now }
     {
-        let terms = self.terms;
-        let challenge = self.challenge;
         let kept = self.kept;
-        let change = terms.change;
-        match change {
+        let challenge = self.challenge;
+        match self.terms.change {
             ChangeVersion::One => {
                 let fields = packets::read_change_one(packet);
-                verify::check_change_one(terms, kept, challenge, fields)
+                verify::check_change_one(self.terms, kept, challenge, fields)
             }
             ChangeVersion::Two => {
                 let fields = packets::read_change(packet);
@@ -98,27 +95,26 @@ impl Conversation {
     fn change(self, packet: &[u8]) -> Verdict
         ensures { result ≡ verdict_of (judge_change self packet.now) }
     {
-        let kept = self.kept;
-        let checked = self.checked(packet);
-        let fault = checked.fault;
-        let nt = checked.nt;
-        let lm = checked.lm;
         let next = self.to_end();
-        if is_faultless(fault) {
-            let entry = changed_entry(kept, nt, lm);
-            return Verdict {
-                reply: Reply::Success,
-                fault,
-                next,
-                updated: EntryLookup { found: true, entry },
-            };
-        }
-        let updated = no_entry();
-        Verdict {
-            reply: Reply::Failure(reasons::CHANGING_PASSWORD, false),
-            fault,
-            next,
-            updated,
+        match self.checked(packet) {
+            Ok(hashes) => {
+                let entry = changed_entry(self.kept, hashes.nt, hashes.lm);
+                Verdict {
+                    reply: Reply::Success,
+                    fault: None,
+                    next,
+                    updated: EntryLookup { found: true, entry },
+                }
+            }
+            Err(fault) => {
+                let updated = no_entry();
+                Verdict {
+                    reply: Reply::Failure(reasons::CHANGING_PASSWORD, false),
+                    fault: Some(fault),
+                    next,
+                    updated,
+                }
+            }
         }
     }
 
@@ -127,15 +123,14 @@ impl Conversation {
         ensures { result ≡ verdict_of (judge self packet.now
             (carrying_lookup lookup (stored_in keys.now))) }
     {
-        let phase = self.phase;
-        match phase {
+        match self.phase {
             Phase::Response => self.response(packet, lookup, keys),
             Phase::Change => self.change(packet),
             Phase::Ended => {
                 let updated = no_entry();
                 Verdict {
                     reply: Reply::Success,
-                    fault: ChangeFault::NoFault,
+                    fault: None,
                     next: self,
                     updated,
                 }

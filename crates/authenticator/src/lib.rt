@@ -12,9 +12,10 @@ mod successors;
 ghost use Rattle.std.specs.Prelude.{◌≡◌, ◌≤◌, length};
 ghost use Rattle.packets.specs.Reply.{longest_reply};
 ghost use Rattle.authenticator.specs.Admit.{step_refusal};
-ghost use Rattle.authenticator.specs.Step.{refusal_in, reason_in, is_repeated};
+ghost use Rattle.refusals.specs.Refusal.{told};
+ghost use Rattle.authenticator.specs.Step.{reason_in, is_repeated};
 ghost use Rattle.authenticator.specs.Step.{step_reason, step_repeats, step_fault};
-ghost use Rattle.authenticator.specs.Step.{repeated_as, step};
+ghost use Rattle.authenticator.specs.Step.{repeated_as, step, kind_of, answer_as, stepped_as};
 ghost use Rattle.authenticator.specs.Step.{stepped_of, hands_back, handed_out};
 ghost use Rattle.packets.specs.Response.{read_response};
 ghost use Rattle.accounts.specs.Account.{stored_in};
@@ -29,7 +30,8 @@ pub use admit::awaited_code;
 use admit::{awaits_response, is_repeat};
 use encode::write_reply;
 pub use encode::{reason_of, version};
-use verify::{ChangeFault, Terms, uses_nt};
+use refusals::Refusal;
+use verify::{ChangeFault, ChangeVersion, Terms, uses_nt};
 
 // What a conversation awaits.
 #[derive(Clone, Copy)]
@@ -40,7 +42,9 @@ pub enum Phase {
 }
 
 // What was answered last: the code and the identifier of the packet, and the reply. Before the
-// first answer none is present, and the rest has no effect.
+// first answer none is present, and the rest has no effect. (A flag and not an `Option`: C keeps a
+// conversation in 61 bytes, and those behind the flag are handed back as they came: layouts
+// `is_encoded_conversation`. Nor are reasons an enum: any number may stand there.)
 #[derive(Clone, Copy)]
 pub struct LastAnswer {
     pub present: bool,
@@ -64,36 +68,24 @@ pub struct Conversation {
     pub last: LastAnswer,
 }
 
-// What an opening says of the retries, or leaves silent.
+// What an opening is asked for: the identifier and the challenge of its Challenge, and what it says
+// of the retries (silence is 2), of LM (silence disallows it) and of the change that is awaited after
+// an expired password (silence is version 2's), and with how many invalid Responses in a row an
+// account is locked.
 #[derive(Clone, Copy)]
-pub enum Retries {
-    Default,
-    Count(u8),
+pub struct Settings {
+    pub id: u8,
+    pub challenge: [u8; 8],
+    pub retries: Option<u8>,
+    pub lm: Option<bool>,
+    pub change: Option<ChangeVersion>,
+    pub limit: u8,
 }
 
-// What an opening says of LM; one that is silent disallows it.
+// What an opening answers: the conversation, how many octets of the reply buffer the Challenge
+// takes, and how many places of the list of issued challenges are used then.
 #[derive(Clone, Copy)]
-pub enum LmChoice {
-    Silent,
-    Allowed,
-    Disallowed,
-}
-
-// What an opening says of the change that is awaited after an expired password; one that says
-// nothing awaits version 2's.
-#[derive(Clone, Copy)]
-pub enum ChangeChoice {
-    Unspecified,
-    VersionOne,
-    VersionTwo,
-}
-
-// What an opening answers: the refusal (0 is none), the conversation (an ended one of fixed values
-// beside a refusal), how many octets of the reply buffer the Challenge takes, and how many places
-// of the list of issued challenges are used then.
-#[derive(Clone, Copy)]
-pub struct Opened {
-    pub refusal: u8,
+pub struct Started {
     pub conversation: Conversation,
     pub written: usize,
     pub used: usize,
@@ -112,28 +104,27 @@ pub enum Reply {
 #[derive(Clone, Copy)]
 pub struct Verdict {
     pub reply: Reply,
-    pub fault: ChangeFault,
+    pub fault: Option<ChangeFault>,
     pub next: Conversation,
     pub updated: EntryLookup,
 }
 
-// A step's packet was refused with a number; or it repeats the packet last answered and draws the
-// same reply, whose reason is here; or it was judged with a reason (0 is Success).
+// What a packet draws that is not refused: it repeats the packet last answered and draws the same
+// reply, whose reason is here; or it was judged with a reason (0 is Success).
 #[derive(Clone, Copy)]
-pub enum Kind {
-    Refused(u8),
+pub enum Drawn {
     Repeated(u16),
     Judged(u16),
 }
 
-// What a step answers: the kind, beside a change that was judged and not accepted what is wrong
-// with it (else NoFault), the next conversation, how many octets of the reply buffer the reply
-// takes, and the record that is handed out, to be passed with the next packet of that account. The
-// peer is told nothing of the fault, nor of the record.
+// What a step answers: what the packet drew, what is wrong with a change that was judged and not
+// accepted, the next conversation, how many octets of the reply buffer the reply takes, and the
+// record that is handed out, to be passed with the next packet of that account. The peer is told
+// nothing of the fault, nor of the record.
 #[derive(Clone, Copy)]
-pub struct Answer {
-    pub kind: Kind,
-    pub fault: ChangeFault,
+pub struct Step {
+    pub drawn: Drawn,
+    pub fault: Option<ChangeFault>,
     pub next: Conversation,
     pub written: usize,
     pub updated: Lookup,
@@ -142,23 +133,22 @@ pub struct Answer {
 // The same without the round keys of the record. They are long: so the parts of a step that do not
 // read them do not hand them on.
 #[derive(Clone, Copy)]
-pub struct Stepped {
-    pub kind: Kind,
-    pub fault: ChangeFault,
+pub struct EntryStep {
+    pub drawn: Drawn,
+    pub fault: Option<ChangeFault>,
     pub next: Conversation,
     pub written: usize,
     pub updated: EntryLookup,
 }
 
 // Whether the record that a step hands out is the one that was passed, but for its count, by what
-// was awaited and the kind of the answer: then it has the round keys that it was passed with.
-pub fn hands_back(phase: Phase, kind: Kind) -> bool
-    ensures { result ≡ hands_back phase kind }
+// was awaited and what the packet drew: then it has the round keys that it was passed with.
+pub fn hands_back(phase: Phase, drawn: Drawn) -> bool
+    ensures { result ≡ hands_back phase (kind_of drawn) }
 {
-    match kind {
-        Kind::Refused(_) => false,
-        Kind::Repeated(_) => false,
-        Kind::Judged(_) => awaits_response(phase),
+    match drawn {
+        Drawn::Repeated(_) => false,
+        Drawn::Judged(_) => awaits_response(phase),
     }
 }
 
@@ -166,13 +156,10 @@ pub fn hands_back(phase: Phase, kind: Kind) -> bool
 fn judging_keys(account: Account, packet: &[u8]) -> Schedules
     ensures { result ≡ judging_keys account (read_response packet.now) }
 {
-    let nt = account.nt;
-    let nt_keys = account.nt_keys;
-    let lm_keys = account.lm_keys;
-    if uses_nt(packets::octet(packet, packets::FLAG_OFFSET), nt) {
-        return nt_keys;
+    if uses_nt(packets::octet(packet, packets::FLAG_OFFSET), account.nt) {
+        return account.nt_keys;
     }
-    lm_keys
+    account.lm_keys
 }
 
 // The record that is handed out: with the round keys that it was passed with, or with those of its
@@ -182,43 +169,39 @@ fn handed_out(back: bool, passed: Account, updated: EntryLookup) -> Lookup
 {
     let entry = updated.entry;
     if back {
-        let nt_keys = passed.nt_keys;
-        let lm_keys = passed.lm_keys;
-        return lookup_of(updated.found, with_schedules(entry, nt_keys, lm_keys));
+        let account = with_schedules(entry, passed.nt_keys, passed.lm_keys);
+        return lookup_of(updated.found, account);
     }
     lookup_of(updated.found, account_of(entry))
 }
 
 impl Conversation {
     // The last answer again.
-    fn repeat(self, reply: &mut [u8]) -> Stepped
+    fn repeat(self, reply: &mut [u8]) -> EntryStep
         requires { longest_reply ≤ length reply.old }
-        ensures { (result ≡ stepped_of (repeated_as self reply.old).answer)
+        ensures { (stepped_as self (Ok result) ≡ stepped_of (repeated_as self reply.old).answer)
             × (reply.new ≡ (repeated_as self reply.old).buffer) }
     {
-        let terms = self.terms;
-        let last = self.last;
-        let value = last.reply;
-        let written = write_reply(terms, last.id, value, reply);
+        let value = self.last.reply;
+        let written = write_reply(self.terms, self.last.id, value, reply);
         let reason = reason_of(value);
         let updated = no_entry();
-        Stepped {
-            kind: Kind::Repeated(reason),
-            fault: ChangeFault::NoFault,
+        EntryStep {
+            drawn: Drawn::Repeated(reason),
+            fault: None,
             next: self,
             written,
             updated,
         }
     }
 
-    // The refusal of a packet; 0 is none. Whoever asks first need not get the round keys ready for a
-    // packet that is refused.
-    pub fn refusal_of(self, packet: &[u8], reply: &[u8]) -> u8
-        ensures { result ≡ step_refusal self packet.now reply.now }
+    // Whether a packet is refused. Whoever asks first need not get the round keys ready for a packet
+    // that is.
+    pub fn admits(self, packet: &[u8], reply: &[u8]) -> Result<(), Refusal>
+        ensures { told result ≡ step_refusal self packet.now reply.now }
     {
-        let last = self.last;
-        let repeated = is_repeat(last, packet);
-        self.refusal(repeated, packet, reply)
+        let repeated = is_repeat(self.last, packet);
+        self.admit(repeated, packet, reply)
     }
 
     // One step, by an entry and the round keys beside the hash that counts for the packet: those of
@@ -230,79 +213,59 @@ impl Conversation {
         lookup: EntryLookup,
         keys: &[u8],
         reply: &mut [u8],
-    ) -> Stepped
-        ensures { (result ≡ stepped_of (step self packet.now
+    ) -> Result<EntryStep, Refusal>
+        ensures { (stepped_as self result ≡ stepped_of (step self packet.now
             (carrying_lookup lookup (stored_in keys.now)) reply.old).answer)
             × (reply.new ≡ (step self packet.now
             (carrying_lookup lookup (stored_in keys.now)) reply.old
             ).buffer) }
     {
-        let last = self.last;
-        let repeated = is_repeat(last, packet);
-        let refusal = self.refusal(repeated, packet, reply);
-        if refusal != 0 {
-            let updated = no_entry();
-            return Stepped {
-                kind: Kind::Refused(refusal),
-                fault: ChangeFault::NoFault,
-                next: self,
-                written: 0,
-                updated,
-            };
-        }
+        let repeated = is_repeat(self.last, packet);
+        self.admit(repeated, packet, reply)?;
         if repeated {
-            return self.repeat(reply);
+            return Ok(self.repeat(reply));
         }
         let judged = self.judge(packet, lookup, keys);
         let value = judged.reply;
-        let terms = self.terms;
-        let written = write_reply(terms, self.id, value, reply);
+        let written = write_reply(self.terms, self.id, value, reply);
         let reason = reason_of(value);
         let answer = self.answer_with(value);
         let next = judged.next.with_last(answer);
-        let fault = judged.fault;
-        let updated = judged.updated;
-        Stepped {
-            kind: Kind::Judged(reason),
-            fault,
+        Ok(EntryStep {
+            drawn: Drawn::Judged(reason),
+            fault: judged.fault,
             next,
             written,
-            updated,
-        }
+            updated: judged.updated,
+        })
     }
 
     // One step: a packet is refused, and conversation and buffer stay as they were; or it repeats
     // the one last answered, draws the same reply, and the conversation stays as it was, whatever
     // record is passed; or it is judged and draws a reply.
-    pub fn step(self, packet: &[u8], lookup: Lookup, reply: &mut [u8]) -> Answer
-        ensures { (result ≡ (step self packet.now lookup reply.old).answer)
+    pub fn step(self, packet: &[u8], lookup: Lookup, reply: &mut [u8]) -> Result<Step, Refusal>
+        ensures { (answer_as self result ≡ (step self packet.now lookup reply.old).answer)
             × (reply.new
             ≡ (step self packet.now lookup reply.old).buffer)
-            × (refusal_in result.kind ≡ step_refusal self packet.now reply.old)
-            × (reason_in result.kind
+            × (told result ≡ step_refusal self packet.now reply.old)
+            × (reason_in (answer_as self result).kind
             ≡ step_reason self packet.now lookup reply.old)
-            × (is_repeated result.kind
+            × (is_repeated (answer_as self result).kind
             ≡ step_repeats self packet.now reply.old)
-            × (fault_number result.fault
+            × (fault_number (answer_as self result).fault
             ≡ step_fault self packet.now reply.old) }
     {
-        let phase = self.phase;
-        let account = lookup.account;
-        let schedules = judging_keys(account, packet);
-        let numbers = schedules.keys;
-        let keys = credentials::key_octets(numbers);
-        let stepped = self.step_by(packet, entry_lookup_of(lookup), &keys, reply);
-        let kind = stepped.kind;
-        let fault = stepped.fault;
-        let next = stepped.next;
-        let entry = stepped.updated;
-        let updated = handed_out(hands_back(phase, kind), account, entry);
-        Answer {
-            kind,
-            fault,
-            next,
+        let schedules = judging_keys(lookup.account, packet);
+        let keys = credentials::key_octets(schedules.keys);
+        let stepped = self.step_by(packet, entry_lookup_of(lookup), &keys, reply)?;
+        let back = hands_back(self.phase, stepped.drawn);
+        let updated = handed_out(back, lookup.account, stepped.updated);
+        Ok(Step {
+            drawn: stepped.drawn,
+            fault: stepped.fault,
+            next: stepped.next,
             written: stepped.written,
             updated,
-        }
+        })
     }
 }

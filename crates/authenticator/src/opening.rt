@@ -1,90 +1,81 @@
 // The opening of a conversation.
-ghost use Rattle.std.specs.Prelude.{◌≡◌, cond, eqb, ltb, suc, ◌≤◌};
-ghost use Rattle.packets.specs.Reply.{bad_reply_buffer};
+ghost use Rattle.std.specs.Prelude.{◌≡◌, suc, ◌≤◌};
+ghost use Rattle.refusals.specs.Refusal.{told};
 ghost use Rattle.issued.specs.Issued.{spend_refusal, spent};
 ghost use Rattle.challenges.specs.Challenges.{challenges_from};
-ghost use Rattle.authenticator.specs.Conversation.{closed};
-ghost use Rattle.authenticator.specs.Opening.{most_retries, retries_of, lm_allowed};
-ghost use Rattle.authenticator.specs.Opening.{change_of, OpenedAs};
+ghost use Rattle.authenticator.specs.Opening.{retries_of, lm_allowed, change_of};
+ghost use Rattle.authenticator.specs.Opening.{first_conversation, OpenedAs};
+ghost use Rattle.authenticator.specs.Inner.{opening_with, IsSpent};
 
-use crate::successors::{closed_conversation, no_answer};
-use crate::{ChangeChoice, Conversation, LmChoice, Opened, Phase, Retries};
+use crate::successors::no_answer;
+use crate::{Conversation, Phase, Settings, Started};
 use accounts::blank_entry;
-use issued::Spent;
-use refusals::refuse_if;
+use refusals::Refusal;
 use verify::{ChangeVersion, Terms};
 
 const DEFAULT_RETRIES: u8 = 2;
 
 const MOST_RETRIES: u8 = 7;
 
-fn retries_of(retries: Retries) -> u8
-    ensures { result ≡ retries_of retries }
-{
-    match retries {
-        Retries::Default => DEFAULT_RETRIES,
-        Retries::Count(r) => r,
+impl Settings {
+    fn retries(self) -> u8
+        ensures { result ≡ retries_of self.retries }
+    {
+        self.retries.unwrap_or(DEFAULT_RETRIES)
+    }
+
+    fn allows_lm(self) -> bool
+        ensures { result ≡ lm_allowed self.lm }
+    {
+        self.lm.unwrap_or(false)
+    }
+
+    fn awaited_change(self) -> ChangeVersion
+        ensures { result ≡ change_of self.change }
+    {
+        self.change.unwrap_or(ChangeVersion::Two)
+    }
+
+    // The conversation that they open.
+    fn conversation(self) -> Conversation
+        ensures { result ≡ first_conversation (opening_with self) }
+    {
+        let challenge = self.challenge;
+        let kept = blank_entry();
+        let last = no_answer();
+        Conversation {
+            terms: Terms {
+                lm: self.allows_lm(),
+                limit: self.limit,
+                change: self.awaited_change(),
+            },
+            id: self.id,
+            challenge,
+            retries: self.retries(),
+            phase: Phase::Response,
+            kept,
+            last,
+        }
     }
 }
 
-fn is_lm_allowed(lm: LmChoice) -> bool
-    ensures { result ≡ lm_allowed lm }
-{
-    match lm {
-        LmChoice::Silent => false,
-        LmChoice::Allowed => true,
-        LmChoice::Disallowed => false,
-    }
-}
-
-fn change_of(change: ChangeChoice) -> ChangeVersion
-    ensures { result ≡ change_of change }
-{
-    match change {
-        ChangeChoice::Unspecified => ChangeVersion::Two,
-        ChangeChoice::VersionOne => ChangeVersion::One,
-        ChangeChoice::VersionTwo => ChangeVersion::Two,
-    }
-}
-
-// 18, then 13, then 2; 0 is none.
-fn argument_refusal(limit: u8, r: u8, reply: &[u8]) -> u8
-    ensures { result ≡ cond (eqb limit 0) 18
-        (cond (ltb most_retries r) 13 (cond (bad_reply_buffer reply.now) 2 0)) }
-{
-    let buffer = refuse_if(packets::is_bad_reply_buffer(reply), 2, 0);
-    let retries = refuse_if(MOST_RETRIES < r, 13, buffer);
-    refuse_if(limit == 0, 18, retries)
-}
-
-fn refused_opening(refusal: u8, used: usize) -> Opened
-    ensures { result ≡ record {
-      refusal = refusal;
-      conversation = closed;
-      written = 0;
-      used = used;
-    } }
-{
-    let conversation = closed_conversation();
-    Opened {
-        refusal,
-        conversation,
-        written: 0,
-        used,
-    }
-}
-
-// Spends the challenge and its r successors: refusals 24, 16 and 17.
-fn spend(challenge: [u8; 8], r: u8, list: &mut [u8], used: usize, counts: &mut [u16]) -> Spent
+// Spends the challenge and its r successors: how many places are used then. Refusals 24, 16 and 17.
+fn spend(
+    challenge: [u8; 8],
+    r: u8,
+    list: &mut [u8],
+    used: usize,
+    counts: &mut [u16],
+) -> Result<usize, Refusal>
     requires { r ≤ 7 }
-    ensures { (result.refusal ≡ spend_refusal 8 (challenges_from (suc r) challenge)
-        (record { buffer = list.old; used = used; counts = counts.old }))
-        × (record { buffer = list.new; used = result.used; counts = counts.new }
-        ≡ spent 8 (challenges_from (suc r) challenge)
+    ensures number { told result ≡ spend_refusal 8 (challenges_from (suc r) challenge)
+        (record { buffer = list.old; used = used; counts = counts.old }) }
+    ensures list { IsSpent used result list.new counts.new
+        (spent 8 (challenges_from (suc r) challenge)
         (record { buffer = list.old; used = used; counts = counts.old })) }
 {
     let run = challenges::challenges_from(challenge);
-    let n = 8 * (r as usize + 1);
+    let n = 8 * (usize::from(r) + 1);
     issued::spend(list, used, counts, 8, octets::part_of(&run, 0, n))
 }
 
@@ -92,29 +83,23 @@ impl Conversation {
     // Opens a conversation: spends its challenge and r successors, which adds them to the list of
     // issued challenges, and writes its Challenge. The list is what stands in the first used places
     // of the buffer list, 8 octets each, and counts are how many of them end in each octet. An
-    // account with limit failures or more is locked; change says which change is awaited after an
-    // expired password. Refusals, which leave all as it was, in this
+    // account with limit failures or more is locked. Refusals, which leave all as it was, in this
     // order: 18 (limit 0), 13 (r over 7), 2 (reply under 17 octets), 24 (a bad list), 16 (one of
     // them was issued before), 17 (too few places are left).
     pub fn open(
-        id: u8,
-        challenge: [u8; 8],
-        retries: Retries,
-        lm: LmChoice,
-        change: ChangeChoice,
-        limit: u8,
+        settings: Settings,
         list: &mut [u8],
         used: usize,
         counts: &mut [u16],
         reply: &mut [u8],
-    ) -> Opened
+    ) -> Result<Started, Refusal>
         ensures { OpenedAs (record {
-          id = id;
-          challenge = challenge;
-          retries = retries;
-          lm = lm;
-          change = change;
-          limit = limit;
+          id = settings.id;
+          challenge = settings.challenge;
+          retries = settings.retries;
+          lm = settings.lm;
+          change = settings.change;
+          limit = settings.limit;
           issued = record {
             buffer = list.old;
             used = used;
@@ -122,36 +107,26 @@ impl Conversation {
           };
           buffer = reply.old;
         }) result
-            (record { buffer = list.new; used = result.used; counts = counts.new })
+            (record { buffer = list.new; used = used_after used result; counts = counts.new })
             reply.new }
     {
-        let r = retries_of(retries);
-        let refusal = argument_refusal(limit, r, reply);
-        if refusal != 0 {
-            return refused_opening(refusal, used);
+        let r = settings.retries();
+        if settings.limit == 0 {
+            return Err(Refusal::Limit);
         }
-        let spent = spend(challenge, r, list, used, counts);
-        if spent.refusal != 0 {
-            return refused_opening(spent.refusal, used);
+        if MOST_RETRIES < r {
+            return Err(Refusal::Retries);
         }
-        let written = packets::write_challenge(id, challenge, reply);
-        let kept = blank_entry();
-        let last = no_answer();
-        let lm = is_lm_allowed(lm);
-        let change = change_of(change);
-        Opened {
-            refusal: 0,
-            conversation: Conversation {
-                terms: Terms { lm, limit, change },
-                id,
-                challenge,
-                retries: r,
-                phase: Phase::Response,
-                kept,
-                last,
-            },
+        if packets::is_bad_reply_buffer(reply) {
+            return Err(Refusal::ReplyBuffer);
+        }
+        let used = spend(settings.challenge, r, list, used, counts)?;
+        let written = packets::write_challenge(settings.id, settings.challenge, reply);
+        let conversation = settings.conversation();
+        Ok(Started {
+            conversation,
             written,
-            used: spent.used,
-        }
+            used,
+        })
     }
 }

@@ -1,6 +1,6 @@
 // The conversations that a step can lead to. Every successor is made in one place and keeps the
 // terms; the step then puts the answer there that was given.
-ghost use Rattle.std.specs.Prelude.{◌≡◌, ◌-◌};
+ghost use Rattle.std.specs.Prelude.{◌≡◌};
 ghost use Rattle.authenticator.specs.Conversation.{successor, ended, retried, awaiting_change};
 ghost use Rattle.authenticator.specs.Conversation.{no_answer, answer_with, with_last, closed};
 
@@ -8,13 +8,6 @@ use crate::admit::awaited_code;
 use crate::{Conversation, LastAnswer, Phase, Reply};
 use accounts::{Entry, blank_entry};
 use verify::{ChangeVersion, Terms};
-
-// 0 stays 0.
-fn one_less(n: u8) -> u8
-    ensures { result ≡ n - 1 }
-{
-    if n == 0 { 0 } else { n - 1 }
-}
 
 impl Conversation {
     fn successor(
@@ -27,16 +20,13 @@ impl Conversation {
     ) -> Conversation
         ensures { result ≡ successor self id challenge retries phase kept }
     {
-        let terms = self.terms;
-        let last = self.last;
         Conversation {
-            terms,
             id,
             challenge,
             retries,
             phase,
             kept,
-            last,
+            ..self
         }
     }
 
@@ -44,10 +34,9 @@ impl Conversation {
     pub(crate) fn to_end(self) -> Conversation
         ensures { result ≡ ended self }
     {
-        let challenge = self.challenge;
         self.successor(
             self.id,
-            challenge,
+            self.challenge,
             self.retries,
             Phase::Ended,
             blank_entry(),
@@ -58,15 +47,12 @@ impl Conversation {
     pub(crate) fn to_retry(self) -> Conversation
         ensures { result ≡ retried self }
     {
-        let challenge = self.challenge;
-        let phase = self.phase;
-        let kept = self.kept;
         self.successor(
             challenges::next_id(self.id),
-            challenges::incremented(challenge),
-            one_less(self.retries),
-            phase,
-            kept,
+            challenges::incremented(self.challenge),
+            self.retries.saturating_sub(1),
+            self.phase,
+            self.kept,
         )
     }
 
@@ -74,10 +60,9 @@ impl Conversation {
     pub(crate) fn to_change(self, entry: Entry) -> Conversation
         ensures { result ≡ awaiting_change self entry }
     {
-        let challenge = self.challenge;
         self.successor(
             challenges::next_id(self.id),
-            challenge,
+            self.challenge,
             self.retries,
             Phase::Change,
             entry,
@@ -88,15 +73,10 @@ impl Conversation {
     pub(crate) fn answer_with(self, reply: Reply) -> LastAnswer
         ensures { result ≡ answer_with self reply }
     {
-        let terms = self.terms;
-        let change = terms.change;
-        let phase = self.phase;
-        let code = awaited_code(change, phase);
-        let id = self.id;
         LastAnswer {
             present: true,
-            code,
-            id,
+            code: awaited_code(self.terms.change, self.phase),
+            id: self.id,
             reply,
         }
     }
@@ -104,19 +84,7 @@ impl Conversation {
     pub(crate) fn with_last(self, last: LastAnswer) -> Conversation
         ensures { result ≡ with_last last self }
     {
-        let terms = self.terms;
-        let challenge = self.challenge;
-        let phase = self.phase;
-        let kept = self.kept;
-        Conversation {
-            terms,
-            id: self.id,
-            challenge,
-            retries: self.retries,
-            phase,
-            kept,
-            last,
-        }
+        Conversation { last, ..self }
     }
 }
 

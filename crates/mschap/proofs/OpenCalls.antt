@@ -1,5 +1,7 @@
 -- What mschap_open returns and leaves, from what the functions that it calls do.
 -- Assumes nothing.
+use Rattle.std.specs.Prelude.{Option}
+use Rattle.verify.specs.declared.ChangeVersion.{ChangeVersion}
 use mathlib.Core.Path.{◌≡◌, refl, sym, ap, ◌∙◌}
 use mathlib.Core.Bool.{Bool, true, false, not, false≢true}
 use mathlib.Core.List.{List, [], ◌++◌, append-nil}
@@ -15,10 +17,7 @@ use Rattle.octets.specs.Parts.{over}
 use Rattle.octets.proofs.Parts.{over_fits}
 use Rattle.authenticator.specs.Opening.{Opening, OpenedAs, opened, opened_issued, opened_buffer}
 use Rattle.authenticator.specs.Opening.{open_refusal}
-use Rattle.authenticator.specs.declared.Retries.{Retries}
-use Rattle.authenticator.specs.declared.LmChoice.{LmChoice}
-use Rattle.authenticator.specs.declared.ChangeChoice.{ChangeChoice}
-use Rattle.authenticator.specs.declared.Opened.{Opened}
+use Rattle.authenticator.specs.Opening.{Opened}
 use Rattle.authenticator.proofs.Openings.{opened_number}
 use Rattle.layouts.specs.Call.{Fills, sized, numbered, after_call}
 use Rattle.layouts.specs.Conversations.{conversation_size, encode_conversation}
@@ -85,8 +84,8 @@ no_limit_refused id terms challenge list reply h =
 
 -- ---- the opening on a list that is encoded
 
-pub opening_same : {c c' : List ℕ} {r r' : Retries} {l l' : LmChoice}
-    {v v' : ChangeChoice} {m m' : ℕ} {i i' : Issued} (id : ℕ) (buffer : List ℕ) → c ≡ c' → r ≡ r'
+pub opening_same : {c c' : List ℕ} {r r' : Option ℕ} {l l' : Option Bool}
+    {v v' : Option ChangeVersion} {m m' : ℕ} {i i' : Issued} (id : ℕ) (buffer : List ℕ) → c ≡ c' → r ≡ r'
     → l ≡ l' → v ≡ v' → m ≡ m' → i ≡ i'
     → ◌≡◌ {A = Opening}
     (record {

@@ -11,7 +11,7 @@ use Rattle.authenticator.specs.Conversation.{closed}
 use Rattle.authenticator.specs.Judge.{reason_of}
 use Rattle.authenticator.specs.Opening.{Opening, open_refusal, opened_issued, first_conversation}
 use Rattle.authenticator.specs.Opening.{opening_packet, opened}
-use Rattle.authenticator.specs.declared.Opened as openings
+use Rattle.authenticator.specs.Opening as openings
 use Rattle.authenticator.proofs.Openings.{opened_sound}
 use Rattle.layouts.specs.Conversations.{encode_conversation, decode_conversation}
 use Rattle.layouts.specs.Conversations.{is_encoded_conversation}

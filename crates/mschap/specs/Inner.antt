@@ -3,7 +3,7 @@
 -- Assumes nothing: these are definitions.
 use Rattle.std.specs.Prelude.{List, ◌≡◌, ℕ}
 use Rattle.authenticator.specs.Opening.{Opening, opened, opened_issued, opened_buffer}
-use Rattle.authenticator.specs.declared.Opened.{Opened}
+use Rattle.authenticator.specs.Opening.{Opened}
 use Rattle.layouts.specs.Call.{after_call}
 use Rattle.layouts.specs.Lists.{encode_list}
 

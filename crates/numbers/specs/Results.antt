@@ -7,7 +7,7 @@ use Rattle.message.specs.declared.Verdict.{Verdict}
 use Rattle.message.specs.declared.Verdict.TheVariants.{Success, Failure, Refused}
 use Rattle.accounts.specs.declared.EntryLookup.{EntryLookup}
 use Rattle.authenticator.specs.Step.{reason_in, is_repeated}
-use Rattle.authenticator.specs.declared.Stepped.{Stepped}
+use Rattle.authenticator.specs.Step.{Stepped}
 use Rattle.layouts.specs.declared.StepResult.{StepResult}
 
 -- ---- a step

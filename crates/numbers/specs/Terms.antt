@@ -4,17 +4,10 @@
 -- refuses. The octet above the retries has LM in its two lowest bits and the change above them
 -- (request 2026-07), of which terms that say nothing have 0.
 -- Assumes nothing: these are definitions.
+use Rattle.std.specs.Prelude.{Option, Some, None, true, false}
+use Rattle.verify.specs.declared.ChangeVersion.TheVariants.{One, Two}
+use Rattle.verify.specs.declared.ChangeVersion.{ChangeVersion}
 use Rattle.std.specs.Prelude.{Bool, cond, ◌&&◌, ℕ, ◌-◌, ◌/◌, ◌%◌, eqb, ltb}
-use Rattle.authenticator.specs.declared.Retries.{Retries}
-use Rattle.authenticator.specs.declared.Retries.TheVariants.{Default, Count}
-use Rattle.authenticator.specs.declared.LmChoice.{LmChoice}
-use Rattle.authenticator.specs.declared.LmChoice.TheVariants.{Silent, Allowed, Disallowed}
-use Rattle.authenticator.specs.declared.ChangeChoice.{ChangeChoice}
-use Rattle.authenticator.specs.declared.ChangeChoice.TheVariants.{
-  Unspecified,
-  VersionOne,
-  VersionTwo,
-}
 
 abbrev pub limit_term : ℕ → ℕ
 limit_term terms = terms / 16777216
@@ -36,13 +29,13 @@ is_terms terms =
     eqb (terms_kind terms) 1 && (ltb (lm_term terms) 3 && ltb (change_term terms) 3)
 
 -- 0 is silence, and any other number is one more than the retries
-abbrev pub retries_for : ℕ → Retries
-retries_for n = cond (eqb n 0) Default (Count (n - 1))
+abbrev pub retries_for : ℕ → Option ℕ
+retries_for n = cond (eqb n 0) None (Some (n - 1))
 
 -- 0 is silence, 1 is yes, 2 is no
-abbrev pub lm_for : ℕ → LmChoice
-lm_for n = cond (eqb n 0) Silent (cond (eqb n 1) Allowed Disallowed)
+abbrev pub lm_for : ℕ → Option Bool
+lm_for n = cond (eqb n 0) None (cond (eqb n 1) (Some true) (Some false))
 
 -- 0 is silence, 1 and 2 are the versions
-abbrev pub change_for : ℕ → ChangeChoice
-change_for n = cond (eqb n 0) Unspecified (cond (eqb n 1) VersionOne VersionTwo)
+abbrev pub change_for : ℕ → Option ChangeVersion
+change_for n = cond (eqb n 0) None (cond (eqb n 1) (Some One) (Some Two))

@@ -2,6 +2,7 @@
 -- locks and counts in some way. They meet the premises of the claim about guessing, with our box
 -- too.
 -- Assumes nothing.
+use Rattle.std.specs.Prelude.{Some}
 use mathlib.Core.Bool.{Bool, true, false, cond, not, ◌&&◌, false≢true}
 use mathlib.Core.List.{List, [], ◌∷◌}
 use mathlib.Core.Logic.{inl, inr}
@@ -26,7 +27,6 @@ use Rattle.authenticator.specs.Step.{Outcome}
 use Rattle.authenticator.specs.Steps.{StepInput, Box, reply_of, BoxState, unanswered}
 use Rattle.authenticator.specs.Steps.{is_judged}
 use Rattle.authenticator.specs.declared.Reply.TheVariants.{Failure}
-use Rattle.authenticator.specs.declared.Retries.TheVariants.{Count}
 use Rattle.authenticator.proofs.Openings.{opened_first}
 use Rattle.series.specs.Course.{end, Along, total}
 use Rattle.series.specs.Series.{own}
@@ -67,7 +67,7 @@ use Rattle.series.proofs.LmOptIn.{failure_either}
 -- ---- the runs: for each guess a new call on the same line, and one call more
 
 abbrev call : ℕ → Event
-call limit = opens 0 (opening_of (Count 0) limit)
+call limit = opens 0 (opening_of (Some 0) limit)
 
 abbrev pub sent : Bool → LinePacket
 sent v = record { line = 0; packet = packet_saying v; account = own; buffer = replicate 17 0 }
@@ -91,10 +91,10 @@ module _ (box : Box) (rule : CountRule) (lock : ℕ → Bool) (limit : ℕ)
   -- ---- a call and a guess
 
   module _ (p : RunState) (n : ℕ) (same : p.account ≡ counting n)
-      (fresh : p.lines 0 ≡ unanswered (opened (opening_of (Count 0) limit)).conversation)
+      (fresh : p.lines 0 ≡ unanswered (opened (opening_of (Some 0) limit)).conversation)
       (v : Bool) where
     on_line_lem : p.lines 0 ≡ unanswered (first limit n v)
-    on_line_lem = fresh ∙ ap unanswered (opened_first (opening_of (Count 0) limit)
+    on_line_lem = fresh ∙ ap unanswered (opened_first (opening_of (Some 0) limit)
         (opens_limited limit pos))
 
     input_so : input_of p (sent v) ≡ guess limit n v
@@ -147,7 +147,7 @@ module _ (box : Box) (rule : CountRule) (lock : ℕ → Bool) (limit : ℕ)
     pub many : total (run_next box) (guesses box) p (calls limit vs) ≡ length vs
     pub counted : (end (run_next box) p (calls limit vs)).account ≡ counting (count_after rule lock n vs)
     pub on_line : (end (run_next box) p (calls limit vs)).lines 0
-        ≡ unanswered (opened (opening_of (Count 0) limit)).conversation
+        ≡ unanswered (opened (opening_of (Some 0) limit)).conversation
 
   pub ran : (p : RunState) (n : ℕ) (vs : List Bool) → p.account ≡ counting n
       → all_fail rule lock n vs ≡ true → Ran p n vs

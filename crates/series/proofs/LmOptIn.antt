@@ -1,6 +1,7 @@
 -- LM is off unless the opening asked for it, from the opening to the end; and where it did, a peer
 -- that knows its LM hash alone gets in.
 -- Assumes nothing.
+use Rattle.std.specs.Prelude.{Some}
 use mathlib.Core.Bool.{Bool, true, false, cond, not, ◌&&◌, and-false, true≢false}
 use mathlib.Core.List.{List}
 use mathlib.Core.Logic.{◌≢◌, inl, inr}
@@ -35,7 +36,6 @@ use Rattle.authenticator.specs.Step.{without_record}
 use Rattle.authenticator.specs.Steps.{StepInput, step_on, reply_of, BoxState, unanswered}
 use Rattle.authenticator.specs.Steps.{is_judged, next_state}
 use Rattle.authenticator.specs.declared.Conversation.{Conversation}
-use Rattle.authenticator.specs.declared.LmChoice.TheVariants.{Allowed}
 use Rattle.authenticator.specs.declared.Phase.{Phase}
 use Rattle.authenticator.specs.declared.Phase.TheVariants.{Response}
 use Rattle.authenticator.specs.declared.Reply.TheVariants.{Failure}
@@ -128,7 +128,7 @@ off_next v p s i =
       tracks = tracks_next p s i.tracks;
     }
 
-off_after : (o : Opening) → o.lm ≢ Allowed → (ss : List StepInput)
+off_after : (o : Opening) → o.lm ≢ Some true → (ss : List StepInput)
     → OffAt (change_of o.change) (place_after our_opener o ss)
 off_after o h ss =
     end_keeps (next_state step_on) (OffAt v) (off_next v) (unanswered (opened o).conversation)

@@ -42,7 +42,7 @@ use Rattle.accounts.specs.declared.Hash.{Hash}
 use Rattle.accounts.specs.declared.Schedules.{Schedules}
 use Rattle.verify.proofs.Accepted.{accepted_only}
 use Rattle.authenticator.specs.declared.Conversation.{Conversation}
-use Rattle.authenticator.specs.declared.Opened.{Opened}
+use Rattle.authenticator.specs.Opening.{Opened}
 use Rattle.authenticator.proofs.Spends.{challenges_octets}
 use Rattle.authenticator.proofs.Openings.{opened_first, opened_written, opened_fresh, opened_not, opened_contains, opened_keeps, may_open_lem}
 use Rattle.authenticator.proofs.InForce.{CanBeInForce, now_in_force, step_adds_none}

@@ -1,6 +1,7 @@
 -- A sample of what demand 3 speaks of: openings, a record, our peer's packets and what is passed
 -- with them. They meet the premises with any box and writer.
 -- Assumes nothing.
+use Rattle.std.specs.Prelude.{Option, Some, None, true}
 use mathlib.Core.Bool.{Bool, false}
 use mathlib.Core.List.{List, [], ◌∷◌}
 use mathlib.Core.Path.{◌≡◌, refl}
@@ -22,13 +23,8 @@ use Rattle.accounts.proofs.Agreeing.{made_agrees}
 use Rattle.authenticator.specs.Opening.{Opening, opened}
 use Rattle.authenticator.specs.Steps.{Box}
 use Rattle.accounts.specs.declared.Account.{Account}
-use Rattle.authenticator.specs.declared.Retries.{Retries}
-use Rattle.authenticator.specs.declared.Retries.TheVariants.{Default, Count}
-use Rattle.authenticator.specs.declared.ChangeChoice.{ChangeChoice}
-use Rattle.authenticator.specs.declared.ChangeChoice.TheVariants.{Unspecified}
 use Rattle.verify.specs.declared.ChangeVersion.{ChangeVersion}
 use Rattle.verify.specs.declared.ChangeVersion.TheVariants.{One, Two}
-use Rattle.authenticator.specs.declared.LmChoice.TheVariants.{Disallowed}
 use Rattle.authenticator.proofs.Openings.{may_open_empty}
 use Rattle.series.specs.Series.{
   Packet,
@@ -56,23 +52,23 @@ use Rattle.series.specs.Writers.{Writer}
 abbrev pub challenge : List ℕ
 challenge = 0xE9 ∷ 2 ∷ 3 ∷ 4 ∷ 5 ∷ 6 ∷ 7 ∷ 8 ∷ []
 
-abbrev pub opening_for : ChangeChoice → Retries → ℕ → Opening
+abbrev pub opening_for : Option ChangeVersion → Option ℕ → ℕ → Opening
 opening_for x r limit =
     record {
       id = 255;
       challenge = challenge;
       retries = r;
-      lm = Disallowed;
+      lm = (Some false);
       change = x;
       limit = limit;
       issued = empty_list 8 3;
       buffer = replicate 17 0;
     }
 
-abbrev pub opening_of : Retries → ℕ → Opening
-opening_of = opening_for Unspecified
+abbrev pub opening_of : Option ℕ → ℕ → Opening
+opening_of = opening_for None
 
-abbrev pub opening : Retries → Opening
+abbrev pub opening : Option ℕ → Opening
 opening r = opening_of r 5
 
 -- a list of whole places, of which none is used
@@ -80,21 +76,21 @@ pub three_places : bad_buffer 8 (replicate 24 0) 0 ≡ false
 unfolding bad_buffer
 three_places = refl
 
-pub opens_default : (opened (opening Default)).refusal ≡ 0
-opens_default = may_open_empty (opening Default) (omega arith) (omega arith) (omega arith) three_places refl refl
+pub opens_default : (opened (opening None)).refusal ≡ 0
+opens_default = may_open_empty (opening None) (omega arith) (omega arith) (omega arith) three_places refl refl
     (omega arith)
 
-pub opens_limited : (limit : ℕ) → 0 < limit → (opened (opening_of (Count 0) limit)).refusal ≡ 0
-opens_limited limit pos = may_open_empty (opening_of (Count 0) limit) pos (omega arith) (omega arith)
+pub opens_limited : (limit : ℕ) → 0 < limit → (opened (opening_of (Some 0) limit)).refusal ≡ 0
+opens_limited limit pos = may_open_empty (opening_of (Some 0) limit) pos (omega arith) (omega arith)
     three_places refl refl (omega arith)
 
 -- whatever change it chooses
-pub opens_for : (x : ChangeChoice) → (opened (opening_for x (Count 1) 5)).refusal ≡ 0
-opens_for x = may_open_empty (opening_for x (Count 1) 5) (omega arith) (omega arith) (omega arith)
+pub opens_for : (x : Option ChangeVersion) → (opened (opening_for x (Some 1) 5)).refusal ≡ 0
+opens_for x = may_open_empty (opening_for x (Some 1) 5) (omega arith) (omega arith) (omega arith)
     three_places refl refl (omega arith)
 
-pub opens_once : (opened (opening (Count 1))).refusal ≡ 0
-opens_once = opens_for Unspecified
+pub opens_once : (opened (opening (Some 1))).refusal ≡ 0
+opens_once = opens_for None
 
 -- "MyPw", "bad" and "MyNewPw"
 abbrev pub old : List ℕ

@@ -2,6 +2,7 @@
 -- by the right password, or one by LM, which is off there, so that it is invalid; with the sample's
 -- record and any count; with our box, and with boxes that count or lock otherwise.
 -- Assumes nothing.
+use Rattle.std.specs.Prelude.{Some}
 use mathlib.Core.Bool.{Bool, true, false, cond, not, ◌&&◌}
 use mathlib.Core.List.{List, [], ◌++◌}
 use mathlib.Core.Path.{◌≡◌, refl, ap, ap₂, ◌∙◌}
@@ -31,7 +32,6 @@ use Rattle.authenticator.specs.Steps.{StepInput, step_on, Box, reply_of, drew_re
 use Rattle.authenticator.specs.Steps.{ruled_refusal, is_judged}
 use Rattle.authenticator.specs.declared.Conversation.{Conversation}
 use Rattle.authenticator.specs.Judge.{Judgement}
-use Rattle.authenticator.specs.declared.Retries.TheVariants.{Count}
 use Rattle.authenticator.proofs.Admitted.{Passes}
 use Rattle.authenticator.proofs.Admitted as admitted
 use Rattle.authenticator.proofs.Fresh.{fresh_first}
@@ -82,7 +82,7 @@ flag_small false = omega arith
 
 module _ (limit : ℕ) where
   abbrev pub begun : Conversation
-  begun = first_conversation (opening_of (Count 0) limit)
+  begun = first_conversation (opening_of (Some 0) limit)
 
   module _ (v : Bool) (a : Account) where
     abbrev pub guess_at : StepInput

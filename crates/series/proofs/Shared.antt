@@ -2,6 +2,7 @@
 -- with a challenge that begins with E9 and one with another. In the other's place, the first one's
 -- challenge, or its successor, is refused with 16.
 -- Assumes nothing.
+use Rattle.std.specs.Prelude.{Option, Some, None}
 use mathlib.Core.Bool.{Bool, true, false, ◌&&◌, false≢true}
 use mathlib.Core.List.{List, [], ◌∷◌, flatten}
 use mathlib.Core.Path.{◌≡◌, refl, ap}
@@ -16,39 +17,34 @@ use Rattle.challenges.specs.Challenges.{incremented, challenges_from}
 use Rattle.authenticator.specs.Conversation.{is_ended}
 use Rattle.authenticator.specs.Opening.{Opening, open_refusal, opened, opened_issued}
 use Rattle.authenticator.specs.declared.Conversation.{Conversation}
-use Rattle.authenticator.specs.declared.Retries.{Retries}
-use Rattle.authenticator.specs.declared.Retries.TheVariants.{Default, Count}
-use Rattle.authenticator.specs.declared.ChangeChoice.TheVariants.{Unspecified}
-use Rattle.authenticator.specs.declared.LmChoice.{LmChoice}
-use Rattle.authenticator.specs.declared.LmChoice.TheVariants.{Silent}
 use Rattle.authenticator.proofs.Openings.{opened_first, may_open_empty}
 use Rattle.series.specs.Openers.{our_opener}
 use Rattle.series.specs.OneList.{PassedOn, Openable, Two}
 
 -- ---- openings
 
-abbrev pub opening_with : LmChoice → Issued → Retries → List ℕ → Opening
+abbrev pub opening_with : Option Bool → Issued → Option ℕ → List ℕ → Opening
 opening_with lm list r challenge =
-    record { id = 7; challenge = challenge; retries = r; lm = lm; change = Unspecified; limit = 5; issued = list; buffer = replicate 17 0 }
+    record { id = 7; challenge = challenge; retries = r; lm = lm; change = None; limit = 5; issued = list; buffer = replicate 17 0 }
 
-abbrev pub opening_on : Issued → Retries → List ℕ → Opening
-opening_on = opening_with Silent
+abbrev pub opening_on : Issued → Option ℕ → List ℕ → Opening
+opening_on = opening_with None
 
 abbrev pub challenge : List ℕ
 challenge = 0xE9 ∷ 2 ∷ 3 ∷ 4 ∷ 5 ∷ 6 ∷ 7 ∷ 8 ∷ []
 
 abbrev pub first : Opening
-first = opening_on (empty_list 8 6) Default challenge
+first = opening_on (empty_list 8 6) None challenge
 
 abbrev pub second : Opening
-second = opening_on (opened_issued first) Default (replicate 8 1)
+second = opening_on (opened_issued first) None (replicate 8 1)
 
 pub six_places : bad_buffer 8 (replicate 48 0) 0 ≡ false
 unfolding bad_buffer
 six_places = refl
 
 -- on an empty list it needs nothing more, whatever it says of LM
-pub openable : (lm : LmChoice) → Openable (opening_with lm (empty_list 8 6) Default challenge)
+pub openable : (lm : Option Bool) → Openable (opening_with lm (empty_list 8 6) None challenge)
 unfolding endings ending contains_any challenges_from contains
 openable lm =
     record {
@@ -105,10 +101,10 @@ two =
 
 -- ---- refused
 
-pub again_refused : (opened (opening_on (opened_issued first) Default challenge)).refusal ≡ 16
+pub again_refused : (opened (opening_on (opened_issued first) None challenge)).refusal ≡ 16
 unfolding opened opened_issued open_refusal spend_refusal bad_buffer flatten over agrees ending endings contains contains_any challenges_from
 again_refused = refl
 
-pub successor_refused : (opened (opening_on (opened_issued first) (Count 0) (incremented challenge))).refusal ≡ 16
+pub successor_refused : (opened (opening_on (opened_issued first) (Some 0) (incremented challenge))).refusal ≡ 16
 unfolding opened opened_issued open_refusal spend_refusal bad_buffer flatten over agrees ending endings contains contains_any challenges_from
 successor_refused = refl

@@ -4,6 +4,7 @@
 -- padding, refused steps before, between and behind them, and each of the three packets once more
 -- after its answer, with another record; and a later conversation.
 -- Assumes nothing.
+use Rattle.std.specs.Prelude.{Option, Some, None}
 use mathlib.Core.Bool.{true, false}
 use mathlib.Core.List.{List, [], ◌∷◌}
 use mathlib.Core.Logic.{inl, inr}
@@ -23,10 +24,7 @@ use Rattle.authenticator.specs.Steps.{unanswered, next_state, NotJudged}
 use Rattle.accounts.specs.declared.Account.{Account}
 use Rattle.accounts.proofs.Agreeing.{counted_agrees}
 use Rattle.authenticator.specs.declared.Phase.TheVariants.{Ended}
-use Rattle.authenticator.specs.declared.Retries.TheVariants.{Default, Count}
-use Rattle.authenticator.specs.declared.ChangeChoice.{ChangeChoice}
 use Rattle.verify.specs.declared.ChangeVersion.{ChangeVersion}
-use Rattle.authenticator.specs.declared.LmChoice.TheVariants.{Silent}
 use Rattle.authenticator.specs.declared.Conversation.{Conversation}
 use Rattle.authenticator.proofs.Openings.{opened_first, may_open_empty}
 use Rattle.packets.specs.declared.ChallengeFields.{ChallengeFields}
@@ -72,12 +70,12 @@ use Rattle.series.proofs.Repeats.{any_number, again_itself}
 use Rattle.series.proofs.Wrong.{success_code_lem, failure_code_lem}
 
 -- whichever change the opening chooses, or leaves unsaid
-module _ (x : ChangeChoice) where
+module _ (x : Option ChangeVersion) where
   abbrev v : ChangeVersion
   v = change_of x
 
   abbrev opening1 : Opening
-  opening1 = opening_for x (Count 1) 5
+  opening1 = opening_for x (Some 1) 5
 
   opens1 : (opened opening1).refusal ≡ 0
   opens1 = opens_for x
@@ -271,8 +269,8 @@ module _ (x : ChangeChoice) where
       record {
         id = 0;
         challenge = replicate 8 1;
-        retries = Default;
-        lm = Silent;
+        retries = None;
+        lm = None;
         change = x;
         limit = 1;
         issued = empty_list 8

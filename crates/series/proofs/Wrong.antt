@@ -2,6 +2,7 @@
 -- always, the change leaves the record, pretends on retries, retries do not fall. So the statement
 -- is strong enough to shut them out.
 -- Assumes nothing.
+use Rattle.std.specs.Prelude.{Some, None}
 use mathlib.Core.Bool.{Bool, true, false, cond, ◌&&◌, false≢true}
 use mathlib.Core.List.{List, [], ◌∷◌, ◌++◌}
 use mathlib.Core.Path.{◌≡◌, refl, sym, ap, ◌∙◌, subst}
@@ -44,7 +45,6 @@ use Rattle.accounts.specs.declared.Account.{Account}
 use Rattle.accounts.specs.declared.Lookup.{Lookup}
 use Rattle.authenticator.proofs.Steps.{drew_answered, reply_of_lem}
 use Rattle.authenticator.specs.declared.Conversation.{Conversation}
-use Rattle.authenticator.specs.declared.Retries.TheVariants.{Default, Count}
 use Rattle.authenticator.proofs.Openings.{opened_first}
 use Rattle.series.specs.Course.{total}
 use Rattle.series.specs.Series.{own, another, invalid, right, start, exchange, next, later, LetsIn, Demand3}
@@ -103,9 +103,9 @@ failure_code_lem id message = refl
 -- the right password draws nothing
 pub not_refusing : (n : ℕ) → Demand3 (refusing n) our_writer → ⊥
 not_refusing n h =
-    let all = (h (opening Default) opens_default refl).1 (account false) 0 [] (right_try ∷ [])
+    let all = (h (opening None) opens_default refl).1 (account false) 0 [] (right_try ∷ [])
     (rightful false) (agreeing false) (omega arith) (omega arith) refl
-    (right_allowed (refusing n) our_writer (start (opening Default) [] (account false)) false, tt) in
+    (right_allowed (refusing n) our_writer (start (opening None) [] (account false)) false, tt) in
     let code = ap (octet 0) all.0.0.0.0 ∙ success_code_lem _ in
     omega arith
 
@@ -133,30 +133,30 @@ module _ (d : Judge) (c : Conversation) (s : StepInput) (new : repeats_here c s 
       ∙ ap (λ (o : Outcome). octet 0 (reply_of o)) (sym (drew e pos)) ∙ e
 
 -- the sample's opening is not refused
-pub first_default : (opened (opening Default)).conversation ≡ first_conversation (opening Default)
-first_default = opened_first (opening Default) opens_default
+pub first_default : (opened (opening None)).conversation ≡ first_conversation (opening None)
+first_default = opened_first (opening None) opens_default
 
 -- no answer was given yet
-pub first_new : (s : StepInput) → repeats_here (opened (opening Default)).conversation s ≡ false
-first_new s = none_answered (opened (opening Default)).conversation s
+pub first_new : (s : StepInput) → repeats_here (opened (opening None)).conversation s ≡ false
+first_new s = none_answered (opened (opening None)).conversation s
     (ap (λ (c : Conversation). c.last.present) first_default)
 
 -- ---- 691 always
 
 -- for a Response that a first conversation judges with no record
-none_first : (p : List ℕ) → (judge (first_conversation (opening Default)) p not_found).reply
+none_first : (p : List ℕ) → (judge (first_conversation (opening None)) p not_found).reply
     ≡ Failure authentication_failure true
 unfolding judge judge_response response_reason first_reason
 none_first p = refl
 
-none_drawn : (p : List ℕ) → (judge (opened (opening Default)).conversation p not_found).reply
+none_drawn : (p : List ℕ) → (judge (opened (opening None)).conversation p not_found).reply
     ≡ Failure authentication_failure true
 none_drawn p = ap (λ (c : Conversation). (judge c p not_found).reply) first_default ∙ none_first p
 
 pub not_finding : Demand3 (judging finds_none) our_writer → ⊥
 not_finding h =
-    let p = start (opening Default) [] (account false) in
-    let all = (h (opening Default) opens_default refl).1 (account false) 0 [] (right_try ∷ [])
+    let p = start (opening None) [] (account false) in
+    let all = (h (opening None) opens_default refl).1 (account false) 0 [] (right_try ∷ [])
     (rightful false) (agreeing false) (omega arith) (omega arith) refl
     (right_allowed (judging finds_none) our_writer p false, tt) in
     let s = (exchange (judging finds_none) our_writer p (right old user)
@@ -177,8 +177,8 @@ not_finding h =
 pub not_accepting : Demand3 (judging accepts) our_writer → ⊥
 not_accepting h =
     let box = judging accepts in
-    let p = start (opening Default) [] (account false) in
-    let all = (h (opening Default) opens_default refl).1 (account false) 1 []
+    let p = start (opening None) [] (account false) in
+    let all = (h (opening None) opens_default refl).1 (account false) 1 []
     (bad_try (another not_found) ∷ right_try ∷ []) (rightful false) (agreeing false)
     (omega arith) (omega arith) refl (
       bad_allowed box our_writer p (account false),
@@ -197,12 +197,12 @@ not_accepting h =
 
 -- the first invalid try leaves one retry
 one_first : (s : StepInput) → s.account ≡ not_found
-    → (pretends 2 (first_conversation (opening Default)) s).next.retries ≡ 1
+    → (pretends 2 (first_conversation (opening None)) s).next.retries ≡ 1
 unfolding judge judge_response response_reason first_reason
 one_first s e = rw e
 
 one_left : (s : StepInput) → s.account ≡ not_found → (pretends 2
-    (opened (opening Default)).conversation s).next.retries ≡ 1
+    (opened (opening None)).conversation s).next.retries ≡ 1
 one_left s e = ap (λ (c : Conversation). (pretends 2 c s).next.retries) first_default
     ∙ one_first s e
 
@@ -210,9 +210,9 @@ one_left s e = ap (λ (c : Conversation). (pretends 2 c s).next.retries) first_d
 pub not_pretending : Demand3 (judging (pretends 2)) our_writer → ⊥
 not_pretending h =
     let box = judging (pretends 2) in
-    let p = start (opening Default) [] (account false) in
+    let p = start (opening None) [] (account false) in
     let q = next box our_writer p (bad_try (another not_found)) in
-    let all = (h (opening Default) opens_default refl).1 (account false) 2 []
+    let all = (h (opening None) opens_default refl).1 (account false) 2 []
     (bad_try (another not_found) ∷ bad_try (another not_found) ∷ right_try ∷ []) (rightful false)
     (agreeing false) (omega arith) (omega arith) refl (
       bad_allowed box our_writer p (account false),
@@ -228,7 +228,7 @@ not_pretending h =
     let left = ap (λ (o : Outcome). o.answer.next.retries) first ∙ one_left s refl in
     let turn = retry_id box p (line 60 (another not_found)) Two (invalid bad user) all.0.0.1
     all.0.0.0.1
-    ∙ ap next_id (first_id (opening Default) opens_default refl [] (account false)) in
+    ∙ ap next_id (first_id (opening None) opens_default refl [] (account false)) in
     let last = ap (λ (o : Outcome). o.answer.next.last.id) first
     ∙ ap (λ (c : Conversation). c.id) first_default in
     let id = (sent_carries box q (line 60 (another not_found)) (invalid bad user) all.0.1.0.1).1 ∙ turn in
@@ -256,13 +256,13 @@ Expired c p =
     let reply = reply_packet c.terms c.id d.reply in
     (octet 0 reply ≡ 4) × (octet 7 reply ≡ 52 → d.next.kept ≡ entry_of (account true))
 
-expired_first : (p : List ℕ) → Expired (first_conversation (opening Default)) p
+expired_first : (p : List ℕ) → Expired (first_conversation (opening None)) p
 unfolding judge judge_response response_reason first_reason failures_after failure_packet text_of hex_of
-expired_first p = which (valid_in (first_conversation (opening Default)) (account true)
+expired_first p = which (valid_in (first_conversation (opening None)) (account true)
     (read_response p))
   where
     c : Conversation
-    c = first_conversation (opening Default)
+    c = first_conversation (opening None)
 
     which : (v : Bool) → let e = first_reason v (entry_of (account true)) in
         let reply = reply_packet c.terms 255 (reply_for c e) in
@@ -272,7 +272,7 @@ expired_first p = which (valid_in (first_conversation (opening Default)) (accoun
     which true = (refl, λ h. refl)
     which false = (refl, λ h. absurd (omega arith))
 
-expired_drawn : (p : List ℕ) → Expired (opened (opening Default)).conversation p
+expired_drawn : (p : List ℕ) → Expired (opened (opening None)).conversation p
 expired_drawn p = subst (λ (c : Conversation). Expired c p) (sym first_default) (expired_first p)
 
 -- the octet of E's second digit: 648
@@ -294,9 +294,9 @@ kept_handed a l h = which l.found refl h
 pub not_leaving_record : Demand3 (judging leaves_record) our_writer → ⊥
 not_leaving_record h =
     let box = judging leaves_record in
-    let p = start (opening Default) [] (account true) in
+    let p = start (opening None) [] (account true) in
     let q = next box our_writer p right_try in
-    let all = (h (opening Default) opens_default refl).1 (account true) 0 []
+    let all = (h (opening None) opens_default refl).1 (account true) 0 []
     (right_try ∷ change own ∷ []) (rightful true) (agreeing true) (omega arith) (omega arith) refl
     (right_allowed box our_writer p true, (change_allowed box our_writer q true own, tt)) in
     let s = (exchange box our_writer p (right old user) (line 55 own)).input in
@@ -324,9 +324,9 @@ not_leaving_record h =
     ∙ kept_handed (account_of q.box.conversation.kept) d
     (sym (ap (λ (b : Lookup). b.found) changed) ∙ answered.1) ∙ ap account_of kept in
     let lets = subst (λ (b : Account). LetsIn box our_writer b new) updated answered.2 in
-    let r = later box our_writer (opening Default) [] (account true) [] in
+    let r = later box our_writer (opening None) [] (account true) [] in
     let u = (exchange box our_writer r (right new user) (line 55 own)).input in
-    let draws = lets (opening Default) [] user [] (line 55 own) opens_default refl tt refl
+    let draws = lets (opening None) [] user [] (line 55 own) opens_default refl tt refl
     (new_within own) in
     let again = expired_drawn u.packet in
     let code = code_drawn leaves_record r.box.conversation u (first_new u) (omega arith)
@@ -352,12 +352,12 @@ abbrev judged_of : Conversation → ℕ
 judged_of c = total (next_state (judging never_counts)) (judged (judging never_counts))
     (unanswered c) tries
 
-four : judged_of (first_conversation (opening (Count 1))) ≡ 4
+four : judged_of (first_conversation (opening (Some 1))) ≡ 4
 unfolding refusal_for response_refusal step judge judge_response response_reason first_reason
     failure_packet text_of
 four = refl
 
 pub not_counting_lem : Demand3 (judging never_counts) our_writer → ⊥
 not_counting_lem h =
-    let most = ((h (opening (Count 1)) opens_once refl).2 tries).0 in
-    omega (arith, ap judged_of (opened_first (opening (Count 1)) opens_once) ∙ four)
+    let most = ((h (opening (Some 1)) opens_once refl).2 tries).0 in
+    omega (arith, ap judged_of (opened_first (opening (Some 1)) opens_once) ∙ four)

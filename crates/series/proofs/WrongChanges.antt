@@ -1,6 +1,7 @@
 -- Demand 3 holds of no box and no writer that gets the version 1 change wrong: forgets what it was
 -- opened for, turns our peer's change away, or writes version 2's whatever V calls for.
 -- Assumes nothing.
+use Rattle.std.specs.Prelude.{Option, Some}
 use mathlib.Core.Bool.{true, false}
 use mathlib.Core.List.{List, [], ◌∷◌}
 use mathlib.Core.Logic.{◌≢◌}
@@ -25,12 +26,9 @@ use Rattle.authenticator.specs.Judge.{reply_for}
 use Rattle.authenticator.specs.Opening.{Opening, change_of, first_conversation, opened}
 use Rattle.authenticator.specs.Step.{reason_in, Outcome}
 use Rattle.authenticator.specs.Steps.{StepInput, step_on}
-use Rattle.authenticator.specs.declared.ChangeChoice.{ChangeChoice}
-use Rattle.authenticator.specs.declared.ChangeChoice.TheVariants.{VersionOne}
 use Rattle.authenticator.specs.declared.Conversation.{Conversation}
 use Rattle.authenticator.specs.declared.Reply.{Reply}
 use Rattle.authenticator.specs.declared.Reply.TheVariants.{Success, Failure}
-use Rattle.authenticator.specs.declared.Retries.TheVariants.{Count}
 use Rattle.authenticator.proofs.Admitted.{passed}
 use Rattle.authenticator.proofs.Fresh.{new_packet}
 use Rattle.authenticator.proofs.Openings.{opened_first}
@@ -85,9 +83,9 @@ same_version Two One e = absurd (omega (arith, e))
 same_version Two Two e = refl
 
 -- the sample's opening, by the change that it chooses
-module _ (x : ChangeChoice) where
+module _ (x : Option ChangeVersion) where
   abbrev o : Opening
-  o = opening_for x (Count 1) 5
+  o = opening_for x (Some 1) 5
 
   first_so : (opened o).conversation ≡ first_conversation o
   first_so = opened_first o (opens_for x)
@@ -121,7 +119,7 @@ module _ (x : ChangeChoice) where
 -- ---- our peer's change is turned away
 
 abbrev one : Opening
-one = opening_for VersionOne (Count 1) 5
+one = opening_for (Some One) (Some 1) 5
 
 turned_away : (c : Conversation) (t : StepInput) → octet 0 t.packet ≡ change_one_code
     → (turns_one_away c t).reply ≡ Failure changing_password false
@@ -132,17 +130,17 @@ not_turning_away h =
     let box = judging turns_one_away in
     let p = start one [] (account true) in
     let q = next box our_writer p right_try in
-    let all = (h one (opens_for VersionOne) refl).1 (account true) 0 []
+    let all = (h one (opens_for (Some One)) refl).1 (account true) 0 []
     (right_try ∷ change_by One own ∷ []) (rightful true) (agreeing true) (omega arith) (omega arith)
     refl (right_allowed box our_writer p true, (change_by_allowed box our_writer q One true own, tt))
     in
     let s = (exchange box our_writer p (right old user) (line 55 own)).input in
     let fresh = none_answered p.box.conversation s
-    (ap (λ (y : Conversation). y.last.present) (first_so VersionOne)) in
+    (ap (λ (y : Conversation). y.last.present) (first_so (Some One))) in
     let first = drew turns_one_away p.box.conversation s fresh
     (ap (octet 0) all.0.0.0.0 ∙ failure_code_lem _ _) (omega arith) in
     let last = ap (λ (o : Outcome). o.answer.next.last.code) first
-    ∙ ap (λ (c : Conversation). awaited_code c.terms.change c.phase) (first_so VersionOne) in
+    ∙ ap (λ (c : Conversation). awaited_code c.terms.change c.phase) (first_so (Some One)) in
     let t = (exchange box our_writer q (new_password_by One) (line 1118 own)).input in
     let sent = (sent_carries box q (line 1118 own) (new_password_by One) all.0.1.0.1).0 in
     let new = other_code q.box.conversation t (λ e. omega (arith, sym sent ∙ e ∙ last)) in
@@ -164,14 +162,14 @@ not_writing_two h =
     let q = next our_box always_two p right_try in
     let l = line 1118 (another not_found) in
     let steps = right_try ∷ change_by One (another not_found) ∷ [] in
-    let all = (h one (opens_for VersionOne) refl).1 (account true) 0 [] steps (rightful true)
+    let all = (h one (opens_for (Some One)) refl).1 (account true) 0 [] steps (rightful true)
     (agreeing true) (omega arith) (omega arith) refl (
       right_allowed our_box always_two p true,
       (change_by_allowed our_box always_two q One true (another not_found), tt),
     ) in
     let ready = (law (account true) (rightful true) (agreeing true) (terms_of one)
     (PasswordChange One ∷ []) p right_try
-    (ready_first one (opens_for VersionOne) refl 0 [] steps (account true) (omega arith)
+    (ready_first one (opens_for (Some One)) refl 0 [] steps (account true) (omega arith)
     (omega arith) refl) (right_allowed our_box our_writer p true)).2 in
     let c = q.box.conversation in
     let s = (exchange our_box always_two q (new_password_by One) l).input in

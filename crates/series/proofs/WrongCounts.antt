@@ -3,6 +3,7 @@
 -- every time, wrapping at 255, cleared by the right password at the limit, not at all. Nor of one
 -- that says nothing to some of the guesses that it should judge, so that they are not counted.
 -- Assumes nothing.
+use Rattle.std.specs.Prelude.{Some}
 use mathlib.Core.Bool.{Bool, true, false, cond, not, ◌&&◌, false≢true}
 use mathlib.Core.List.{[], ◌∷◌}
 use mathlib.Core.Logic.{◌≢◌}
@@ -17,7 +18,6 @@ use Rattle.verify.specs.Lockout.{failures_after}
 use Rattle.authenticator.specs.Step.{Outcome, refused_as}
 use Rattle.authenticator.specs.Steps.{StepInput, step_on, drew_reply, unanswered, StepClaim}
 use Rattle.authenticator.specs.declared.Conversation.{Conversation}
-use Rattle.authenticator.specs.declared.Retries.TheVariants.{Count}
 use Rattle.authenticator.proofs.Openings.{opened_first}
 use Rattle.series.specs.Series.{Demand3}
 use Rattle.series.specs.Boxes.{judging, CountRule, counts_by, from_first, wrapping, clearing}
@@ -50,8 +50,8 @@ one_rule rule locked v n pos other h =
     let opens = opens_limited limit (limited locked n pos) in
     let s = guess limit n v in
     let claim = subst (λ (c : Conversation). StepClaim (judging (counts_by rule)) (unanswered c) s)
-    (opened_first (opening_of (Count 0) limit) opens)
-    ((h (opening_of (Count 0) limit) opens refl).2 (s ∷ [])).1.0 in
+    (opened_first (opening_of (Some 0) limit) opens)
+    ((h (opening_of (Some 0) limit) opens refl).2 (s ∷ [])).1.0 in
     let handed = ap (λ (l : Lookup). l.account.failures)
     (sym ((by_rule rule limit).handed n v)
     ∙ (claim.hands_out ((by_rule rule limit).judged n v) (said_code v)).0 refl) in
@@ -86,7 +86,7 @@ pub not_silent : (some : Conversation → StepInput → Bool) (number limit n : 
     → some (first limit n v) (guess limit n v) ≡ true
     → Demand3 (silent_to some number) our_writer → ⊥
 not_silent some number limit n v pos here h =
-    let o = opening_of (Count 0) limit in
+    let o = opening_of (Some 0) limit in
     let opens = opens_limited limit pos in
     let s = guess limit n v in
     let claim = subst (λ (c : Conversation). StepClaim (silent_to some number) (unanswered c) s)

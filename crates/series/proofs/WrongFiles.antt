@@ -3,6 +3,7 @@
 -- that writes 0 for it, one that leaves the LM hash of the old password, and one that loses the
 -- other accounts.
 -- Assumes nothing.
+use Rattle.std.specs.Prelude.{Some, None}
 use mathlib.Core.Bool.{Bool, true, false, true≢false}
 use mathlib.Core.List.{List, [], ◌∷◌, ◌++◌}
 use mathlib.Core.Path.{◌≡◌, refl, sym, ap, ◌∙◌}
@@ -19,7 +20,6 @@ use Rattle.accounts.specs.Account.{Rightful, Agree}
 use Rattle.accounts.specs.declared.Account.{Account}
 use Rattle.accounts.proofs.Agreeing.{made_agrees}
 use Rattle.accounts.specs.declared.Lookup.{Lookup}
-use Rattle.authenticator.specs.declared.Retries.TheVariants.{Default}
 use Rattle.smbpasswd.specs.Line.{colon, is_account}
 use Rattle.smbpasswd.specs.Record.{is_expired, account_in}
 use Rattle.smbpasswd.specs.File.{lines, place_of, find_in}
@@ -89,7 +89,7 @@ abbrev first : Step
 first = ours (right old user) (line 55 own)
 
 abbrev begun : SeriesState
-begun = start (opening Default) [] account
+begun = start (opening None) [] account
 
 abbrev second : SeriesState
 second = next our_box our_writer begun first
@@ -106,11 +106,11 @@ handed_out = found (changed (entry_of account) (hash_of new_hash) no_hash)
 
 handed_out_lem : (exchange our_box our_writer second new_password (line 1118 (another not_found))).outcome.answer.updated ≡ handed_out
 handed_out_lem =
-    let ready = ready_first (opening Default) opens_default refl 0 [] (first ∷ change (another not_found) ∷ []) account (omega arith) (omega arith) refl in
-    change_updated account rightful agreeing (terms_of (opening Default)) [] second Two old new
+    let ready = ready_first (opening None) opens_default refl 0 [] (first ∷ change (another not_found) ∷ []) account (omega arith) (omega arith) refl in
+    change_updated account rightful agreeing (terms_of (opening None)) [] second Two old new
     (replicate 512 7)
     (line 1118 (another not_found))
-    (law account rightful agreeing (terms_of (opening Default)) (PasswordChange Two ∷ []) begun first ready first_allowed).2
+    (law account rightful agreeing (terms_of (opening None)) (PasswordChange Two ∷ []) begun first ready first_allowed).2
     change_is_allowed
     ∙ ap (λ (h : List ℕ). found (changed (entry_of account) (hash_of h) no_hash)) hash_new
 
@@ -118,7 +118,7 @@ handed_out_lem =
 series : (write : FileWriter) → KeptInFile our_box our_writer write
     → Along (next our_box our_writer) (KeptAt our_box our_writer write user file) begun (first ∷ change (another not_found) ∷ [])
 series write claim =
-    claim user file 1000 0 account in_file (opening Default) opens_default refl 0 [] (first ∷ change (another not_found) ∷ []) rightful (omega arith) (omega arith) refl
+    claim user file 1000 0 account in_file (opening None) opens_default refl 0 [] (first ∷ change (another not_found) ∷ []) rightful (omega arith) (omega arith) refl
     (first_allowed, (change_is_allowed, tt))
 
 -- its premises can be met: ours keeps the change of this series

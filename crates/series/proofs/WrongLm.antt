@@ -4,6 +4,7 @@
 -- said, and one whose conversation has a Success to repeat from the start. The sample of a peer
 -- that knows its LM hash alone shows that the premises can be met.
 -- Assumes nothing.
+use Rattle.std.specs.Prelude.{Option, Some, None}
 use mathlib.Core.Bool.{Bool, true, false, not, ◌&&◌, false≢true, true≢false}
 use mathlib.Core.List.{List, [], ◌∷◌, ◌++◌}
 use mathlib.Core.Logic.{◌≢◌, inl, inr}
@@ -29,10 +30,7 @@ use Rattle.authenticator.specs.Opening.{Opening, lm_allowed, first_conversation}
 use Rattle.authenticator.specs.Step.{Outcome}
 use Rattle.authenticator.specs.Steps.{StepInput, step_on, reply_of, unanswered, is_judged}
 use Rattle.authenticator.specs.declared.Conversation.{Conversation}
-use Rattle.authenticator.specs.declared.LmChoice.{LmChoice}
-use Rattle.authenticator.specs.declared.LmChoice.TheVariants.{Silent, Allowed, Disallowed}
 use Rattle.authenticator.specs.declared.Reply.TheVariants.{Success}
-use Rattle.authenticator.specs.declared.Retries.TheVariants.{Default}
 use Rattle.authenticator.proofs.Admitted.{Passes, passes, repeat_passes}
 use Rattle.authenticator.proofs.Fresh.{fresh_first}
 use Rattle.authenticator.proofs.Seen.{judged_exactly, unanswered_tracks}
@@ -52,8 +50,8 @@ use Rattle.series.proofs.Wrong.{success_code_lem, failure_code_lem}
 
 -- ---- a peer that knows its LM hash alone
 
-abbrev sample : LmChoice → Opening
-sample l = opening_with l (empty_list 8 6) Default challenge
+abbrev sample : Option Bool → Opening
+sample l = opening_with l (empty_list 8 6) None challenge
 
 -- an account with the LM hash of "MyPw" alone
 abbrev lm_only : Account
@@ -82,7 +80,7 @@ there = response_back 7 by_lm user [] (laws.length_response lm_only.lm.octets ch
 by_lm_lem : is_by_lm sent ≡ true
 by_lm_lem = ap (λ (f : fields.Response). not (eqb f.flag 1 && false)) there.fields
 
-pub lm_peer : (l : LmChoice) → LmPeer (sample l) lm_only sent
+pub lm_peer : (l : Option Bool) → LmPeer (sample l) lm_only sent
 lm_peer l =
     record {
       account = refl;
@@ -107,7 +105,7 @@ pub failed : (v : ChangeVersion) (id : ℕ) (reply : List ℕ) → IsAuthenticat
 failed v id reply (inl e) = ap (octet 0) e ∙ failure_code_lem id _
 failed v id reply (inr e) = ap (octet 0) e ∙ failure_code_lem id _
 
-module _ (l : LmChoice) where
+module _ (l : Option Bool) where
   abbrev first : Bool → Conversation
   first allowed = with_lm allowed (first_conversation (sample l))
 
@@ -130,14 +128,14 @@ module _ (l : LmChoice) where
       ∙ rw (passes c sent.packet sent.buffer (sent_passes allowed))
 
   -- the conversation of an opener that takes the choices so
-  conversation_taking : (takes : LmChoice → Bool) {t : Bool} → takes l ≡ t
+  conversation_taking : (takes : Option Bool → Bool) {t : Bool} → takes l ≡ t
       → ((takes_lm takes).answer (sample l)).conversation ≡ first t
   conversation_taking takes e = ap₂ with_lm e (opens_where_it_may (sample l) (openable l)).1
 
 -- ---- one way to take the choices
 
-module _ (takes : LmChoice → Bool) (claim : LmOptIn (takes_lm takes)) where
-  not_yes : (l : LmChoice) → l ≢ Allowed → takes l ≡ false
+module _ (takes : Option Bool → Bool) (claim : LmOptIn (takes_lm takes)) where
+  not_yes : (l : Option Bool) → l ≢ Some true → takes l ≡ false
   not_yes l h = which (takes l) refl
     where
       which : (t : Bool) → takes l ≡ t → takes l ≡ false
@@ -150,30 +148,30 @@ module _ (takes : LmChoice → Bool) (claim : LmOptIn (takes_lm takes)) where
           there.code by_lm_lem judged).0 in
           absurd (omega (arith, let_in l, ap code same, out))
 
-  yes : takes Allowed ≡ true
-  yes = which (takes Allowed) refl
+  yes : takes (Some true) ≡ true
+  yes = which (takes (Some true)) refl
     where
-      which : (t : Bool) → takes Allowed ≡ t → takes Allowed ≡ true
+      which : (t : Bool) → takes (Some true) ≡ t → takes (Some true) ≡ true
       which true e = e
       which false e =
-          let success = ap (octet 0) (claim.on (sample Allowed) refl (openable Allowed) lm_only sent
-          (lm_peer Allowed)) ∙ success_code_lem 7 in
+          let success = ap (octet 0) (claim.on (sample (Some true)) refl (openable (Some true)) lm_only sent
+          (lm_peer (Some true))) ∙ success_code_lem 7 in
           absurd (omega (
             arith,
             success,
-            ap code (conversation_taking Allowed takes e),
-            turned Allowed,
+            ap code (conversation_taking (Some true) takes e),
+            turned (Some true),
           ))
 
-  pub one_reading : (l : LmChoice) → takes l ≡ lm_allowed l
-  one_reading Silent = not_yes Silent (λ e. false≢true (ap lm_allowed e))
-  one_reading Allowed = yes
-  one_reading Disallowed = not_yes Disallowed (λ e. false≢true (ap lm_allowed e))
+  pub one_reading : (l : Option Bool) → takes l ≡ lm_allowed l
+  one_reading None = not_yes None (λ e. false≢true (ap lm_allowed e))
+  one_reading (Some true) = yes
+  one_reading (Some false) = not_yes (Some false) (λ e. false≢true (ap lm_allowed e))
 
 -- ---- refuses to open where nothing is said
 
 pub not_refusing_silent : (n : ℕ) → LmOptIn (refuses_silent n) → ⊥
-not_refusing_silent n claim = true≢false (claim.opens (sample Silent) (openable Silent))
+not_refusing_silent n claim = true≢false (claim.opens (sample None) (openable None))
 
 -- ---- has a Success to repeat from the start
 
@@ -183,7 +181,7 @@ already_answered c = with_last (answer_with c Success) c
 -- the first packet is taken for a repeat, and draws Success; nothing was seen that it repeats
 module _ (claim : LmOptIn opens_answered) where
   abbrev c : Conversation
-  c = already_answered (first_conversation (sample Silent))
+  c = already_answered (first_conversation (sample None))
 
   repeats : is_repeat c.last sent.packet ≡ true
   repeats = ap₂ (λ (t u : Bool). t && u) (eq-eqb (octet 0 sent.packet) 2 there.code)
@@ -209,10 +207,10 @@ module _ (claim : LmOptIn opens_answered) where
 
   pub not_opening_answered : ⊥
   not_opening_answered =
-      let same = ap already_answered (opens_where_it_may (sample Silent) (openable Silent)).1 in
+      let same = ap already_answered (opens_where_it_may (sample None) (openable None)).1 in
       let judged = subst (λ (x : Conversation). is_judged step_on (unanswered x) sent ≡ true)
       (sym same) seen_judged in
-      let out = failed Two _ _ (claim.off (sample Silent) (λ e. false≢true
+      let out = failed Two _ _ (claim.off (sample None) (λ e. false≢true
       (ap lm_allowed e)) [] sent
       there.code by_lm_lem judged).0 in
       omega (arith, success, ap code same, out)

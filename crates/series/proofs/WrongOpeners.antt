@@ -2,6 +2,7 @@
 -- conversation with a refusal, one that leaves the list as it was, and one that spends the
 -- challenge alone.
 -- Assumes nothing.
+use Rattle.std.specs.Prelude.{Some, None, true, false}
 use mathlib.Core.Bool.{true≢false}
 use mathlib.Core.List.{List, [], ◌∷◌, ◌++◌, flatten}
 use mathlib.Core.Path.{◌≡◌, refl, sym, ap, ◌∙◌}
@@ -35,8 +36,6 @@ use Rattle.authenticator.specs.Judge.{judge_response, judge}
 use Rattle.authenticator.specs.Step.{step}
 use Rattle.authenticator.specs.Steps.{StepInput, next_after}
 use Rattle.authenticator.specs.declared.Conversation.{Conversation}
-use Rattle.authenticator.specs.declared.LmChoice.TheVariants.{Silent}
-use Rattle.authenticator.specs.declared.Retries.TheVariants.{Default, Count}
 use Rattle.authenticator.proofs.Openings.{opened_first, may_open_empty}
 use Rattle.series.specs.Boxes.{with_retries, our_box}
 use Rattle.series.specs.Openers.{
@@ -62,7 +61,7 @@ use Rattle.series.proofs.Shared.{
 
 -- its conversation awaits a Response, and what this one hands out has ended
 pub not_refusing_to_open : (n : ℕ) → OneList (refuses_to_open n) → ⊥
-not_refusing_to_open n claim = true≢false (ap (λ (c : Conversation). is_ended c.phase) (claim.may_open first (openable Silent)).1)
+not_refusing_to_open n claim = true≢false (ap (λ (c : Conversation). is_ended c.phase) (claim.may_open first (openable None)).1)
 
 -- ---- a conversation is handed out with a refusal
 
@@ -72,7 +71,7 @@ pub not_opening_refused : NoneTwice opens_refused → ⊥
 not_opening_refused claim = claim (empty_list 8 6) first again both [] [] refl
   where
     again : Opening
-    again = opening_on (opened_issued first) Default challenge
+    again = opening_on (opened_issued first) None challenge
 
     both : Two opens_refused (empty_list 8 6) first again
     both =
@@ -106,10 +105,10 @@ not_leaving_list claim = claim (empty_list 8 6) first first twice [] [] refl
 
 -- the first opening allows one retry; the second has the successor for its challenge
 abbrev retrying : Opening
-retrying = opening_on (empty_list 8 6) (Count 1) challenge
+retrying = opening_on (empty_list 8 6) (Some 1) challenge
 
 abbrev following : Opening
-following = opening_on (opened_issued (no_retries retrying)) (Count 0) (incremented challenge)
+following = opening_on (opened_issued (no_retries retrying)) (Some 0) (incremented challenge)
 
 retrying_opens : (opened (no_retries retrying)).refusal ≡ 0
 retrying_opens = may_open_empty (no_retries retrying) (omega arith) (omega arith) (omega arith) six_places refl refl (omega arith)

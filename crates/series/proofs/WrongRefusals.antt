@@ -2,6 +2,7 @@
 -- the reply into the buffer and says that it refused, hands out the record that was passed, changes
 -- the conversation, ends it unseen, or judges the packet after all.
 -- Assumes nothing.
+use Rattle.std.specs.Prelude.{Some}
 use mathlib.Core.Bool.{Bool, true, false, cond, not, ◌&&◌, and-false, true≢false}
 use mathlib.Core.Option.{Option, none, some}
 use mathlib.Core.List.{List, [], ◌∷◌}
@@ -42,7 +43,6 @@ use Rattle.authenticator.specs.Steps.{
   StepClaim,
 }
 use Rattle.authenticator.specs.declared.Conversation.{Conversation}
-use Rattle.authenticator.specs.declared.Retries.TheVariants.{Count}
 use Rattle.authenticator.proofs.Openings.{opened_first}
 use Rattle.series.specs.Course.{total}
 use Rattle.series.specs.Series.{own, right, other, start, exchange, next, Demand3}
@@ -71,10 +71,10 @@ use Rattle.series.proofs.Sent.{first_id, sent_carries, seen_new}
 use Rattle.series.proofs.Wrong.{success_code_lem, try}
 
 abbrev pub first : Conversation
-first = first_conversation (opening (Count 1))
+first = first_conversation (opening (Some 1))
 
-pub first_once : (opened (opening (Count 1))).conversation ≡ first
-first_once = opened_first (opening (Count 1)) opens_once
+pub first_once : (opened (opening (Some 1))).conversation ≡ first
+first_once = opened_first (opening (Some 1)) opens_once
 
 -- a Response under another identifier than 255, which the first conversation awaits: our box
 -- refuses it with 5
@@ -97,7 +97,7 @@ four_laid = refl
 
 pub not_laying_replies : Demand3 (answering_refused lays_reply) our_writer → ⊥
 not_laying_replies h =
-    let most = ((h (opening (Count 1)) opens_once refl).2 many_strays).0 in
+    let most = ((h (opening (Some 1)) opens_once refl).2 many_strays).0 in
     omega (arith, ap (strays (answering_refused lays_reply)) first_once ∙ four_laid)
 
 -- ---- a step that draws no reply leaves all as it was
@@ -108,7 +108,7 @@ left_by : (box : Box) → Demand3 box our_writer → (s : StepInput) → judged 
     → (next_after box first s ≡ first) × ((box first s).answer.updated.found ≡ false)
 left_by box h s =
     (subst (λ (c : Conversation). StepClaim box (unanswered c) s) first_once
-    ((h (opening (Count 1)) opens_once refl).2 (s ∷ [])).1.0).leaves
+    ((h (opening (Some 1)) opens_once refl).2 (s ∷ [])).1.0).leaves
 
 -- a stray packet with a record
 abbrev lent_record : StepInput
@@ -176,17 +176,17 @@ stray_seen c e =
 -- so with the right password behind it two packets are judged, where it should be one
 pub not_judging_strays : Demand3 box our_writer → ⊥
 not_judging_strays h =
-    let p = start (opening (Count 1)) [] (account false) in
+    let p = start (opening (Some 1)) [] (account false) in
     let q = next box our_writer p (other stray) in
     let five = ap (λ (c : Conversation). ruled_refusal (unanswered c) stray) first_once
     ∙ stray_refused in
-    let all = (h (opening (Count 1)) opens_once refl).1 (account false) 0 []
+    let all = (h (opening (Some 1)) opens_once refl).1 (account false) 0 []
     (other stray ∷ right_try ∷ []) (rightful false) (agreeing false) (omega arith) (omega arith) refl
     (inr (λ z. omega (arith, five, z)), (right_allowed box our_writer q false, tt)) in
     let l = line 55 own in
     let x = exchange box our_writer q (right old user) l in
     let id = (sent_carries box q l (right old user) all.0.1.0.1).1
-    ∙ first_id (opening (Count 1)) opens_once refl [] (account false) in
+    ∙ first_id (opening (Some 1)) opens_once refl [] (account false) in
     let new = seen_new q.box x.input
     (ap (λ (a : Option AnsweredPacket). repeats_answered a x.input.packet)
     (stray_seen p.box.conversation first_once)

@@ -3,6 +3,7 @@
 -- one that takes another packet for a repeat; and one that calls its judgements repeats, whether it
 -- judges as ours does or without end.
 -- Assumes nothing.
+use Rattle.std.specs.Prelude.{Some}
 use mathlib.Core.Bool.{Bool, true, false, cond, not, ◌&&◌, and-false, true≢false}
 use mathlib.Core.List.{List, [], ◌∷◌, ◌++◌}
 use mathlib.Core.Logic.{◌≢◌}
@@ -44,9 +45,8 @@ use Rattle.authenticator.specs.Steps.{
 use Rattle.authenticator.specs.Steps.{unanswered, repeats_answered, is_repeat_at, refusal_at, is_judged}
 use Rattle.authenticator.specs.Steps.{judged, next_state, StepClaim}
 use Rattle.authenticator.specs.declared.Conversation.{Conversation}
-use Rattle.authenticator.specs.declared.Kind.{Kind}
+use Rattle.authenticator.specs.Step.{Kind}
 use Rattle.authenticator.specs.declared.Reply.TheVariants.{Failure}
-use Rattle.authenticator.specs.declared.Retries.TheVariants.{Count}
 use Rattle.authenticator.proofs.Admitted.{Readable}
 use Rattle.authenticator.proofs.Openings.{opened_first, may_open_empty}
 use Rattle.authenticator.specs.Repeats.{Again}
@@ -112,7 +112,7 @@ claim_after : (box : Box) → Demand3 box our_writer → (t : StepInput)
 claim_after box h t =
     subst (λ (c : Conversation). StepClaim box (next_state box (unanswered c) (try 255)) t)
     first_once
-    ((h (opening (Count 1)) opens_once refl).2 (try 255 ∷ t ∷ [])).1.1.0
+    ((h (opening (Some 1)) opens_once refl).2 (try 255 ∷ t ∷ [])).1.1.0
 
 -- what was seen of it, and the conversation: the same with any of these boxes, since the first
 -- packet is no repeat
@@ -191,11 +191,11 @@ not_silent_between_tries n h =
 
 -- with no retries the first invalid try ends the conversation
 abbrev only : Conversation
-only = first_conversation (opening (Count 0))
+only = first_conversation (opening (Some 0))
 
-opens_only : (opened (opening (Count 0))).refusal ≡ 0
+opens_only : (opened (opening (Some 0))).refusal ≡ 0
 opens_only =
-    may_open_empty (opening (Count 0)) (omega arith) (omega arith) (omega arith) three_places refl refl
+    may_open_empty (opening (Some 0)) (omega arith) (omega arith) (omega arith) three_places refl refl
     (omega arith)
 
 abbrev final : AnsweredPacket
@@ -222,8 +222,8 @@ module _ (n : ℕ) where
   not_silent_after_end h =
       let claim = subst (λ (c : Conversation). StepClaim (silent_after_end n)
       (next_state (silent_after_end n) (unanswered c) (try 255)) (try 255))
-      (opened_first (opening (Count 0)) opens_only)
-      ((h (opening (Count 0)) opens_only refl).2 (try 255 ∷ try 255 ∷ [])).1.1.0 in
+      (opened_first (opening (Some 0)) opens_only)
+      ((h (opening (Some 0)) opens_only refl).2 (try 255 ∷ try 255 ∷ [])).1.1.0 in
       let again = seen_repeat over (try 255) try_readable
       (ap (λ (a : Option AnsweredPacket). repeats_answered a (try 255).packet) seen_final) in
       omega (arith, (claim.same_reply final seen_final again).0, nothing_more, final_length)
@@ -300,7 +300,7 @@ module _ (k : Kind) (h : Demand3 (hands_out_again k) our_writer) where
 
   -- the places of the right password and of the change, and behind it
   abbrev p : SeriesState
-  p = start (opening (Count 1)) [] (account true)
+  p = start (opening (Some 1)) [] (account true)
 
   abbrev q : SeriesState
   q = next box our_writer p right_try
@@ -317,7 +317,7 @@ module _ (k : Kind) (h : Demand3 (hands_out_again k) our_writer) where
   claimed : Along (next box our_writer) (Claimed box our_writer (account true) Two) p
       (right_try ∷ change (another not_found) ∷ [])
   claimed =
-      ((h (opening (Count 1)) opens_once refl).1 (account true) 0 []
+      ((h (opening (Some 1)) opens_once refl).1 (account true) 0 []
       (right_try ∷ change (another not_found) ∷ []) (rightful true) (agreeing true)
       (omega arith) (omega arith) refl
       (right_allowed box our_writer p true, (change_allowed box our_writer q true (another not_found), tt))).0
@@ -418,7 +418,7 @@ module _ (k : Kind) (h : Demand3 (hands_out_again k) our_writer) where
       let unjudged : judged box r.box u ≡ 0 =
       ap (λ (x : Bool). cond {A = ℕ} (drew && not x) 1 0) again_seen
       ∙ ap (λ (x : Bool). cond {A = ℕ} x 1 0) (and-false drew) in
-      let claim = ((h (opening (Count 1)) opens_once refl).2 (s ∷ t ∷ u ∷ [])).1.1.1.0 in
+      let claim = ((h (opening (Some 1)) opens_once refl).2 (s ∷ t ∷ u ∷ [])).1.1.1.0 in
       true≢false (sym handed_out ∙ (claim.leaves unjudged).1)
 
 -- ---- calls its judgements repeats
@@ -432,7 +432,7 @@ pub not_calling_repeats : Demand3 (calls_repeats our_box) our_writer → ⊥
 not_calling_repeats h =
     let claim = subst (λ (c : Conversation). StepClaim (calls_repeats our_box) (unanswered c)
     (try 255)) first_once
-    ((h (opening (Count 1)) opens_once refl).2 (try 255 ∷ [])).1.0 in
+    ((h (opening (Some 1)) opens_once refl).2 (try 255 ∷ [])).1.0 in
     true≢false (sym called ∙ claim.says_repeated)
 
 -- and one that judges without end does not get out of the count by it
@@ -447,7 +447,7 @@ four_called = refl
 
 pub not_counting_called : Demand3 (calls_repeats (judging never_counts)) our_writer → ⊥
 not_counting_called h =
-    let most = ((h (opening (Count 1)) opens_once refl).2 tries).0 in
+    let most = ((h (opening (Some 1)) opens_once refl).2 tries).0 in
     omega (arith, ap called_of first_once ∙ four_called)
 
 -- ---- compares the identifier alone
@@ -475,5 +475,5 @@ four_compared = refl
 -- each draws a reply, and none is a repeat
 pub not_comparing_identifiers : Demand3 compares_identifier our_writer → ⊥
 not_comparing_identifiers h =
-    let most = ((h (opening (Count 1)) opens_once refl).2 others).0 in
+    let most = ((h (opening (Some 1)) opens_once refl).2 others).0 in
     omega (arith, ap compared_of first_once ∙ four_compared)

@@ -3,6 +3,7 @@
 -- and counts as ours does, one that hands a record with other round keys out repaired, and one that
 -- leaves the old round keys beside the new hash of a change.
 -- Assumes nothing.
+use Rattle.std.specs.Prelude.{Some, None}
 use mathlib.Core.Bool.{Bool, true, false, cond, not, ◌&&◌, and-false, true≢false}
 use mathlib.Core.List.{List, [], ◌∷◌}
 use mathlib.Core.Path.{◌≡◌, refl, sym, ap, ◌∙◌, subst}
@@ -37,7 +38,6 @@ use Rattle.authenticator.specs.Steps.{Box, unanswered, StepClaim}
 use Rattle.authenticator.specs.declared.Conversation.{Conversation}
 use Rattle.authenticator.specs.declared.Reply.{Reply}
 use Rattle.authenticator.specs.declared.Reply.TheVariants.{Success}
-use Rattle.authenticator.specs.declared.Retries.TheVariants.{Default, Count}
 use Rattle.authenticator.proofs.Openings.{opened_first}
 use Rattle.peer.specs.Write.{response_fields}
 use Rattle.peer.specs.declared.Turn.{Turn}
@@ -94,8 +94,8 @@ must_hand j h =
     let opens = opens_limited 5 (omega arith) in
     let s = guess_at 5 true mixed in
     let claim = subst (λ (c : Conversation). StepClaim (judging j) (unanswered c) s)
-    (opened_first (opening_of (Count 0) 5) opens)
-    ((h (opening_of (Count 0) 5) opens refl).2 (s ∷ [])).1.0 in
+    (opened_first (opening_of (Some 0) 5) opens)
+    ((h (opening_of (Some 0) 5) opens refl).2 (s ∷ [])).1.0 in
     let took = judging_took 5 true mixed j in
     ap (λ (o : Outcome). o.answer.updated) (sym took)
     ∙ (claim.hands_out (judged_so 5 true mixed (judging j) (j (begun 5) s) took) (said_code true)
@@ -131,7 +131,7 @@ not_repairing h =
 -- ---- a record with the round keys of "MyPw", whatever its hashes
 
 abbrev there : Conversation
-there = first_conversation (opening Default)
+there = first_conversation (opening None)
 
 -- does not let "bad" in, where LM is not allowed
 module _ (a : Account) (keys : a.nt_keys.keys ≡ schedules_of (nt_hash_of old)) where
@@ -150,7 +150,7 @@ module _ (a : Account) (keys : a.nt_keys.keys ≡ schedules_of (nt_hash_of old))
 -- what our peer sends for "bad", after the sample's opening
 module _ (box : Box) (b : Account) where
   abbrev to_try : SeriesState
-  to_try = later box our_writer (opening Default) [] b []
+  to_try = later box our_writer (opening None) [] b []
 
   abbrev tried : List ℕ
   tried = (exchange box our_writer to_try (right bad user) (line 60 own)).input.packet
@@ -159,7 +159,7 @@ module _ (box : Box) (b : Account) where
   fields =
       sent_fields box to_try
       ∙ ap (λ (f : ChallengeFields). response_fields f.challenge bad)
-      (challenge_read_lem (opening Default) opens_default refl [])
+      (challenge_read_lem (opening None) opens_default refl [])
 
   tried_invalid : (a : Account) → a.nt_keys.keys ≡ schedules_of (nt_hash_of old)
       → valid_in to_try.box.conversation a (read_response tried) ≡ false
@@ -196,13 +196,13 @@ pub not_replying_by_hash : Demand3 (judging replies_by_hash) our_writer → ⊥
 unfolding judge
 not_replying_by_hash h =
     let box = judging replies_by_hash in
-    let p = start (opening Default) [] (account false) in
+    let p = start (opening None) [] (account false) in
     let l = line 60 (another (found turned)) in
     let s = (exchange box our_writer p (invalid bad user) l).input in
     let locked = is_locked p.box.conversation.terms turned in
     let meant = ap (λ (v : Bool). not locked && v) (tried_invalid box (account false) turned refl)
     ∙ and-false (not locked) in
-    let all = (h (opening Default) opens_default refl).1 (account false) 1 []
+    let all = (h (opening None) opens_default refl).1 (account false) 1 []
     (ours (invalid bad user) l ∷ right_try ∷ []) (rightful false) (agreeing false) (omega arith)
     (omega arith) refl (
       (try_within bad l refl (omega arith) (omega arith), meant),
@@ -243,9 +243,9 @@ bad_within = record {
 pub not_keeping_schedules : Demand3 (judging keeps_schedules) our_writer → ⊥
 not_keeping_schedules h =
     let box = judging keeps_schedules in
-    let p = start (opening Default) [] (account true) in
+    let p = start (opening None) [] (account true) in
     let q = next box our_writer p right_try in
-    let all = (h (opening Default) opens_default refl).1 (account true) 0 []
+    let all = (h (opening None) opens_default refl).1 (account true) 0 []
     (right_try ∷ ours to_bad passed_old ∷ []) (rightful true) (agreeing true) (omega arith)
     (omega arith) refl (right_allowed box our_writer p true, ((bad_within, refl), tt)) in
     let s = (exchange box our_writer p (right old user) (line 55 own)).input in
@@ -266,7 +266,7 @@ not_keeping_schedules h =
     let b = (exchange box our_writer q to_bad passed_old).outcome.answer.updated.account in
     let r = to_try box b in
     let u = (exchange box our_writer r (right bad user) (line 60 own)).input in
-    let draws = answered.2 (opening Default) [] user [] (line 60 own) opens_default refl tt refl
+    let draws = answered.2 (opening None) [] user [] (line 60 own) opens_default refl tt refl
     (try_within bad (line 60 own) refl (omega arith) (omega arith)) in
     let code = code_drawn keeps_schedules r.box.conversation u (first_new u) (omega arith)
     (ap (octet 0) draws.0 ∙ success_code_lem 255) (omega arith) in

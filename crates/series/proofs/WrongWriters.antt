@@ -1,6 +1,7 @@
 -- Demand 3 holds of no writer that refuses everything, and of none that asks for the LM response to
 -- be judged.
 -- Assumes nothing.
+use Rattle.std.specs.Prelude.{None}
 use mathlib.Core.Bool.{Bool, true, false, not, ◌&&◌, true≢false}
 use mathlib.Core.List.{List, [], ◌∷◌, ◌++◌}
 use mathlib.Core.Path.{◌≡◌, refl, sym, ap, ◌∙◌}
@@ -29,7 +30,6 @@ use Rattle.authenticator.proofs.Steps.{Case, refused, repeated, judged, case_of,
 use Rattle.authenticator.specs.declared.Conversation.{Conversation}
 use Rattle.authenticator.specs.declared.Phase.{Phase}
 use Rattle.authenticator.specs.declared.Phase.TheVariants.{Response}
-use Rattle.authenticator.specs.declared.Retries.TheVariants.{Default}
 use Rattle.peer.specs.Write.{response_fields, write_response_refusal}
 use Rattle.peer.proofs.Left.{left_good}
 use Rattle.series.specs.Series.{own, right, start, exchange, Demand3}
@@ -60,7 +60,7 @@ code_for c = octet 0 (reply_of (our_box c (record {
   buffer = replicate 17 0;
 })))
 
-padding_draws_nothing : code_for (first_conversation (opening Default)) ≡ 0
+padding_draws_nothing : code_for (first_conversation (opening None)) ≡ 0
 unfolding refusal_for step
 padding_draws_nothing = refl
 
@@ -68,8 +68,8 @@ padding_draws_nothing = refl
 pub not_refusing_to_write : (n : ℕ) → Demand3 our_box (refusing_to_write n) → ⊥
 not_refusing_to_write n h =
     let writer = refusing_to_write n in
-    let p = start (opening Default) [] (account false) in
-    let all = (h (opening Default) opens_default refl).1 (account false) 0 [] (right_try ∷ [])
+    let p = start (opening None) [] (account false) in
+    let all = (h (opening None) opens_default refl).1 (account false) 0 [] (right_try ∷ [])
     (rightful false) (agreeing false) (omega arith) (omega arith) refl
     (right_allowed our_box writer p false, tt) in
     let code = ap (octet 0) all.0.0.0.0 ∙ success_code_lem _ in
@@ -125,8 +125,8 @@ module _ (c : Conversation) (lm : c.terms.lm ≡ false) (ph : c.phase ≡ Respon
 pub not_asking_for_lm : Demand3 our_box asks_for_lm → ⊥
 unfolding write_response_refusal response_write_refusal
 not_asking_for_lm h =
-    let p = start (opening Default) [] (account false) in
-    let all = (h (opening Default) opens_default refl).1 (account false) 0 [] (right_try ∷ [])
+    let p = start (opening None) [] (account false) in
+    let all = (h (opening None) opens_default refl).1 (account false) 0 [] (right_try ∷ [])
     (rightful false) (agreeing false) (omega arith) (omega arith) refl
     (right_allowed our_box asks_for_lm p false, tt) in
     let f = lm_fields (response_fields p.peer.turn.challenge old) in

@@ -24,8 +24,8 @@ use Rattle.authenticator.specs.Step.{Outcome, is_repeated, judged_as, repeated_a
 use Rattle.authenticator.specs.Steps.{StepInput, Box, step_on, refusal_at}
 use Rattle.authenticator.specs.declared.Conversation.{Conversation}
 use Rattle.authenticator.specs.declared.Reply.TheVariants.{Failure}
-use Rattle.authenticator.specs.declared.Kind.{Kind}
-use Rattle.authenticator.specs.declared.Kind.TheVariants.{Refused, Repeated, Judged}
+use Rattle.authenticator.specs.Step.{Kind}
+use Rattle.authenticator.specs.Step.{Refused, Repeated, Judged}
 
 -- refuses everything, with one number or another
 abbrev pub refusing : ℕ → Box

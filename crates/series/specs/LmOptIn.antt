@@ -2,6 +2,7 @@
 -- disallows it. The two benches with old phones .. must ask for it." What follows is said of any
 -- opener, so that it can be shown which ones the claim shuts out.
 -- Assumes nothing: these are definitions.
+use Rattle.std.specs.Prelude.{Some}
 use Rattle.std.specs.Prelude.{Bool, true, false, cond, not, ◌&&◌, List, ◌≢◌, ◌⊎◌, ◌≡◌, ℕ, ◌<◌, eqb}
 use Rattle.credentials.specs.Credentials.{response_of}
 use Rattle.message.specs.Reasons.{authentication_failure, password_expired}
@@ -19,7 +20,6 @@ use Rattle.authenticator.specs.Opening.{Opening, change_of, first_conversation}
 use Rattle.authenticator.specs.Step.{without_record}
 use Rattle.authenticator.specs.Steps.{StepInput, reply_of, BoxState, unanswered}
 use Rattle.authenticator.specs.Steps.{is_judged, next_state}
-use Rattle.authenticator.specs.declared.LmChoice.TheVariants.{Allowed}
 use Rattle.series.specs.Course.{end}
 use Rattle.series.specs.Boxes.{our_box}
 use Rattle.series.specs.Openers.{Opener}
@@ -64,7 +64,7 @@ module _ (opener : Opener) where
   -- record that is handed out with its count.
   abbrev pub OffByDefault : Type 0
   OffByDefault =
-      (o : Opening) → o.lm ≢ Allowed → (ss : List StepInput) (s : StepInput)
+      (o : Opening) → o.lm ≢ Some true → (ss : List StepInput) (s : StepInput)
       → octet 0 s.packet ≡ response_code → is_by_lm s ≡ true
       → is_judged our_box (place_after o ss) s ≡ true
       → IsAuthenticationFailure (change_of o.change) (octet 1 s.packet)
@@ -76,7 +76,7 @@ module _ (opener : Opener) where
   -- never allows LM would meet the rest.
   abbrev pub OnIfAllowed : Type 0
   OnIfAllowed =
-      (o : Opening) → o.lm ≡ Allowed → Openable o → (a : Account) (s : StepInput) → LmPeer o a s
+      (o : Opening) → o.lm ≡ Some true → Openable o → (a : Account) (s : StepInput) → LmPeer o a s
       → reply_of (our_box (opener.answer o).conversation s)
       ≡ cond a.expired
       (failure_packet o.id (text_of password_expired 0 (version (change_of o.change))))

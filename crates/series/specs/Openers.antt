@@ -2,16 +2,14 @@
 -- (specs/LmOptIn) hold of ours (proofs/OneList, LmOptIn); each of the others fails one of them
 -- (proofs/WrongOpeners, WrongLm), `takes_lm` in every way but ours.
 -- Assumes nothing: these are definitions.
+use Rattle.std.specs.Prelude.{Option, Some, None}
 use Rattle.std.specs.Prelude.{Bool, true, false, cond, List, ℕ, length}
 use Rattle.issued.specs.Issued.{Issued}
 use Rattle.authenticator.specs.Conversation.{answer_with, with_last, closed}
 use Rattle.authenticator.specs.Opening.{Opening, retries_of, open_refusal, first_conversation, opening_packet, opened, opened_issued, opened_buffer}
 use Rattle.authenticator.specs.declared.Conversation.{Conversation}
-use Rattle.authenticator.specs.declared.LmChoice.{LmChoice}
-use Rattle.authenticator.specs.declared.LmChoice.TheVariants.{Silent, Allowed, Disallowed}
-use Rattle.authenticator.specs.declared.Opened.{Opened}
+use Rattle.authenticator.specs.Opening.{Opened}
 use Rattle.authenticator.specs.declared.Reply.TheVariants.{Success}
-use Rattle.authenticator.specs.declared.Retries.TheVariants.{Count}
 use Rattle.series.specs.Boxes.{with_retries, with_lm}
 
 -- what an opening answers, and what it leaves in the list and in the reply buffer
@@ -59,7 +57,7 @@ no_retries o =
     record {
       id = o.id;
       challenge = o.challenge;
-      retries = Count 0;
+      retries = Some 0;
       lm = o.lm;
       change = o.change;
       limit = o.limit;
@@ -85,10 +83,10 @@ spends_one =
     }
 
 -- refuses an opening that is silent about LM, with one number or another
-abbrev pub is_silent : LmChoice → Bool
-is_silent Silent = true
-is_silent Allowed = false
-is_silent Disallowed = false
+abbrev pub is_silent : Option Bool → Bool
+is_silent None = true
+is_silent (Some true) = false
+is_silent (Some false) = false
 
 abbrev pub refuses_silent : ℕ → Opener
 refuses_silent n =
@@ -115,7 +113,7 @@ with_conversation other =
     }
 
 -- takes the three choices about LM in one way or another
-abbrev pub takes_lm : (LmChoice → Bool) → Opener
+abbrev pub takes_lm : (Option Bool → Bool) → Opener
 takes_lm allowed = with_conversation (λ o c. with_lm (allowed o.lm) c)
 
 -- its conversation has answered the awaited packet with Success already, so that what comes is

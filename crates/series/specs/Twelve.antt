@@ -1,6 +1,7 @@
 -- Document 01's table of twelve: inputs, outputs, what each input gives by the definitions, and the
 -- rows.
 -- Assumes nothing: these are definitions.
+use Rattle.std.specs.Prelude.{None}
 use Rattle.std.specs.Prelude.{cond, List, [], ◌∷◌, ◌++◌, ℕ, take, replicate}
 use Rattle.std.proofs.Math.Option.{Option, none, some}
 use Rattle.des.specs.Des.{expand_key}
@@ -17,11 +18,8 @@ use Rattle.accounts.specs.Account.{not_found}
 use Rattle.authenticator.specs.Opening.{Opening, first_conversation, opened, opened_buffer}
 use Rattle.authenticator.specs.Step.{Outcome, step}
 use Rattle.authenticator.specs.Steps.{reply_of}
-use Rattle.authenticator.specs.declared.Kind as kinds
-use Rattle.authenticator.specs.declared.Kind.TheVariants as kind
-use Rattle.authenticator.specs.declared.Retries.TheVariants.{Default}
-use Rattle.authenticator.specs.declared.ChangeChoice.TheVariants.{Unspecified}
-use Rattle.authenticator.specs.declared.LmChoice.TheVariants.{Silent}
+use Rattle.authenticator.specs.Step as kinds
+use Rattle.authenticator.specs.Step as kind
 
 -- An identifier or a challenge whose next is asked for; a raw key; an opening with an identifier
 -- and a challenge; a Response to a conversation that awaits an identifier, with no record; an
@@ -49,9 +47,9 @@ opening_of id c =
     record {
       id = id;
       challenge = c;
-      retries = Default;
-      lm = Silent;
-      change = Unspecified;
+      retries = None;
+      lm = None;
+      change = None;
       limit = 255;
       issued = empty_list 8 3;
       buffer = replicate 17 0;

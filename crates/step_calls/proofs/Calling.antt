@@ -8,7 +8,7 @@ use borrow.Author.Tests.{eqb-true, ne_eqb}
 use lib.ListN.{length}
 use Rattle.authenticator.specs.Admit.{step_refusal}
 use Rattle.authenticator.specs.Step.{Outcome, step, refusal_in, stepped_of}
-use Rattle.authenticator.specs.declared.Stepped.{Stepped}
+use Rattle.authenticator.specs.Step.{Stepped}
 use Rattle.authenticator.proofs.Carried.{Seen, seen_of, read_only, same_read}
 use Rattle.authenticator.specs.declared.Conversation.{Conversation}
 use Rattle.authenticator.proofs.Steps.{Case, refused, repeated, judged, case_of}

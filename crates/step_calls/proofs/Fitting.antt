@@ -40,7 +40,7 @@ use Rattle.verify.specs.Change.{CheckedChange}
 use Rattle.authenticator.specs.Step.{Outcome, step, refusal_in, reason_in, step_fault}
 use Rattle.authenticator.specs.Step.{stepped_of, hands_back, handed_out}
 use Rattle.authenticator.proofs.Carried.{handed_back}
-use Rattle.authenticator.specs.declared.Answer.{Answer}
+use Rattle.authenticator.specs.Step.{Answer}
 use Rattle.authenticator.specs.declared.Reply.{Reply}
 use Rattle.authenticator.specs.declared.Reply.TheVariants.{Success, Failure}
 use Rattle.verify.proofs.Reasons.{three_digits, response_reason_lem}

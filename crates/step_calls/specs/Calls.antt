@@ -5,7 +5,7 @@ use Rattle.accounts.specs.Account.{account_of}
 use Rattle.authenticator.specs.Conversation.{awaited_code}
 use Rattle.authenticator.specs.Step.{Outcome, step, refusal_in, stepped_of, hands_back}
 use Rattle.authenticator.specs.declared.Phase.{Phase}
-use Rattle.authenticator.specs.declared.Stepped.{Stepped}
+use Rattle.authenticator.specs.Step.{Stepped}
 use Rattle.verify.specs.Faults.{fault_number}
 use Rattle.layouts.specs.Call.{Fills, sized, numbered, value_or, after_call}
 use Rattle.layouts.specs.Keys.{encode_schedules}

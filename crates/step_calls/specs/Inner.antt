@@ -7,7 +7,7 @@ use Rattle.accounts.specs.declared.EntryLookup.{EntryLookup}
 use Rattle.authenticator.specs.Step.{refusal_in}
 use Rattle.authenticator.specs.declared.Conversation.{Conversation}
 use Rattle.authenticator.specs.declared.Phase.{Phase}
-use Rattle.authenticator.specs.declared.Stepped.{Stepped}
+use Rattle.authenticator.specs.Step.{Stepped}
 use Rattle.layouts.specs.Call.{sized, after_call}
 use Rattle.layouts.specs.Answers.{answer_size, encode_answer}
 use Rattle.layouts.specs.Records.{is_record_of}

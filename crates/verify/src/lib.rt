@@ -16,8 +16,8 @@ use accounts::{EntryLookup, Hash};
 // V of every Failure is its number.
 #[derive(Clone, Copy)]
 pub enum ChangeVersion {
-    One,
-    Two,
+    One = 1,
+    Two = 2,
 }
 
 // What the opening fixes for the whole conversation.

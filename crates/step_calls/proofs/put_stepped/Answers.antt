@@ -12,7 +12,7 @@ use Rattle.layouts.specs.Call.{Fills, sized, after_call}
 use Rattle.layouts.specs.Keys.{both_keys_size, encode_schedules}
 use Rattle.layouts.specs.Answers.{answer_head_size, answer_size, answer_head, encode_answer}
 use Rattle.authenticator.specs.declared.Conversation.{Conversation}
-use Rattle.authenticator.specs.declared.Stepped.{Stepped}
+use Rattle.authenticator.specs.Step.{Stepped}
 use Rattle.layouts.specs.Conversations.{conversation_size, encode_conversation}
 use Rattle.layouts.specs.Records.{record_keys}
 use Rattle.layouts.specs.declared.StepResult.{StepResult}

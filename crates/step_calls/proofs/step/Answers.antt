@@ -13,7 +13,7 @@ use Rattle.verify.specs.Response.{uses_nt, judging_keys, carrying_lookup}
 use Rattle.authenticator.specs.Admit.{step_refusal}
 use Rattle.authenticator.specs.Step.{Outcome, step, refusal_in}
 use Rattle.authenticator.specs.declared.Conversation.{Conversation}
-use Rattle.authenticator.specs.declared.Stepped.{Stepped}
+use Rattle.authenticator.specs.Step.{Stepped}
 use Rattle.authenticator.proofs.Carried.{Seen, seen_of}
 use Rattle.authenticator.proofs.Steps.{number_step}
 use Rattle.layouts.specs.Call.{numbered}

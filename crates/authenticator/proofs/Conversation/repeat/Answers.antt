@@ -7,8 +7,8 @@ use lib.ListN.{length}
 use Rattle.accounts.specs.declared.EntryLookup.{EntryLookup}
 use Rattle.authenticator.specs.Encode.{reply_packet}
 use Rattle.authenticator.specs.Judge.{reason_of}
-use Rattle.authenticator.specs.declared.Stepped.{Stepped}
-use Rattle.authenticator.specs.declared.Kind.TheVariants.{Repeated}
+use Rattle.authenticator.specs.Step.{Stepped}
+use Rattle.authenticator.specs.Step.{Repeated}
 use Rattle.authenticator.proofs.Written.{reply_fits, written_whole}
 use Rattle.authenticator.proofs.Conversation.repeat.Goals as goal
 

@@ -13,9 +13,9 @@ use Rattle.accounts.specs.Account.{stored_in}
 use Rattle.packets.specs.Response.{read_response}
 use Rattle.verify.specs.Response.{judging_keys, carrying_lookup}
 use Rattle.authenticator.specs.Step.{step, stepped_of, hands_back, handed_out}
-use Rattle.authenticator.specs.declared.Answer.{Answer}
+use Rattle.authenticator.specs.Step.{Answer}
 use Rattle.authenticator.specs.declared.Phase.{Phase}
-use Rattle.authenticator.specs.declared.Stepped.{Stepped}
+use Rattle.authenticator.specs.Step.{Stepped}
 use Rattle.authenticator.proofs.Carried.{Seen, seen_of, same_read, handed_back}
 use Rattle.authenticator.proofs.Steps.{told}
 use Rattle.authenticator.proofs.Conversation.step.Goals as goal

@@ -18,10 +18,10 @@ use Rattle.authenticator.specs.Admit.{refusal_for, step_refusal}
 use Rattle.authenticator.specs.Judge.{verdict_of, reason_of, judge}
 use Rattle.authenticator.specs.Encode.{reply_packet}
 use Rattle.authenticator.specs.Step.{Outcome, stepped_of}
-use Rattle.authenticator.specs.declared.Stepped.{Stepped}
+use Rattle.authenticator.specs.Step.{Stepped}
 use Rattle.authenticator.specs.declared.Conversation.{Conversation}
 use Rattle.authenticator.specs.declared.Verdict.{Verdict}
-use Rattle.authenticator.specs.declared.Kind.TheVariants.{Refused, Judged}
+use Rattle.authenticator.specs.Step.{Refused, Judged}
 use Rattle.authenticator.proofs.Admitted.{passed, readable_by}
 use Rattle.authenticator.proofs.Steps.{judged_step, repeated_step, refused_step}
 use Rattle.authenticator.proofs.Written.{reply_fits, written_whole}
