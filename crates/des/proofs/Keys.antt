@@ -138,10 +138,12 @@ key_at_place cd i m h hi e hm =
     ∙ ap (key_by c d hc hd) e
     ∙ sym (key_at c d hc hd i hi)
 
-length_from : (ss : List ℕ) (c d : ℕ) → length (keys_from ss c d) ≡ length ss
-length_from [] c d = refl
-length_from (s ∷ ss) c d = ap suc (length_from ss (rotate s c) (rotate s d))
+-- all left shifts are 28 places
+below_all : (n : ℕ) (ss : List ℕ) → shifts_of n ss ≤ shifts_of (length ss) ss
+below_all zero ss = omega arith
+below_all (suc n) [] = omega arith
+below_all (suc n) (s ∷ ss) = omega (arith, below_all n ss)
 
-pub sixteen : (cd : ℕ) → length (keys_of cd) ≡ 16
-unfolding shifts
-sixteen cd = length_from shifts (cd / 2 ^ 28) (cd % 2 ^ 28)
+pub rotated_le : (i : ℕ) → rotated_by i ≤ 28
+unfolding rotated_by shifts
+rotated_le i = below_all (suc i) shifts

@@ -5,6 +5,7 @@ ghost use Rattle.des.specs.Des.{permute};
 ghost use Rattle.des.specs.Inner.{bits_swapped};
 
 // Those bits of x that the mask m names change places with the bits n places above them.
+#[tactic(auto, unfolding(crate::specs::Inner::bits_swapped))]
 fn swap_bits(x: u64, n: u32, m: u64) -> u64
     requires { n < 64 }
     ensures { result ≡ bits_swapped n m x }

@@ -1,13 +1,13 @@
 -- `des::rounds::cipher_function` meets its contract.
 -- Assumes nothing.
-use Rattle.des.proofs.Round.{joined_right}
+use Rattle.des.proofs.Stored.{stored_right}
 use Rattle.des.proofs.rounds.cipher_function.Goals as goal
 
 pub returns : goal.returns
 returns c =
     let w = c in
     let s = w in
-    joined_right s.args.r s.args.k _ s.ranges.r.fits w.spread_bits-w.ensures _ _ _ _ _ _ _ _
+    stored_right s.args.r s.args.k _ s.ranges.r.fits w.spread_bits-w.ensures _ _ _ _ _ _ _ _
     c.folded_at-s1.ensures
     c.folded_at-s2.ensures
     c.folded_at-s3.ensures
