@@ -1,8 +1,8 @@
 -- PC-1 by the rows of IP, and PC-2 by seven bits of C and D at a time.
 -- Assumes nothing.
-use mathlib.Core.Path.{◌≡◌, sym, ap₂, ◌∙◌}
+use mathlib.Core.Path.{◌≡◌, sym, ap, ap₂, ◌∙◌}
 use Prim.Native.Nat.{ℕ, ◌+◌, ◌*◌, ◌/◌, ◌%◌, ◌^◌, ◌<◌}
-use native.Mathlib.Nat.{mod-lt}
+use native.Mathlib.Nat.{mod-lt, div-one}
 use lib.Arith.{digits_lt}
 use lib.Bits.{bit_xor, bit_and}
 use lib.Pow.{pow_pos, high, low}
@@ -55,11 +55,16 @@ by_sevens x =
     (packed_at 0 (x / 2 ^ 0 % 2 ^ 7))
 
 -- four times seven bits are all 28
-pub sevens : (x : ℕ) → x < 2 ^ 64 → by_sevens x ≡ packed_at 0 (x % 2 ^ 28)
+sevens : (x : ℕ) → x < 2 ^ 64 → by_sevens x ≡ packed_at 0 (x % 2 ^ 28)
 unfolding chosen_at pc2 pack_key
 sevens =
     agree by_sevens (λ x. packed_at 0 (x % 2 ^ 28)) (lin_xor (lin_xor (lin_xor (seven 21) (seven 14)) (seven 7)) (seven 0))
     (lin_packed 0 (lin_mod 28 lin_id)) 64 tt
+
+pub choose_both_lem : (x : ℕ) {a b c d : ℕ} → x < 2 ^ 64 → a ≡ packed_at 21 (x / 2 ^ 21 % 128) → b ≡ packed_at 14 (x / 2 ^ 14 % 128)
+    → c ≡ packed_at 7 (x / 2 ^ 7 % 128) → d ≡ packed_at 0 (x % 128) → bit_xor (bit_xor (bit_xor a b) c) d ≡ packed_at 0 (x % 2 ^ 28)
+choose_both_lem x h ea eb ec ed =
+    ap₂ bit_xor (ap₂ bit_xor (ap₂ bit_xor ea eb) ec) (ed ∙ ap (λ (v : ℕ). packed_at 0 (v % 128)) (sym (div-one x))) ∙ sevens x h
 
 abbrev by_halves : ℕ → ℕ → ℕ
 by_halves c d = bit_xor (bit_and (packed_at 0 c) 0x3F3F_0000_3F3F_0000) (bit_and (packed_at 0 d) 0x3F3F_0000_3F3F)

@@ -1,7 +1,7 @@
 -- The round key of each round: C and D there are those of PC-1, rotated by all left shifts up to
 -- it, and stand so in C and D written twice.
 -- Assumes nothing.
-use mathlib.Core.Path.{◌≡◌, refl, sym, ap, ap₂, ◌∙◌, subst}
+use mathlib.Core.Path.{◌≡◌, sym, ap, ap₂, ◌∙◌, subst}
 use mathlib.Core.List.{List, [], ◌∷◌}
 use Prim.Native.Nat.{ℕ, zero, suc, ◌+◌, ◌-◌, ◌*◌, ◌/◌, ◌%◌, ◌^◌, ◌≤◌, ◌<◌}
 use native.Mathlib.Nat.{add-zero, zero-add, add_assoc, add-mul, mul_assoc, mod-lt, not-suc-le-zero, le_of_suc-le-suc}
@@ -15,10 +15,14 @@ use Rattle.des.specs.Des.{permute, rotate, keys_from, round_keys, expand_key, sc
 use Rattle.des.specs.Inner.{shifts_of, rotated_by, keys_of}
 use Rattle.des.proofs.Permute.{permute_lt}
 
--- the C and D of PC-1 for a key of seven octets: 56 bits, and the round keys from them
-pub choice_keys : {cd : ℕ} (key : List ℕ) → cd ≡ permute 64 pc1 (from_be (expand_key key)) → (cd < 2 ^ 56) × (keys_of cd ≡ schedule_of key)
-unfolding pc1 schedule_of round_keys
-choice_keys key e = (rw e (permute_lt 64 (from_be (expand_key key)) pc1), ap keys_of e)
+-- the C and D of PC-1: 56 bits, and the round keys from them
+pub choice_lt : (cd key : ℕ) → cd ≡ permute 64 pc1 key → cd < 2 ^ 56
+unfolding pc1
+choice_lt cd key e = rw e (permute_lt 64 key pc1)
+
+pub choice_keys : (cd : ℕ) (key : List ℕ) → cd ≡ permute 64 pc1 (from_be (expand_key key)) → keys_of cd ≡ schedule_of key
+unfolding schedule_of round_keys
+choice_keys cd key e = ap keys_of e
 
 -- ---- rotations
 

@@ -3,22 +3,21 @@
 -- Assumes nothing.
 use mathlib.Core.Path.{◌≡◌, refl, sym, ap, ap₂, ◌∙◌}
 use mathlib.Core.List.{List, [], ◌∷◌, ◌++◌, map, reverse}
-use Prim.Native.Nat.{ℕ, zero, suc, ◌+◌, ◌*◌, ◌/◌, ◌%◌, ◌^◌, ◌≤◌, ◌<◌}
-use native.Mathlib.Nat.{mod-lt, mod-eq_of_lt, div-one}
+use Prim.Native.Nat.{ℕ, zero, suc, ◌+◌, ◌*◌, ◌/◌, ◌%◌, ◌^◌, ◌<◌}
+use native.Mathlib.Nat.{div-one}
 use native.Mathlib.Omega.{arith}
 use lib.Dec.{lit<}
-use lib.ListN.{length, get_or, take, drop, length-append, length-map, get_or-map}
-use lib.Pow.{shr-shr, mod-mod-pow}
-use lib.Seq.{take_all, take_at, drop_at, drop-drop, get_or-take, get_or-drop}
+use lib.ListN.{length, get_or, take, drop, length-append, length-map}
+use lib.Pow.{shr-shr}
+use lib.Seq.{take_all, take_at, drop_at, drop-drop}
 use lib.Bits.{bit_xor, xor_shr, xor_mod}
-use Rattle.octets.specs.Numbers.{from_digits, to_digits, from_be, to_be}
+use Rattle.octets.specs.Numbers.{to_digits, from_be, to_be}
 use Rattle.octets.specs.Parts.{part}
-use Rattle.octets.proofs.Numbers.{Below, Octets, from_to, to_from}
-use Rattle.octets.proofs.Parts.{length_part}
+use Rattle.octets.proofs.Numbers.{Below, Octets}
 use Rattle.des.specs.Tables.{pc1, pc2, shifts}
 use Rattle.des.specs.Des.{permute, cipher_f, rotate, crypt, keys_from, round_keys, expand_key, schedule_of, des_encrypt, des_three}
 use Rattle.des.specs.Inner.{spread, folded_at, length_made, keys_of}
-use Rattle.des.specs.Stored.{six, pack_key, unpack_key, stored_schedule, three_schedules, des_under, three_under}
+use Rattle.des.specs.Stored.{pack_key, unpack_key, stored_schedule, three_schedules, des_under, three_under}
 use Rattle.des.proofs.Permute.{permute_lt}
 use Rattle.des.proofs.Packed.{sixes, in_stored, groups, unpack_pack}
 use Rattle.des.proofs.Round.{joined_right}

@@ -20,6 +20,7 @@ use schedule::{MadeKeys, fill_schedule};
 // ---- keys of seven octets and of eight
 
 // The 56 bits of a key in the top seven bits of eight octets, the parity bits clear.
+#[tactic(auto, using(crate::proofs::Sizes::expand_written))]
 pub fn expand_key(key: [u8; 7]) -> [u8; 8]
     ensures { result ≡ expand_key key }
 {
@@ -52,6 +53,7 @@ pub fn drop_parity(key: [u8; 8]) -> [u8; 7]
 // ---- DES
 
 // A block under a key: each round key is made in its round.
+#[tactic(auto, unfolding(crate::specs::Des::des_encrypt))]
 pub fn encrypt(key: [u8; 7], block: [u8; 8]) -> [u8; 8]
     ensures { result ≡ des_encrypt key block }
 {
@@ -59,6 +61,7 @@ pub fn encrypt(key: [u8; 7], block: [u8; 8]) -> [u8; 8]
 }
 
 // What undoes encrypt under the same key: the round keys in the opposite order.
+#[tactic(auto, unfolding(crate::specs::Des::des_decrypt))]
 pub fn decrypt(key: [u8; 7], block: [u8; 8]) -> [u8; 8]
     ensures { result ≡ des_decrypt key block }
 {

@@ -15,6 +15,7 @@ fn swap_bits(x: u64, n: u32, m: u64) -> u64
 }
 
 // IP.
+#[tactic(auto, using(crate::proofs::Swaps::ip_swaps_lem))]
 pub(crate) fn initial_permutation(x: u64) -> u64
     ensures { result ≡ permute 64 ip x }
 {
@@ -26,6 +27,7 @@ pub(crate) fn initial_permutation(x: u64) -> u64
 }
 
 // The inverse of IP: the same exchanges in the opposite order.
+#[tactic(auto, using(crate::proofs::Swaps::fp_swaps_lem))]
 pub(crate) fn final_permutation(x: u64) -> u64
     ensures { result ≡ permute 64 fp x }
 {

@@ -50,6 +50,7 @@ fn arrange(y: u64) -> u64
 }
 
 // PC-1.
+#[tactic(auto, using(crate::proofs::Choices::rows))]
 fn first_choice(key: u64) -> u64
     ensures { result ≡ permute 64 pc1 key }
 {
@@ -57,6 +58,7 @@ fn first_choice(key: u64) -> u64
 }
 
 // PC-2 where C and D are both the 28 low bits of x, as a stored round key has it.
+#[tactic(auto, using(crate::proofs::Choices::choose_both_lem))]
 fn choose_both(x: u64) -> u64
     ensures { result ≡ pack_key (chosen_at 0 (x % 0x1000_0000)) }
 {
@@ -65,6 +67,7 @@ fn choose_both(x: u64) -> u64
 
 // PC-2 of the 28 low bits of c and of d, as a stored round key has it: the groups of S1 to S4 are
 // from C, those of S5 to S8 from D.
+#[tactic(auto, using(crate::proofs::Choices::by_halves_lem))]
 fn second_choice(c: u64, d: u64) -> u64
     ensures { result
         ≡ pack_key (permute 56 pc2 (c % 0x1000_0000 * 0x1000_0000 + d % 0x1000_0000)) }
@@ -84,6 +87,7 @@ pub(crate) struct MadeKeys {
 
 impl MadeKeys {
     // For a key of seven octets.
+    #[tactic(auto, using(crate::proofs::Keys::choice_lt, crate::proofs::Keys::choice_keys))]
     pub(crate) fn of_key(key: [u8; 7]) -> MadeKeys
         ensures { keys_of result.cd ≡ schedule_of key }
     {
@@ -94,6 +98,7 @@ impl MadeKeys {
 
     // The round key of the round i, counted from 0, as it is stored: 28 bits rotated to the left by
     // n places stand 28 - n places from the end of those bits written twice.
+    #[tactic(auto, using(crate::proofs::Keys::key_at_place))]
     fn stored_key(&self, i: usize) -> u64
         requires { i < 16 }
         ensures { result ≡ pack_key (get_or (keys_of self.now.cd) i 0) }
@@ -108,6 +113,7 @@ impl MadeKeys {
 impl RoundKeys for MadeKeys {
     ghost keys = { λ s. keys_of s.cd };
 
+    #[tactic(auto, using(crate::proofs::Stored::unpack_made))]
     fn key(&self, i: usize) -> u64 {
         self.stored_key(i)
     }

@@ -523,6 +523,7 @@ static FOLDED: [u32; 512] = [
 
 // P of what the selection function i, counted from 0, gives for the six low bits of b, put in its
 // place.
+#[tactic(auto, using(crate::proofs::TableEntries::folded_entry))]
 pub(crate) fn folded_at(i: usize, b: u64) -> u32
     requires { i < 8 }
     ensures { result ≡ folded_at i (b % 64) }
@@ -1050,6 +1051,7 @@ static CHOSEN: [u64; 512] = [
 
 // PC-2 of the seven i of C and of D, counted from 0, which are the last seven bits of b, as a stored
 // round key has it.
+#[tactic(auto, using(crate::proofs::TableEntries::chosen_entry))]
 pub(crate) fn chosen_at(i: usize, b: u64) -> u64
     requires { i < 4 }
     ensures { result ≡ pack_key (chosen_at (21 - 7 * i) (b % 128)) }
@@ -1061,6 +1063,7 @@ pub(crate) fn chosen_at(i: usize, b: u64) -> u64
 static ROTATIONS: [u32; 16] = [1, 2, 4, 6, 8, 10, 12, 14, 15, 17, 19, 21, 23, 25, 27, 28];
 
 // The places by which C and D are rotated in the round i, counted from 0.
+#[tactic(auto, using(crate::proofs::Keys::rotated_le, crate::proofs::TableEntries::rotation_entry))]
 pub(crate) fn rotated_by(i: usize) -> u32
     requires { i < 16 }
     ensures { (result ≡ rotated_by i) × (result ≤ 28) }

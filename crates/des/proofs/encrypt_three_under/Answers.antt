@@ -2,15 +2,13 @@
 -- Assumes nothing.
 use mathlib.Core.Bool.{Bool, cond}
 use mathlib.Core.List.{List, ◌++◌, map}
-use mathlib.Core.Path.{◌≡◌, sym, ap, ap₂, ◌∙◌}
+use mathlib.Core.Path.{◌≡◌, sym, ap, ◌∙◌}
 use Prim.Native.Nat.{ℕ}
-use native.Mathlib.Omega.{arith}
 use borrow.Author.Tests.{eq-eqb, ne_eqb}
-use lib.ListN.{length, take, drop, replicate}
+use lib.ListN.{length, replicate}
 use Rattle.octets.specs.Numbers.{from_be, to_be}
 use Rattle.octets.specs.Parts.{part}
 use Rattle.des.specs.Des.{crypt}
-use Rattle.des.specs.Inner.{kept_keys}
 use Rattle.des.specs.Stored.{stored_size, unpack_key, des_under, three_under, decode_keys, keys_in}
 use Rattle.des.proofs.StoredOctets.{decoded_zeros, kept_parts}
 use Rattle.des.proofs.encrypt_three_under.Goals.{then-keys-eq-STORED_SIZE, else-keys-eq-STORED_SIZE}

@@ -1,5 +1,4 @@
 use native.Mathlib.Numerals.{add-one}
-use native.Mathlib.Omega.{arith}
 use Rattle.des.proofs.Round.{no_rounds, one_round, crypted}
 use Rattle.des.proofs.rounds.crypt_block.Goals as goal
 

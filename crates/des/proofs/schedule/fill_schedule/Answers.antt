@@ -3,7 +3,7 @@ use mathlib.Core.List.{List, [], ◌∷◌, ◌++◌, map}
 use Prim.Native.Nat.{ℕ}
 use native.Mathlib.Numerals.{add-one}
 use native.Mathlib.Omega.{arith}
-use lib.ListN.{length, get_or, length-set, length-map, get_or-map}
+use lib.ListN.{length, length-set, length-map, get_or-map}
 use lib.Seq.{take-suc, take-suc-set, take_all}
 use Rattle.des.specs.Inner.{keys_of, length_made}
 use Rattle.des.specs.Stored.{pack_key, stored_schedule}

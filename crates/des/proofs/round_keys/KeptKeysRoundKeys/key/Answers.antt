@@ -4,7 +4,7 @@ use mathlib.Core.Path.{◌≡◌, sym, ap, ◌∙◌}
 use mathlib.Core.List.{List}
 use Prim.Native.Nat.{ℕ, ◌-◌, ◌*◌}
 use native.Mathlib.Omega.{arith}
-use lib.ListN.{length, take, drop, get_or-map}
+use lib.ListN.{length, drop, get_or-map}
 use lib.Seq.{take-take}
 use Rattle.std.specs.Int.{w64, from_le_bytes}
 use Rattle.octets.specs.Numbers.{from_le}
