@@ -11,7 +11,6 @@ use lib.Dec.{T}
 use lib.ListN.{length, drop, get_or, drop_of_length-le}
 use lib.Seq.{drop-cons}
 use lib.Bits.{bit_xor, xor_zero_l, xor_shr, xor_mod}
-use Rattle.octets.specs.Numbers.{to_be}
 use Rattle.des.specs.Tables.{ip, fp, expansion, boxes}
 use Rattle.des.specs.Des.{permute, cipher_f, rounds, crypt}
 use Rattle.des.specs.Inner.{spread, folded_at}
@@ -87,13 +86,11 @@ one_round {ks} {i = i} {l} {r} {k} g n h ek e = record {
 }
 
 -- after sixteen rounds from the halves of IP of a block, the inverse of IP of the preoutput block
--- R L is the block under ks, here as octets
-pub crypted : {ks o : List ℕ} {l₀ r₀ i l r v : ℕ} (x : ℕ) → AfterRounds ks l₀ r₀ i l r → length ks ≡ 16 → 16 ≤ i
-    → (l₀ ≡ permute 64 ip x / 2 ^ 32) × (r₀ ≡ permute 64 ip x % 2 ^ 32)
-    → v ≡ permute 64 fp (r * 2 ^ 32 + l) → o ≡ to_be 8 v → o ≡ to_be 8 (crypt ks x)
+-- R L is the block under ks
+pub crypted : {ks : List ℕ} {l₀ r₀ i l r v : ℕ} (x : ℕ) → AfterRounds ks l₀ r₀ i l r → length ks ≡ 16 → 16 ≤ i
+    → (l₀ ≡ permute 64 ip x / 2 ^ 32) × (r₀ ≡ permute 64 ip x % 2 ^ 32) → v ≡ permute 64 fp (r * 2 ^ 32 + l) → v ≡ crypt ks x
 unfolding crypt
-crypted {ks} {i = i} {l} {r} x g n h e ev eo =
-    eo
-    ∙ ap (to_be 8) (ev
+crypted {ks} {i = i} {l} {r} x g n h e ev =
+    ev
     ∙ ap (permute 64 fp)
-    (ap (λ (t : List ℕ). rounds t l r) (sym (drop_of_length-le ks {i = i} (omega arith))) ∙ g.same ∙ ap₂ (rounds ks) e.0 e.1))
+    (ap (λ (t : List ℕ). rounds t l r) (sym (drop_of_length-le ks {i = i} (omega arith))) ∙ g.same ∙ ap₂ (rounds ks) e.0 e.1)

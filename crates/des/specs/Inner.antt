@@ -1,6 +1,6 @@
 -- What the parts of the code compute, as numbers. Only the code's inner functions cite these; no
 -- public promise does.
--- Assumes nothing: these are definitions.
+-- Assumes nothing: these are definitions, and the lengths that the laws of a trait ask for, proved.
 use Rattle.std.specs.Prelude.{List, [], ◌∷◌, map, ℕ, zero, suc, ◌+◌, ◌-◌, ◌*◌, ◌/◌, ◌%◌, ◌^◌, get_or, ◌≡◌, refl, reverse, length}
 use Rattle.std.proofs.Common.{◌∙◌}
 use Rattle.std.proofs.lemmas.List.{length-reverse}

@@ -57,7 +57,7 @@ pub fn drop_parity(key: [u8; 8]) -> [u8; 7]
 pub fn encrypt(key: [u8; 7], block: [u8; 8]) -> [u8; 8]
     ensures { result ≡ des_encrypt key block }
 {
-    crypt_block(&MadeKeys::of_key(key), octets::u64_from_be(block))
+    octets::u64_to_be(crypt_block(&MadeKeys::of_key(key), octets::u64_from_be(block)))
 }
 
 // What undoes encrypt under the same key: the round keys in the opposite order.
@@ -68,7 +68,7 @@ pub fn decrypt(key: [u8; 7], block: [u8; 8]) -> [u8; 8]
     let keys = Opposite {
         keys: MadeKeys::of_key(key),
     };
-    crypt_block(&keys, octets::u64_from_be(block))
+    octets::u64_to_be(crypt_block(&keys, octets::u64_from_be(block)))
 }
 
 // One block under each of the three keys of 21 octets.

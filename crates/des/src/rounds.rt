@@ -25,6 +25,7 @@ fn spread_bits(r: u32) -> u64
 // f(R, K), where k is K as it is stored: the selection functions at the six-bit groups of
 // K xor E(R), with P folded in. The groups of k stand as those of E(R) do in two copies of the
 // spread word, so that two exclusive ors serve all eight.
+#[tactic(auto, using(crate::proofs::Stored::stored_right))]
 fn cipher_function(r: u32, k: u64) -> u32
     ensures { result ≡ cipher_f r (unpack_key k) }
 {
@@ -86,14 +87,15 @@ impl Halves {
 // ---- a block under round keys
 
 // A block of 64 bits under sixteen round keys.
-pub(crate) fn crypt_block<K: RoundKeys>(keys: &K, x: u64) -> [u8; 8]
-    ensures { result ≡ to_be 8 (crypt (K.keys keys.now) x) }
+#[tactic(auto, using(crate::proofs::Round::no_rounds, crate::proofs::Round::one_round))]
+pub(crate) fn crypt_block<K: RoundKeys>(keys: &K, x: u64) -> u64
+    ensures { result ≡ crypt (K.keys keys.now) x }
 {
     let mut halves = Halves::of_block(x);
     for i in 0..16 {
         halves = halves.round(keys.key(i));
     }
-    octets::u64_to_be(halves.output_block())
+    halves.output_block()
 }
 
 // Three blocks, one after the other.
@@ -109,6 +111,7 @@ fn joined(a: [u8; 8], b: [u8; 8], c: [u8; 8]) -> [u8; 24]
 
 // A block of 64 bits under the round keys of three keys, the three in step: a round of one does not
 // wait for a round of another.
+#[tactic(auto, using(crate::proofs::Round::no_rounds, crate::proofs::Round::one_round))]
 pub(crate) fn crypt_three<K: RoundKeys>(k1: &K, k2: &K, k3: &K, x: u64) -> [u8; 24]
     ensures { result ≡ to_be 8 (crypt (K.keys k1.now) x) ++ (to_be 8 (crypt (K.keys k2.now) x)
         ++ to_be 8 (crypt (K.keys k3.now) x)) }
