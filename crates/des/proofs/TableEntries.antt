@@ -13,7 +13,7 @@ use Rattle.des.proofs.Entries.{entry_at}
 use Rattle.des.proofs.Folded.{entry_of}
 use Rattle.des.specs.declared.tables.TheConstants.{FOLDED, CHOSEN, ROTATIONS}
 
-is_folded : FOLDED ≡ folded_table
+pub is_folded : FOLDED ≡ folded_table
 unfolding folded_table boxes permutation
 is_folded = refl
 
@@ -24,14 +24,14 @@ folded_entry i b hi hb = ap (λ (l : List ℕ). get_or l (i * 64 + b) 0) is_fold
 abbrev pub of_seven : ℕ → ℕ → ℕ
 of_seven i b = pack_key (chosen_at (21 - 7 * i) b)
 
-is_chosen : CHOSEN ≡ table_entries of_seven 128 512 0
+pub is_chosen : CHOSEN ≡ table_entries of_seven 128 512 0
 unfolding chosen_at pc2 pack_key
 is_chosen = refl
 
 pub chosen_entry : (i b : ℕ) → i < 4 → b < 128 → get_or CHOSEN (i * 128 + b) 0 ≡ of_seven i b
 chosen_entry i b hi hb = ap (λ (l : List ℕ). get_or l (i * 128 + b) 0) is_chosen ∙ entry_at of_seven 128 512 i b hb (omega arith)
 
-is_rotations : ROTATIONS ≡ table_entries (λ _ i. rotated_by i) 16 16 0
+pub is_rotations : ROTATIONS ≡ table_entries (λ _ i. rotated_by i) 16 16 0
 unfolding rotated_by shifts
 is_rotations = refl
 

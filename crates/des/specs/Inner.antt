@@ -1,7 +1,8 @@
 -- What the parts of the code compute, as numbers. Only the code's inner functions cite these; no
 -- public promise does.
 -- Assumes nothing: these are definitions, and the lengths that the laws of a trait ask for, proved.
-use Rattle.std.specs.Prelude.{List, [], ◌∷◌, map, ℕ, zero, suc, ◌+◌, ◌-◌, ◌*◌, ◌/◌, ◌%◌, ◌^◌, get_or, ◌≡◌, refl, reverse, length}
+use Rattle.std.specs.Prelude.{List, [], ◌∷◌, map, reverse, length, get_or, ◌≡◌, refl}
+use Rattle.std.specs.Prelude.{ℕ, zero, suc, ◌+◌, ◌-◌, ◌*◌, ◌/◌, ◌%◌, ◌^◌}
 use Rattle.std.proofs.Common.{◌∙◌}
 use Rattle.std.proofs.lemmas.List.{length-reverse}
 use Rattle.std.specs.Int.Bits.{bit_xor, bit_and}

@@ -38,16 +38,11 @@ fn top_seven(o: u8) -> u64
 pub fn drop_parity(key: [u8; 8]) -> [u8; 7]
     ensures { result ≡ drop_parity key }
 {
-    let x = top_seven(key[0]) * 0x0002_0000_0000_0000
-        + top_seven(key[1]) * 0x0400_0000_0000
-        + top_seven(key[2]) * 0x0008_0000_0000
-        + top_seven(key[3]) * 0x1000_0000
-        + top_seven(key[4]) * 0x0020_0000
-        + top_seven(key[5]) * 0x4000
-        + top_seven(key[6]) * 0x80
-        + top_seven(key[7]);
-    let b = octets::u64_to_be(x);
-    [b[1], b[2], b[3], b[4], b[5], b[6], b[7]]
+    let mut bits: u64 = 0;
+    for octet in key {
+        bits = bits * 128 + top_seven(octet);
+    }
+    octets::seven_at(&octets::u64_to_be(bits), 1)
 }
 
 // ---- DES
@@ -85,9 +80,12 @@ pub fn encrypt_three(keys: [u8; 21], block: [u8; 8]) -> [u8; 24]
 
 // ---- DES under stored round keys
 
-// The octets of three stored schedules.
-const STORED_SIZE: usize = 384;
+// The octets of a stored schedule, and of three.
+const SCHEDULE_SIZE: usize = 128;
 
+const STORED_SIZE: usize = 3 * SCHEDULE_SIZE;
+
+// What is read where none are lent that have this size.
 static NO_SCHEDULES: [u8; STORED_SIZE] = [0; STORED_SIZE];
 
 // The stored round keys of the three keys of 21 octets, which never change while the keys stay.
@@ -113,8 +111,8 @@ pub fn encrypt_three_under(keys: &[u8], block: [u8; 8]) -> [u8; 24]
     } else {
         &NO_SCHEDULES
     };
-    let (first, rest) = schedules.split_at(128);
-    let (second, third) = rest.split_at(128);
+    let (first, rest) = schedules.split_at(SCHEDULE_SIZE);
+    let (second, third) = rest.split_at(SCHEDULE_SIZE);
     crypt_three(
         &KeptKeys { octets: first },
         &KeptKeys { octets: second },

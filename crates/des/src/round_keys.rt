@@ -8,11 +8,13 @@ pub(crate) trait RoundKeys {
     // The round keys of 48 bits, in their order.
     ghost keys: { Self → List ℕ };
 
-    // The round key of the round i, counted from 0, as it is stored.
+    // The round key of the round i, counted from 0, as it is stored. What other bits it has beside
+    // those 48 has no effect.
     fn key(&self, i: usize) -> u64
         requires { i < 16 }
         ensures { unpack_key result ≡ get_or (keys self.now) i 0 };
 
+    // There are sixteen.
     ghost sixteen: { (s : Self) → length (keys s) ≡ 16 };
 }
 

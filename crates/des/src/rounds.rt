@@ -110,7 +110,8 @@ fn joined(a: [u8; 8], b: [u8; 8], c: [u8; 8]) -> [u8; 24]
 }
 
 // A block of 64 bits under the round keys of three keys, the three in step: a round of one does not
-// wait for a round of another.
+// wait for a round of another. One function for an array of one block or three would be no plainer:
+// a loop within the loop, and another for the output, in the place of a line for each block.
 #[tactic(auto, using(crate::proofs::Round::no_rounds, crate::proofs::Round::one_round))]
 pub(crate) fn crypt_three<K: RoundKeys>(k1: &K, k2: &K, k3: &K, x: u64) -> [u8; 24]
     ensures { result ≡ to_be 8 (crypt (K.keys k1.now) x) ++ (to_be 8 (crypt (K.keys k2.now) x)

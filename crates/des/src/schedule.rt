@@ -121,7 +121,7 @@ impl RoundKeys for MadeKeys {
     ghost sixteen = { λ s. length_made s.cd };
 }
 
-// Fills a place for the stored schedule of a key of seven octets.
+// Writes the stored schedule of a key of seven octets.
 pub(crate) fn fill_schedule(schedule: &mut [u64], key: [u8; 7])
     requires { length schedule.old ≡ 16 }
     ensures { schedule.new ≡ stored_schedule key }

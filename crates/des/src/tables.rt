@@ -1049,8 +1049,8 @@ static CHOSEN: [u64; 512] = [
     0x0422_1105_1008_0808,
 ];
 
-// PC-2 of the seven i of C and of D, counted from 0, which are the last seven bits of b, as a stored
-// round key has it.
+// PC-2 of the seven i of C and of D, counted from 0, which are the last seven bits of b, as a
+// stored round key has it.
 #[tactic(auto, using(crate::proofs::TableEntries::chosen_entry))]
 pub(crate) fn chosen_at(i: usize, b: u64) -> u64
     requires { i < 4 }
