@@ -1,7 +1,7 @@
 -- The round key of each round: C and D there are those of PC-1, rotated by all left shifts up to
 -- it, and stand so in C and D written twice.
 -- Assumes nothing.
-use mathlib.Core.Path.{◌≡◌, refl, sym, ap, ap₂, ◌∙◌, subst}
+use mathlib.Core.Path.{◌≡◌, sym, ap, ap₂, ◌∙◌, subst}
 use mathlib.Core.List.{List, [], ◌∷◌}
 use Prim.Native.Nat.{ℕ, zero, suc, ◌+◌, ◌-◌, ◌*◌, ◌/◌, ◌%◌, ◌^◌, ◌≤◌, ◌<◌}
 use native.Mathlib.Nat.{add-zero, zero-add, add_assoc, add-mul, mul_assoc, mod-lt, not-suc-le-zero, le_of_suc-le-suc}
@@ -15,10 +15,14 @@ use Rattle.des.specs.Des.{permute, rotate, keys_from, round_keys, expand_key, sc
 use Rattle.des.specs.Inner.{shifts_of, rotated_by, keys_of}
 use Rattle.des.proofs.Permute.{permute_lt}
 
--- the C and D of PC-1 for a key of seven octets: 56 bits, and the round keys from them
-pub choice_keys : {cd : ℕ} (key : List ℕ) → cd ≡ permute 64 pc1 (from_be (expand_key key)) → (cd < 2 ^ 56) × (keys_of cd ≡ schedule_of key)
-unfolding pc1 schedule_of round_keys
-choice_keys key e = (rw e (permute_lt 64 (from_be (expand_key key)) pc1), ap keys_of e)
+-- the C and D of PC-1: 56 bits, and the round keys from them
+pub choice_lt : (cd key : ℕ) → cd ≡ permute 64 pc1 key → cd < 2 ^ 56
+unfolding pc1
+choice_lt cd key e = rw e (permute_lt 64 key pc1)
+
+pub choice_keys : (cd : ℕ) (key : List ℕ) → cd ≡ permute 64 pc1 (from_be (expand_key key)) → keys_of cd ≡ schedule_of key
+unfolding schedule_of round_keys
+choice_keys cd key e = ap keys_of e
 
 -- ---- rotations
 
@@ -138,10 +142,12 @@ key_at_place cd i m h hi e hm =
     ∙ ap (key_by c d hc hd) e
     ∙ sym (key_at c d hc hd i hi)
 
-length_from : (ss : List ℕ) (c d : ℕ) → length (keys_from ss c d) ≡ length ss
-length_from [] c d = refl
-length_from (s ∷ ss) c d = ap suc (length_from ss (rotate s c) (rotate s d))
+-- all left shifts are 28 places
+below_all : (n : ℕ) (ss : List ℕ) → shifts_of n ss ≤ shifts_of (length ss) ss
+below_all zero ss = omega arith
+below_all (suc n) [] = omega arith
+below_all (suc n) (s ∷ ss) = omega (arith, below_all n ss)
 
-pub sixteen : (cd : ℕ) → length (keys_of cd) ≡ 16
-unfolding shifts
-sixteen cd = length_from shifts (cd / 2 ^ 28) (cd % 2 ^ 28)
+pub rotated_le : (i : ℕ) → rotated_by i ≤ 28
+unfolding rotated_by shifts
+rotated_le i = below_all (suc i) shifts

@@ -1,7 +1,8 @@
 pub mod Linear
 pub mod Permute
+pub mod Packed
 pub mod Entries
-pub mod Arms
+pub mod TableEntries
 pub mod Folded
 pub mod Swaps
 pub mod Choices

@@ -1,14 +1,14 @@
 -- The lengths of what DES gives, for all lists, and that it gives octets.
 -- Assumes nothing.
-use mathlib.Core.Path.{◌≡◌, refl}
+use mathlib.Core.Path.{◌≡◌, refl, subst}
 use mathlib.Core.List.{List, map}
 use Prim.Native.Nat.{ℕ, zero, suc, ◌*◌, ◌/◌, ◌^◌}
 use native.Mathlib.Nat.{mod-lt, zero-lt-suc}
 use native.Mathlib.Omega.{arith}
 use lib.Dec.{lit<}
 use lib.ListN.{length}
-use Rattle.octets.specs.Numbers.{to_digits, from_be}
-use Rattle.octets.proofs.Numbers.{Octets}
+use Rattle.octets.specs.Numbers.{to_digits, from_be, to_be}
+use Rattle.octets.proofs.Numbers.{Octets, to_be-from_be}
 use Rattle.des.specs.Des.{double, expand_key, des_encrypt, des_three}
 
 -- ---- lengths
@@ -35,3 +35,8 @@ octets_double (suc n) x (suc i) = octets_double n x i
 pub octets_expand : (key : List ℕ) → Octets (expand_key key)
 unfolding expand_key
 octets_expand key = octets_double 8 (from_be key)
+
+-- their number written again
+pub expand_written : (key : List ℕ) → to_be 8 (from_be (expand_key key)) ≡ expand_key key
+expand_written key =
+    subst (λ (k : ℕ). to_be k (from_be (expand_key key)) ≡ expand_key key) (length_expand key) (to_be-from_be (expand_key key) (octets_expand key))

@@ -3,77 +3,25 @@
 -- Assumes nothing.
 use mathlib.Core.Path.{◌≡◌, refl, sym, ap, ap₂, ◌∙◌}
 use mathlib.Core.List.{List, [], ◌∷◌, ◌++◌, map, reverse}
-use Prim.Native.Nat.{ℕ, zero, suc, ◌+◌, ◌*◌, ◌/◌, ◌%◌, ◌^◌, ◌≤◌, ◌<◌}
-use native.Mathlib.Nat.{mod-lt, mod-eq_of_lt, div-one}
+use Prim.Native.Nat.{ℕ, zero, suc, ◌+◌, ◌*◌, ◌/◌, ◌%◌, ◌^◌, ◌<◌}
+use native.Mathlib.Nat.{div-one}
 use native.Mathlib.Omega.{arith}
 use lib.Dec.{lit<}
-use lib.ListN.{length, get_or, take, drop, length-append, length-map, get_or-map}
-use lib.Pow.{shr-shr, mod-mod-pow}
-use lib.Seq.{take_all, take_at, drop_at, drop-drop, get_or-take, get_or-drop}
+use lib.ListN.{length, get_or, take, drop, length-append, length-map}
+use lib.Pow.{shr-shr}
+use lib.Seq.{take_all, take_at, drop_at, drop-drop}
 use lib.Bits.{bit_xor, xor_shr, xor_mod}
-use Rattle.octets.specs.Numbers.{from_digits, to_digits, from_be, to_be}
+use Rattle.octets.specs.Numbers.{to_digits, from_be, to_be}
 use Rattle.octets.specs.Parts.{part}
-use Rattle.octets.proofs.Numbers.{Below, Octets, from_to, to_from}
-use Rattle.octets.proofs.Parts.{length_part}
+use Rattle.octets.proofs.Numbers.{Below, Octets}
 use Rattle.des.specs.Tables.{pc1, pc2, shifts}
 use Rattle.des.specs.Des.{permute, cipher_f, rotate, crypt, keys_from, round_keys, expand_key, schedule_of, des_encrypt, des_three}
-use Rattle.des.specs.Inner.{spread, folded_at}
-use Rattle.des.specs.Stored.{six, pack_key, unpack_key, stored_schedule, three_schedules, des_under, three_under}
+use Rattle.des.specs.Inner.{spread, folded_at, length_made, keys_of}
+use Rattle.des.specs.Stored.{pack_key, unpack_key, stored_schedule, three_schedules, des_under, three_under}
 use Rattle.des.proofs.Permute.{permute_lt}
-use Rattle.des.proofs.Keys.{sixteen}
+use Rattle.des.proofs.Packed.{sixes, in_stored, groups, unpack_pack}
 use Rattle.des.proofs.Round.{joined_right}
 use Rattle.des.proofs.RoundTrip.{undone_block}
-
--- ---- one round key
-
--- the groups of six bits of k at some places
-abbrev sixes : List ℕ → ℕ → List ℕ
-sixes [] k = []
-sixes (s ∷ ps) k = six s k ∷ sixes ps k
-
-six_below : (ps : List ℕ) (k : ℕ) → Below 64 (sixes ps k)
-six_below [] k i = lit< tt
-six_below (s ∷ ps) k zero = mod-lt (k / 2 ^ s) (lit< tt)
-six_below (s ∷ ps) k (suc i) = six_below ps k i
-
--- the places of the groups in a round key, in the order in which they are stored
-abbrev in_key : List ℕ
-in_key = 42 ∷ 30 ∷ 18 ∷ 6 ∷ 36 ∷ 24 ∷ 12 ∷ 0 ∷ []
-
--- and in a stored number, in the order of the round key
-abbrev in_stored : List ℕ
-in_stored = 56 ∷ 24 ∷ 48 ∷ 16 ∷ 40 ∷ 8 ∷ 32 ∷ 0 ∷ []
-
--- the groups of the round key that a stored number stands for
-pub groups : (k : ℕ) → to_digits 6 8 (unpack_key k) ≡ sixes in_stored k
-unfolding unpack_key
-groups k = to_from 6 (sixes in_stored k) (six_below in_stored k)
-
-low_six : (n : ℕ) → n % 256 % 64 ≡ n % 64
-low_six n = mod-mod-pow n 2 6
-
-same_six : (n : ℕ) → n % 64 % 64 ≡ n % 64
-same_six n = mod-mod-pow n 0 6
-
--- the round key that eight octets stand for
-abbrev of_octets : List ℕ → ℕ
-of_octets l = from_digits 6 (map (λ (i : ℕ). get_or l i 0 % 64) (0 ∷ 4 ∷ 1 ∷ 5 ∷ 2 ∷ 6 ∷ 3 ∷ 7 ∷ []))
-
-unpack_octets : (k : ℕ) → unpack_key k ≡ of_octets (to_digits 8 8 k)
-unfolding unpack_key
-unpack_octets k = simp low_six
-
-unpack_packed : (k : ℕ) → of_octets (sixes in_key k) ≡ from_digits 6 (to_digits 6 8 k)
-unpack_packed k = simp same_six
-
-pub unpack_pack : (k : ℕ) → k < 2 ^ 48 → unpack_key (pack_key k) ≡ k
-unfolding pack_key
-unpack_pack k h =
-    unpack_octets (pack_key k)
-    ∙ ap of_octets (to_from 8 (sixes in_key k) (λ (i : ℕ). omega (arith, six_below in_key k i)))
-    ∙ unpack_packed k
-    ∙ from_to 6 8 k
-    ∙ mod-eq_of_lt h
 
 -- ---- schedules
 
@@ -83,6 +31,10 @@ keys_below [] c d i = lit< tt
 keys_below (s ∷ ss) c d zero = permute_lt 56 (rotate s c * 2 ^ 28 + rotate s d) pc2
 keys_below (s ∷ ss) c d (suc i) = keys_below ss (rotate s c) (rotate s d) i
 
+-- a stored round key stands for the round key that it was made of
+pub unpack_made : (cd i : ℕ) → unpack_key (pack_key (get_or (keys_of cd) i 0)) ≡ get_or (keys_of cd) i 0
+unpack_made cd i = unpack_pack (get_or (keys_of cd) i 0) (keys_below shifts _ _ i)
+
 -- round keys have 48 bits
 pub round_keys_below : (key : List ℕ) → Below (2 ^ 48) (schedule_of key)
 unfolding schedule_of round_keys
@@ -90,7 +42,7 @@ round_keys_below key = keys_below shifts _ _
 
 pub length_schedule : (key : List ℕ) → length (stored_schedule key) ≡ 16
 unfolding stored_schedule schedule_of round_keys
-length_schedule key = length-map (schedule_of key) pack_key ∙ sixteen (permute 64 pc1 (from_be (expand_key key)))
+length_schedule key = length-map (schedule_of key) pack_key ∙ length_made (permute 64 pc1 (from_be (expand_key key)))
 
 pub length_schedules : (keys : List ℕ) → length (three_schedules keys) ≡ 48
 unfolding three_schedules
@@ -184,17 +136,3 @@ module _ (r k w : ℕ) (h : r < 2 ^ 32) (e : w ≡ spread r) where
       (e₆ ∙ ap (folded_at 5) (even 8 (u / 2 ^ 12) (group 5)))
       (e₇ ∙ ap (folded_at 6) (same_low (w / 2 ^ 4) (k / 2 ^ 32) (u / 2 ^ 6) (group 6)))
       (e₈ ∙ ap (folded_at 7) (same_low w k u (ap (λ (v : ℕ). v % 64) (sym (div-one k)) ∙ group 7 ∙ ap (λ (v : ℕ). v % 64) (div-one u))))
-
--- ---- the stored round keys as the code reads them
-
--- those of one schedule, of 48
-abbrev pub of_schedule : ℕ → List ℕ → List ℕ
-of_schedule a ks = map unpack_key (part a 16 ks)
-
-pub length_of_schedule : (a : ℕ) (ks : List ℕ) → a + 16 ≤ length ks → length (of_schedule a ks) ≡ 16
-length_of_schedule a ks h = length-map (part a 16 ks) unpack_key ∙ length_part a 16 ks h
-
-pub key_of_schedule : (a i : ℕ) (ks : List ℕ) → i < 16 → unpack_key (get_or ks (a + i) 0) ≡ get_or (of_schedule a ks) i 0
-unfolding unpack_key
-key_of_schedule a i ks h =
-    ap unpack_key (sym (get_or-take 16 (drop a ks) i 0 h ∙ get_or-drop a ks i 0)) ∙ sym (get_or-map unpack_key (part a 16 ks) i 0)

@@ -1,7 +1,8 @@
 -- DES as FIPS 46-2 defines it. A block of w bits is a number below 2 ^ w whose first bit, bit 1, is
 -- the most significant.
 -- Assumes nothing: these are definitions.
-use Rattle.std.specs.Prelude.{List, [], ◌∷◌, ◌++◌, map, reverse, ℕ, ◌+◌, ◌-◌, ◌*◌, ◌/◌, ◌%◌, ◌^◌, length, get_or}
+use Rattle.std.specs.Prelude.{List, [], ◌∷◌, ◌++◌, map, reverse, length, get_or}
+use Rattle.std.specs.Prelude.{ℕ, ◌+◌, ◌-◌, ◌*◌, ◌/◌, ◌%◌, ◌^◌}
 use Rattle.std.specs.Int.Bits.{bit_xor}
 use Rattle.octets.specs.Numbers.{from_digits, to_digits, from_be, to_be}
 use Rattle.octets.specs.Parts.{part}
@@ -59,8 +60,9 @@ rotate s c = c * 2 ^ s % 2 ^ 28 + c / 2 ^ (28 - s)
 -- for each number of left shifts the next C and D, and PC-2 of the two
 abbrev pub keys_from : List ℕ → ℕ → ℕ → List ℕ
 keys_from [] c d = []
-keys_from (s ∷ ss) c d = permute 56 pc2 (rotate s c * 2 ^ 28 + rotate s d) ∷ keys_from ss (rotate s c)
-    (rotate s d)
+keys_from (s ∷ ss) c d =
+    permute 56 pc2 (rotate s c * 2 ^ 28 + rotate s d)
+    ∷ keys_from ss (rotate s c) (rotate s d)
 
 -- KS: the sixteen round keys of a key of 64 bits, from the C and D that PC-1 gives
 unfoldable pub round_keys : ℕ → List ℕ

@@ -1,13 +1,14 @@
 -- What the parts of the code compute, as numbers. Only the code's inner functions cite these; no
 -- public promise does.
--- Assumes nothing: these are definitions.
-use Rattle.std.specs.Prelude.{List, [], ◌∷◌, ◌++◌, map, ℕ, zero, suc, ◌+◌, ◌-◌, ◌*◌, ◌/◌, ◌%◌, ◌^◌, get_or}
+-- Assumes nothing: these are definitions, and the lengths that the laws of a trait ask for, proved.
+use Rattle.std.specs.Prelude.{List, [], ◌∷◌, map, reverse, length, get_or, ◌≡◌, refl}
+use Rattle.std.specs.Prelude.{ℕ, zero, suc, ◌+◌, ◌-◌, ◌*◌, ◌/◌, ◌%◌, ◌^◌}
+use Rattle.std.proofs.Common.{◌∙◌}
+use Rattle.std.proofs.lemmas.List.{length-reverse}
 use Rattle.std.specs.Int.Bits.{bit_xor, bit_and}
 use Rattle.des.specs.Tables.{permutation, boxes, pc2, shifts}
-use Rattle.octets.specs.Numbers.{to_be}
-use Rattle.octets.specs.Parts.{part}
-use Rattle.des.specs.Des.{permute, select, keys_from, crypt}
-use Rattle.des.specs.Stored.{unpack_key}
+use Rattle.des.specs.Des.{permute, select, keys_from}
+use Rattle.des.specs.Stored.{unpack_key, decode_keys}
 
 -- those bits of x that the mask m names have changed places with the bits n places above them
 unfoldable pub bits_swapped : ℕ → ℕ → ℕ → ℕ
@@ -72,9 +73,19 @@ rotated_by i = shifts_of (suc i) shifts
 abbrev pub keys_of : ℕ → List ℕ
 keys_of cd = keys_from shifts (cd / 2 ^ 28) (cd % 2 ^ 28)
 
--- a block of 64 bits under each of three stored schedules of sixteen round keys
-abbrev pub blocks_under : List ℕ → ℕ → List ℕ
-blocks_under ks x =
-    to_be 8 (crypt (map unpack_key (part 0 16 ks)) x)
-    ++ (to_be 8 (crypt (map unpack_key (part 16 16 ks)) x)
-    ++ to_be 8 (crypt (map unpack_key (part 32 16 ks)) x))
+-- the round keys that the numbers of a stored schedule stand for
+abbrev pub kept_keys : List ℕ → List ℕ
+kept_keys octets = map unpack_key (decode_keys 16 octets)
+
+-- ---- lengths: laws of the code's `RoundKeys`, which are proved where they are stated
+
+pub length_made : (cd : ℕ) → length (keys_of cd) ≡ 16
+unfolding shifts
+length_made cd = refl
+
+pub length_kept : (octets : List ℕ) → length (kept_keys octets) ≡ 16
+unfolding decode_keys
+length_kept octets = refl
+
+pub length_opposite : (ks : List ℕ) → length ks ≡ 16 → length (reverse ks) ≡ 16
+length_opposite ks n = length-reverse ks ∙ n

@@ -1,7 +1,8 @@
 -- Round keys as they are kept beside a stored hash (document 02, request 2026-10), and DES under
 -- them (FIPS 46-2).
 -- Assumes nothing: these are definitions.
-use Rattle.std.specs.Prelude.{cond, List, [], ◌∷◌, ◌++◌, map, ℕ, zero, suc, ◌*◌, ◌/◌, ◌%◌, ◌^◌, eqb, length, drop, replicate}
+use Rattle.std.specs.Prelude.{cond, List, [], ◌∷◌, ◌++◌, map, length, drop, replicate}
+use Rattle.std.specs.Prelude.{ℕ, zero, suc, ◌*◌, ◌/◌, ◌%◌, ◌^◌, eqb}
 use Rattle.octets.specs.Numbers.{from_digits, from_be, to_be, from_le}
 use Rattle.octets.specs.Parts.{part}
 use Rattle.des.specs.Des.{crypt, schedule_of}

@@ -5,6 +5,7 @@ ghost use Rattle.des.specs.Des.{permute};
 ghost use Rattle.des.specs.Inner.{bits_swapped};
 
 // Those bits of x that the mask m names change places with the bits n places above them.
+#[tactic(auto, unfolding(crate::specs::Inner::bits_swapped))]
 fn swap_bits(x: u64, n: u32, m: u64) -> u64
     requires { n < 64 }
     ensures { result ≡ bits_swapped n m x }
@@ -14,6 +15,7 @@ fn swap_bits(x: u64, n: u32, m: u64) -> u64
 }
 
 // IP.
+#[tactic(auto, using(crate::proofs::Swaps::ip_swaps_lem))]
 pub(crate) fn initial_permutation(x: u64) -> u64
     ensures { result ≡ permute 64 ip x }
 {
@@ -25,6 +27,7 @@ pub(crate) fn initial_permutation(x: u64) -> u64
 }
 
 // The inverse of IP: the same exchanges in the opposite order.
+#[tactic(auto, using(crate::proofs::Swaps::fp_swaps_lem))]
 pub(crate) fn final_permutation(x: u64) -> u64
     ensures { result ≡ permute 64 fp x }
 {

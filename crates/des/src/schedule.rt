@@ -1,15 +1,19 @@
-// The key schedule: PC-1, the round key of each round, and all sixteen.
-ghost use Rattle.std.specs.Prelude.{◌≡◌, reverse, ◌+◌, ◌*◌, ◌%◌, ◌<◌, get_or};
+// The key schedule: PC-1, and the round key of each round.
+ghost use Rattle.std.specs.Prelude.{◌≡◌, List, ℕ, ◌+◌, ◌*◌, ◌%◌, ◌<◌, get_or, length, map};
 ghost use Rattle.octets.specs.Numbers.{from_be};
 ghost use Rattle.des.specs.Tables.{pc1, pc2};
 ghost use Rattle.des.specs.Des.{permute, expand_key, schedule_of};
-ghost use Rattle.des.specs.Inner.{set_apart, arranged, chosen_at, keys_of};
+ghost use Rattle.des.specs.Inner.{set_apart, arranged, chosen_at, keys_of, length_made};
+ghost use Rattle.des.specs.Stored.{pack_key, unpack_key, stored_schedule};
 
-use crate::{permutations, tables, windows};
+use crate::permutations;
+use crate::round_keys::RoundKeys;
+use crate::tables::{chosen_at, rotated_by};
 
 // ---- the key
 
 // Those bits of x that the mask m names, n places up, and those that l names where they are.
+#[tactic(auto, unfolding(crate::specs::Inner::set_apart))]
 fn set_apart(x: u64, n: u32, m: u64, l: u64) -> u64
     requires { n < 64 }
     ensures { result ≡ set_apart n m l x }
@@ -31,6 +35,7 @@ pub(crate) fn key_number(key: [u8; 7]) -> u64
 // ---- the permuted choices
 
 // The rows of IP in the order of PC-1.
+#[tactic(auto, unfolding(crate::specs::Inner::arranged))]
 fn arrange(y: u64) -> u64
     ensures { result ≡ arranged y }
 {
@@ -45,71 +50,84 @@ fn arrange(y: u64) -> u64
 }
 
 // PC-1.
+#[tactic(auto, using(crate::proofs::Choices::rows))]
 fn first_choice(key: u64) -> u64
     ensures { result ≡ permute 64 pc1 key }
 {
     arrange(permutations::initial_permutation(key))
 }
 
-// PC-2 where C and D are both the 28 low bits of x.
+// PC-2 where C and D are both the 28 low bits of x, as a stored round key has it.
+#[tactic(auto, using(crate::proofs::Choices::choose_both_lem))]
 fn choose_both(x: u64) -> u64
-    ensures { result ≡ chosen_at 0 (x % 0x1000_0000) }
+    ensures { result ≡ pack_key (chosen_at 0 (x % 0x1000_0000)) }
 {
-    let a = windows::first(x >> 21);
-    let b = windows::second(x >> 14);
-    let c = windows::third(x >> 7);
-    let d = windows::fourth(x);
-    a ^ b ^ c ^ d
+    chosen_at(0, x >> 21) ^ chosen_at(1, x >> 14) ^ chosen_at(2, x >> 7) ^ chosen_at(3, x)
 }
 
-// PC-2 of the 28 low bits of c and of d: its first 24 bits are from C, its last 24 from D.
+// PC-2 of the 28 low bits of c and of d, as a stored round key has it: the groups of S1 to S4 are
+// from C, those of S5 to S8 from D.
+#[tactic(auto, using(crate::proofs::Choices::by_halves_lem))]
 fn second_choice(c: u64, d: u64) -> u64
-    ensures { result ≡ permute 56 pc2 (c % 0x1000_0000 * 0x1000_0000 + d % 0x1000_0000) }
+    ensures { result
+        ≡ pack_key (permute 56 pc2 (c % 0x1000_0000 * 0x1000_0000 + d % 0x1000_0000)) }
 {
-    (choose_both(c) & 0xffff_ff00_0000) ^ (choose_both(d) & 0xff_ffff)
+    (choose_both(c) & 0x3f3f_0000_3f3f_0000) ^ (choose_both(d) & 0x3f3f_0000_3f3f)
 }
 
 // ---- the round keys
 
-// The round key of the round i, counted from 0, from the C and D that PC-1 gave: 28 bits rotated to
-// the left by n places stand 28 - n places from the end of those bits written twice.
-pub(crate) fn round_key(cd: u64, i: usize) -> u64
-    requires { (cd < 0x0100_0000_0000_0000) × (i < 16) }
-    ensures { result ≡ get_or (keys_of cd) i 0 }
-{
-    let c = cd / 0x1000_0000;
-    let d = cd % 0x1000_0000;
-    let s = 28 - tables::rotated_by(i);
-    second_choice((c * 0x1000_0000 + c) >> s, (d * 0x1000_0000 + d) >> s)
+// The C and D that PC-1 gives for a key, one number of 56 bits: each round key is made of them in
+// its round.
+#[derive(Drop)]
+pub(crate) struct MadeKeys {
+    cd: u64,
+    ghost in_range: { cd < 0x0100_0000_0000_0000 },
 }
 
-// The C and D that PC-1 gives for a key of seven octets, one number of 56 bits.
-pub(crate) fn choice_of(key: [u8; 7]) -> u64
-    ensures { result ≡ permute 64 pc1 (from_be (expand_key key)) }
-{
-    first_choice(key_number(key))
-}
-
-// The sixteen round keys of a key of seven octets.
-pub(crate) fn schedule_of(key: [u8; 7]) -> [u64; 16]
-    ensures { result ≡ schedule_of key }
-{
-    let cd = choice_of(key);
-    let mut keys = [0u64; 16];
-    let mut i: usize = 0;
-    while i < 16 {
-        keys[i] = round_key(cd, i);
-        i += 1;
+impl MadeKeys {
+    // For a key of seven octets.
+    #[tactic(auto, using(crate::proofs::Keys::choice_lt, crate::proofs::Keys::choice_keys))]
+    pub(crate) fn of_key(key: [u8; 7]) -> MadeKeys
+        ensures { keys_of result.cd ≡ schedule_of key }
+    {
+        MadeKeys {
+            cd: first_choice(key_number(key)),
+        }
     }
-    keys
+
+    // The round key of the round i, counted from 0, as it is stored: 28 bits rotated to the left by
+    // n places stand 28 - n places from the end of those bits written twice.
+    #[tactic(auto, using(crate::proofs::Keys::key_at_place))]
+    fn stored_key(&self, i: usize) -> u64
+        requires { i < 16 }
+        ensures { result ≡ pack_key (get_or (keys_of self.now.cd) i 0) }
+    {
+        let c = self.cd / 0x1000_0000;
+        let d = self.cd % 0x1000_0000;
+        let s = 28 - rotated_by(i);
+        second_choice((c * 0x1000_0000 + c) >> s, (d * 0x1000_0000 + d) >> s)
+    }
 }
 
-// Round keys in the opposite order.
-pub(crate) fn reversed(k: [u64; 16]) -> [u64; 16]
-    ensures { result ≡ reverse k }
+impl RoundKeys for MadeKeys {
+    ghost keys = { λ s. keys_of s.cd };
+
+    #[tactic(auto, using(crate::proofs::Stored::unpack_made))]
+    fn key(&self, i: usize) -> u64 {
+        self.stored_key(i)
+    }
+
+    ghost sixteen = { λ s. length_made s.cd };
+}
+
+// Writes the stored schedule of a key of seven octets.
+pub(crate) fn fill_schedule(schedule: &mut [u64], key: [u8; 7])
+    requires { length schedule.old ≡ 16 }
+    ensures { schedule.new ≡ stored_schedule key }
 {
-    [
-        k[15], k[14], k[13], k[12], k[11], k[10], k[9], k[8], k[7], k[6], k[5], k[4], k[3], k[2],
-        k[1], k[0],
-    ]
+    let keys = MadeKeys::of_key(key);
+    for (i, place) in schedule.iter_mut().enumerate() {
+        *place = keys.stored_key(i);
+    }
 }
