@@ -1,6 +1,8 @@
 -- MD4 (RFC 1320), over lists of octets. A word is a number below 2 ^ 32.
 -- Assumes nothing: these are definitions.
-use Rattle.std.specs.Prelude.{ℕ, zero, suc, ◌+◌, ◌-◌, ◌*◌, ◌/◌, ◌%◌, ◌^◌, cond, List, [], ◌∷◌, ◌++◌, length, Result, Ok, Err, bit_and, bit_or, bit_xor, nat_le, slice_index}
+use Rattle.std.specs.Prelude.{ℕ, zero, suc, ◌+◌, ◌-◌, ◌*◌, ◌/◌, ◌%◌, ◌^◌, cond, List, [], ◌∷◌, ◌++◌}
+use Rattle.std.specs.Prelude.{length, Result, Ok, Err, bit_and, bit_or, bit_xor, nat_le}
+use Rattle.std.specs.Prelude.{slice_index}
 use Rattle.octets.specs.Parts.{part}
 use Rattle.octets.specs.Numbers.{from_le, to_le}
 use Rattle.blocks.specs.Blocks.{hash_blocks}
@@ -42,11 +44,6 @@ operations aux add x [] r = r
 operations aux add x (e ∷ t) r = operations aux add x t
     (operation aux add e.1 (slice_index x e.0) r)
 
--- four operations in a row, as the code does them; each register is then in its own place again
-unfoldable pub row : (ℕ → ℕ → ℕ → ℕ) → ℕ → ℕ → ℕ → ℕ → ℕ → ℕ → ℕ → ℕ → ℕ → Registers → Registers
-row aux add s₀ s₁ s₂ s₃ x₀ x₁ x₂ x₃ r = operation aux add s₃ x₃
-    (operation aux add s₂ x₂ (operation aux add s₁ x₁ (operation aux add s₀ x₀ r)))
-
 -- the tables of the three rounds, a row for each row of the RFC
 abbrev pub table1 : List (ℕ × ℕ)
 table1 =
@@ -70,13 +67,13 @@ table3 =
     ∷ (3, 3) ∷ (11, 9) ∷ (7, 11) ∷ (15, 15) ∷ []
 
 -- round 1 adds no constant, round 2 the square root of 2, round 3 that of 3
-unfoldable pub round1 : List ℕ → Registers → Registers
+abbrev pub round1 : List ℕ → Registers → Registers
 round1 x = operations aux_f 0 x table1
 
-unfoldable pub round2 : List ℕ → Registers → Registers
+abbrev pub round2 : List ℕ → Registers → Registers
 round2 x = operations aux_g 0x5a827999 x table2
 
-unfoldable pub round3 : List ℕ → Registers → Registers
+abbrev pub round3 : List ℕ → Registers → Registers
 round3 x = operations aux_h 0x6ed9eba1 x table3
 
 -- each register, increased by the value it had before the block

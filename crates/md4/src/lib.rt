@@ -50,7 +50,7 @@ fn words(b: &[u8; 64]) -> [u32; 16]
 }
 
 // What a block does to the registers.
-#[tactic(auto, unfolding(crate::specs::Md4::block, crate::specs::Md4::round1, crate::specs::Md4::round2, crate::specs::Md4::round3,))]
+#[tactic(auto, unfolding(crate::specs::Md4::block))]
 fn compress(s: Registers, b: &[u8; 64]) -> Registers
     ensures { result ≡ block b.now s }
 {
