@@ -8,3 +8,4 @@ pub mod Listed
 pub mod Split
 pub mod DigitLoop
 pub mod HexText
+pub mod FromFn

@@ -1,6 +1,7 @@
 -- Parts of a list of octets, a copy laid over a list, and agreement of two lists.
 -- Assumes nothing: these are definitions.
-use Rattle.std.specs.Prelude.{Bool, true, false, ◌&&◌, List, [], ◌∷◌, ◌++◌, ℕ, eqb, take, drop, replicate}
+use Rattle.std.specs.Prelude.{Bool, true, false, ◌&&◌, List, [], ◌∷◌, ◌++◌, ℕ, eqb, take, drop}
+use Rattle.std.specs.Prelude.{replicate}
 
 -- the n octets of l from the place a on, or as many of them as l has
 abbrev pub part : ℕ → ℕ → List ℕ → List ℕ

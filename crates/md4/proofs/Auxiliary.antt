@@ -1,9 +1,8 @@
--- The round functions in fewer operations, and four calls in a row.
+-- The auxiliary functions in fewer operations.
 -- Assumes nothing.
 use Rattle.std.proofs.Common.{◌≡◌, ℕ, ◌+◌, ◌-◌, ◌%◌, ◌^◌, ◌<◌, [], ◌∷◌, sym, ap, ◌∙◌, ap₂, mod-eq_of_lt, arith}
 use lib.Bits.{bit_and, bit_or, bit_xor, and_mask, xor_add_and, or_disjoint, or_lt, and_lt}
 use Rattle.octets.proofs.Bitwise.{at, none, and, or, xor, bitwise}
-use Rattle.md4.specs.declared.Registers.{Registers}
 use Rattle.md4.specs.Md4.{aux_f, aux_g}
 
 -- the complement of a word is its exclusive or with all ones
@@ -26,8 +25,3 @@ majority_right x y z hx hy hz =
     (sym (or_disjoint (bit_and y z) (bit_and x (bit_xor y z)) (bitwise (and (and (at 1) (at 2)) (and (at 0) (xor (at 1) (at 2)))) none (x ∷ y ∷ z ∷ []) tt))
     ∙ bitwise (or (and (at 1) (at 2)) (and (at 0) (xor (at 1) (at 2)))) (or (or (and (at 0) (at 1)) (and (at 0) (at 2))) (and (at 1) (at 2))) (x ∷ y ∷ z ∷ []) tt)
     ∙ mod-eq_of_lt (or_lt 32 (bit_or (bit_and x y) (bit_and x z)) (bit_and y z) (or_lt 32 (bit_and x y) (bit_and x z) (and_lt 32 x y hx hy) (and_lt 32 x z hx hz)) (and_lt 32 y z hy hz))
-
--- four calls in a row, each of which says what it makes of the one before
-pub four : (f₁ f₂ f₃ f₄ : Registers → Registers) (r₀ : Registers) {r₁ r₂ r₃ r₄ : Registers}
-    → r₁ ≡ f₁ r₀ → r₂ ≡ f₂ r₁ → r₃ ≡ f₃ r₂ → r₄ ≡ f₄ r₃ → r₄ ≡ f₄ (f₃ (f₂ (f₁ r₀)))
-four f₁ f₂ f₃ f₄ r₀ e₁ e₂ e₃ e₄ = e₄ ∙ ap f₄ (e₃ ∙ ap f₃ (e₂ ∙ ap f₂ e₁))
