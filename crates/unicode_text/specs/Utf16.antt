@@ -5,7 +5,7 @@ use Rattle.std.specs.Prelude.{Bool, cond, ◌&&◌, List, [], ◌∷◌, ◌++�
 use Rattle.std.proofs.Math.Option.{Option}
 use Rattle.octets.specs.Digits.{between}
 use Rattle.octets.specs.Numbers.{from_le, to_le}
-use Rattle.unicode_text.specs.declared.Char.{Char}
+use Rattle.unicode_text.specs.declared.encoding.Char.{Char}
 use Rattle.unicode_text.specs.Scalars.{decoded_as, malformed, encoded, decoded}
 
 -- section 2.1: one unit, or from 10000 on a high and a low surrogate with ten bits each of what

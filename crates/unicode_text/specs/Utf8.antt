@@ -3,7 +3,7 @@
 use Rattle.std.specs.Prelude.{Bool, cond, ◌&&◌, List, [], ◌∷◌, ℕ, ◌+◌, ◌*◌, ◌/◌, ◌%◌, leb, ltb, get_or}
 use Rattle.std.proofs.Math.Option.{Option}
 use Rattle.octets.specs.Digits.{between}
-use Rattle.unicode_text.specs.declared.Char.{Char}
+use Rattle.unicode_text.specs.declared.encoding.Char.{Char}
 use Rattle.unicode_text.specs.Scalars.{is_scalar, decoded_as, malformed, encoded, decoded}
 
 -- section 3, the table: the octets of a scalar value. A tail, 10xxxxxx, has six of its bits.
