@@ -4,7 +4,7 @@ ghost use Rattle.std.specs.Prelude.{◌≡◌, ◌+◌, ◌≤◌, ℕ, List, []
 use std::marker::Model;
 
 // At most N octets. Clauses see those that are there.
-#[derive(Drop)]
+#[derive(Clone, Debug, Drop)]
 pub struct Coded<const N: usize> {
     pub(crate) octets: [u8; N],
     pub(crate) size: usize,
@@ -28,6 +28,7 @@ impl<const N: usize> Coded<N> {
         }
     }
 
+    // How many there are.
     pub fn len(&self) -> usize
         ensures value { result ≡ length self.now }
         ensures within { result ≤ N }
@@ -35,6 +36,7 @@ impl<const N: usize> Coded<N> {
         self.size
     }
 
+    // Those.
     pub fn as_slice(&self) -> &[u8]
         ensures { result.now ≡ self.now }
     {

@@ -1,6 +1,7 @@
 // UTF-8 (RFC 3629).
 ghost use Rattle.std.specs.Prelude.{◌≡◌, ◌<◌};
-ghost use Rattle.unicode_text.specs.Utf8.{utf8_of, is_tail, char_if_valid, char_from_octets, utf8_first};
+ghost use Rattle.unicode_text.specs.Utf8.{utf8_of, utf8_first};
+ghost use Rattle.unicode_text.specs.Utf8.{is_tail, char_if_valid, char_from_octets};
 ghost use Rattle.unicode_text.specs.Inner.{found};
 
 use crate::Coded;
@@ -24,40 +25,33 @@ impl Encoding for Utf8 {
     }
 
     // Section 3, the table.
+    #[tactic(auto, unfolding(crate::specs::Utf8::utf8_of))]
     fn encode(n: u32) -> Coded<4> {
-        encode(n)
-    }
-}
-
-// Section 3, the table.
-#[tactic(auto, unfolding(crate::specs::Utf8::utf8_of))]
-fn encode(n: u32) -> Coded<4>
-    ensures { result ≡ utf8_of n }
-{
-    if n < 0x80 {
-        return Coded {
-            octets: [n as u8, 0, 0, 0],
-            size: 1,
-        };
-    }
-    let last = (0x80 + n % 64) as u8;
-    if n < 0x800 {
-        return Coded {
-            octets: [(0xc0 + n / 64) as u8, last, 0, 0],
-            size: 2,
-        };
-    }
-    let third = (0x80 + n / 64 % 64) as u8;
-    if n < 0x10000 {
-        return Coded {
-            octets: [(0xe0 + n / 4096) as u8, third, last, 0],
-            size: 3,
-        };
-    }
-    let second = (0x80 + n / 4096 % 64) as u8;
-    Coded {
-        octets: [(0xf0 + n / 262144 % 8) as u8, second, third, last],
-        size: 4,
+        if n < 0x80 {
+            return Coded {
+                octets: [n as u8, 0, 0, 0],
+                size: 1,
+            };
+        }
+        let last = (0x80 + n % 64) as u8;
+        if n < 0x800 {
+            return Coded {
+                octets: [(0xc0 + n / 64) as u8, last, 0, 0],
+                size: 2,
+            };
+        }
+        let third = (0x80 + n / 64 % 64) as u8;
+        if n < 0x10000 {
+            return Coded {
+                octets: [(0xe0 + n / 4096) as u8, third, last, 0],
+                size: 3,
+            };
+        }
+        let second = (0x80 + n / 4096 % 64) as u8;
+        Coded {
+            octets: [(0xf0 + n / 262144 % 8) as u8, second, third, last],
+            size: 4,
+        }
     }
 }
 
