@@ -17,7 +17,8 @@ use Rattle.octets.proofs.Split.{place, cut, whole}
 use Rattle.smbpasswd.specs.Line.{lf}
 use Rattle.smbpasswd.specs.File.{lines, Placed, placed_from, select, line_at}
 use Rattle.smbpasswd.specs.Write.{with_line}
-use Rattle.smbpasswd.proofs.LineLaws.{next, placed_at, placed_step, placed_end, All, Stands, line_le}
+use Rattle.smbpasswd.specs.Inner.{placed_at}
+use Rattle.smbpasswd.proofs.LineLaws.{next, placed_step, placed_end, All, Stands, line_le}
 
 -- ---- offsets
 

@@ -3,7 +3,7 @@
 use mathlib.Core.Bool.{Bool, true, false, cond, not, ◌&&◌}
 use mathlib.Core.List.{List, [], ◌∷◌, map}
 use mathlib.Core.Path.{◌≡◌, refl, sym, ap, ◌∙◌}
-use Prim.Native.Nat.{ℕ, ◌+◌, ◌≤◌, ◌<◌}
+use Prim.Native.Nat.{ℕ, ◌+◌, ◌≤◌}
 use native.Mathlib.Omega.{arith}
 use mir.Val.{bool_byte}
 use lib.ListN.{length}
@@ -12,11 +12,10 @@ use Rattle.accounts.specs.Account.{no_hash, hash_of}
 use Rattle.accounts.specs.declared.Hash.{Hash}
 use Rattle.smbpasswd.specs.Line.{field, is_absent, is_comment, is_account}
 use Rattle.smbpasswd.specs.Record.{account_in}
-use Rattle.smbpasswd.specs.File.{lines, Placed, placed_from, select, line_at}
+use Rattle.smbpasswd.specs.File.{lines, Placed, placed_from, select}
 use Rattle.smbpasswd.specs.Summary.{counts_of, no_counts}
-use Rattle.smbpasswd.specs.Inner.{count_line, count_lines, Within}
+use Rattle.smbpasswd.specs.Inner.{count_line, count_lines, Within, placed}
 use Rattle.smbpasswd.specs.declared.Counts.{Counts}
-use Rattle.smbpasswd.proofs.LineLaws.{next, placed_at, placed_step, placed_end}
 
 -- ---- how many are selected
 
@@ -40,7 +39,7 @@ line_more test n x xs c = rw c (which (test x.line) refl)
 all_more : (n : ℕ) (x : Placed) (xs : List Placed) → is_comment x.line ≡ false → n + 1 + length (counts xs) ≡ n + length (counts (x ∷ xs))
 all_more n x xs c = rw c (omega arith)
 
-same : {l l' b b' d d' e e' n n' : ℕ} → l ≡ l' → b ≡ b' → d ≡ d' → e ≡ e' → n ≡ n'
+pub same : {l l' b b' d d' e e' n n' : ℕ} → l ≡ l' → b ≡ b' → d ≡ d' → e ≡ e' → n ≡ n'
     → ◌≡◌ {A = Counts} (record { lines = l; bad = b; disabled = d; expired = e; no_nt = n })
     (record { lines = l'; bad = b'; disabled = d'; expired = e'; no_nt = n' })
 same p q r s t = cc
@@ -102,14 +101,16 @@ module _ (now max_age : ℕ) where
 
   -- ---- line by line
 
-  pub count_step : (f : List ℕ) (k : Counts) (at : ℕ) → at < length f
-      → count_lines now max_age (count_line now max_age k (line_at at f)) (placed_at (next at f) f) ≡ count_lines now max_age k (placed_at at f)
-  unfolding count_lines
-  count_step f k at h = sym (ap (count_lines now max_age k) (placed_step f at h))
+  module _ (k : Counts) {s : List Placed} where
+    pub counted_more : {t : List Placed} (at : ℕ) (l : List ℕ) → s ≡ placed at l ∷ t → {j : Counts} → j ≡ count_line now max_age k l
+        → count_lines now max_age j t ≡ count_lines now max_age k s
+    unfolding count_lines
+    counted_more {t} at l e f =
+        ap (λ (x : Counts). count_lines now max_age x t) f ∙ sym (ap (count_lines now max_age k) e)
 
-  pub count_end : (f : List ℕ) (k : Counts) (at : ℕ) → length f ≤ at → count_lines now max_age k (placed_at at f) ≡ k
-  unfolding count_lines
-  count_end f k at h = ap (count_lines now max_age k) (placed_end f at h)
+    pub counted_none : s ≡ [] → count_lines now max_age k s ≡ k
+    unfolding count_lines
+    counted_none e = ap (count_lines now max_age k) e
 
   -- ---- one line
 

@@ -13,6 +13,7 @@ use Rattle.octets.specs.Split.{before, behind, with_first}
 use Rattle.octets.proofs.Split.{drop_place, place_le}
 use Rattle.smbpasswd.specs.Line.{lf}
 use Rattle.smbpasswd.specs.File.{lines, Placed, placed_from, select, line_at}
+use Rattle.smbpasswd.specs.Inner.{placed_at}
 
 -- ---- the first line, and the others
 
@@ -59,15 +60,31 @@ line_short f l at e h = omega (arith, line_le f at, ap length e)
 
 -- ---- where each starts
 
-abbrev pub placed_at : ℕ → List ℕ → List Placed
-placed_at at f = placed_from at (lines (drop at f))
-
 pub placed_step : (f : List ℕ) (at : ℕ) → at < length f
     → placed_at at f ≡ record { offset = at; line = line_at at f } ∷ placed_at (next at f) f
 placed_step f at h = ap (placed_from at) (lines_at f at h)
 
 pub placed_end : (f : List ℕ) (at : ℕ) → length f ≤ at → placed_at at f ≡ []
 placed_end f at h = ap (placed_from at) (no_lines f at h)
+
+-- a file has no more lines than octets
+lines_le : (f : List ℕ) → length (lines f) ≤ length f
+unfolding lines
+lines_le [] = omega arith
+lines_le (x ∷ f) = which (eqb x lf) (lines f) (lines_le f)
+  where
+    which : (b : Bool) (ls : List (List ℕ)) → length ls ≤ length f
+        → length (cond b ([] ∷ ls) (with_first x ls)) ≤ length (x ∷ f)
+    which true ls h = omega arith
+    which false [] h = omega arith
+    which false (l ∷ ls) h = omega arith
+
+placed_length : (at : ℕ) (ls : List (List ℕ)) → length (placed_from at ls) ≡ length ls
+placed_length at [] = refl
+placed_length at (l ∷ ls) = ap suc (placed_length (at + length l + 1) ls)
+
+pub placed_le : (f : List ℕ) → length (placed_from 0 (lines f)) ≤ length f
+placed_le f = omega (arith, placed_length 0 (lines f), lines_le f)
 
 -- P holds of each
 abbrev pub All : (Placed → Type 0) → List Placed → Type 0

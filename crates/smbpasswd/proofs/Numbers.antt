@@ -12,25 +12,25 @@ use Rattle.octets.specs.Digits.{digit_of, all_below, number_from}
 use Rattle.octets.proofs.DigitLoop.{left, left_cons, left_end, below_first}
 use Rattle.smbpasswd.specs.Summary.{value_of}
 use Rattle.smbpasswd.specs.Inner.{number_in}
-use Rattle.smbpasswd.specs.declared.summaries.Number.TheVariants.{Value, NoNumber}
+use Rattle.std.specs.Prelude.{Some, None}
 
 -- ---- no number
 
 module _ (s : List ℕ) where
-  pub none_empty : length s ≡ 0 → NoNumber ≡ number_in s
+  pub none_empty : length s ≡ 0 → None ≡ number_in s
   none_empty e = rw (lt-leb 1 (length s) (omega arith))
 
-  pub none_other : all_below 10 (map digit_of s) ≡ false → NoNumber ≡ number_in s
+  pub none_other : all_below 10 (map digit_of s) ≡ false → None ≡ number_in s
   none_other d = rw (d, and-false (leb 1 (length s)))
 
   module _ (some : 1 ≤ length s) (d : all_below 10 (map digit_of s) ≡ true) where
-    pub none_large : 2 ^ 32 ≤ value_of s → NoNumber ≡ number_in s
+    pub none_large : 2 ^ 32 ≤ value_of s → None ≡ number_in s
     none_large h = rw (le-leb 1 (length s) some, d, le-ltb (value_of s) (2 ^ 32) h)
 
-    pub a_number : {v : ℕ} → v ≡ value_of s → v < 2 ^ 32 → Value v ≡ number_in s
+    pub a_number : {v : ℕ} → v ≡ value_of s → v < 2 ^ 32 → Some v ≡ number_in s
     a_number {v} e h =
         let small : ltb (value_of s) (2 ^ 32) ≡ true = lt-ltb (value_of s) (2 ^ 32) (omega (arith, h, e)) in
-        rw (le-leb 1 (length s) some, d, small) (ap Value e)
+        rw (le-leb 1 (length s) some, d, small) (ap Some e)
 
 -- ---- digit by digit
 

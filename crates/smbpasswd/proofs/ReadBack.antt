@@ -20,9 +20,8 @@ use Rattle.smbpasswd.specs.Line.{lf, letter_d, letter_x, field, is_comment, is_a
 use Rattle.smbpasswd.specs.Record.{has_flag, is_expired, account_in}
 use Rattle.smbpasswd.specs.File.{lines, Placed, placed_from, select, counted, malformed, named, place_from, place_of, line_at, lookup_at, find_in}
 use Rattle.smbpasswd.specs.Write.{changed_line, with_line, written_at, written_in}
-use Rattle.smbpasswd.specs.declared.Found.{Found}
-use Rattle.smbpasswd.specs.declared.Place.{Place}
-use Rattle.smbpasswd.specs.declared.Place.TheVariants.{Nowhere, Line, Doubled, Malformed}
+use Rattle.smbpasswd.specs.File.{Found}
+use Rattle.smbpasswd.specs.File.{Place, Nowhere, Line, Doubled, Malformed}
 use Rattle.smbpasswd.proofs.LineLaws.{All, Stands, stands, selected, all_first}
 use Rattle.smbpasswd.proofs.Search.{Known, line_known}
 use Rattle.smbpasswd.proofs.FieldLaws.{form}

@@ -1,20 +1,39 @@
 -- The search, line by line, finds the place that the definition says, and what is known of the line
 -- that is found.
 -- Assumes nothing.
-use mathlib.Core.Bool.{Bool, true, false, cond, not}
+use mathlib.Core.Bool.{Bool, true, false, cond, not, false≢true}
 use mathlib.Core.List.{List, [], ◌∷◌}
 use mathlib.Core.Path.{◌≡◌, refl, sym, ap, ap₂, ◌∙◌, subst}
-use Prim.Native.Nat.{ℕ, ◌≤◌, ◌<◌}
+use Prim.Native.Nat.{ℕ, ◌<◌}
 use native.Mathlib.Omega.{arith}
 use borrow.Author.Tests.{not-true}
 use lib.ListN.{length}
+use Rattle.std.specs.Prelude.{Option, Some, None, IsSome, MatchOption, Result, Ok, Err}
 use Rattle.octets.specs.Parts.{agrees}
 use Rattle.smbpasswd.specs.Line.{field, is_comment, is_account}
-use Rattle.smbpasswd.specs.File.{lines, Placed, placed_from, select, counted, malformed, named, place_from, place_of, line_at}
-use Rattle.smbpasswd.specs.Inner.{one_more, one_bad, after_line, searched, LineThere}
-use Rattle.smbpasswd.specs.declared.Place.{Place}
-use Rattle.smbpasswd.specs.declared.Place.TheVariants.{Nowhere, Line, Doubled, Malformed}
-use Rattle.smbpasswd.proofs.LineLaws.{next, placed_at, placed_step, placed_end, All, Stands, stands, selected, none_fails, all_both}
+use Rattle.smbpasswd.specs.File.{lines, Placed, placed_from, select, counted, malformed, named, place_from, place_of, line_at, located}
+use Rattle.smbpasswd.specs.Inner.{one_more, one_bad, after_line, searched, place_in, placed}
+use Rattle.smbpasswd.specs.declared.Misplaced.{Misplaced}
+use Rattle.smbpasswd.specs.declared.Misplaced.TheVariants as misplaced
+use Rattle.smbpasswd.specs.File.{Place, Nowhere, Line, Doubled, Malformed}
+use Rattle.smbpasswd.proofs.LineLaws.{All, Stands, stands, selected, none_fails, all_both}
+
+-- ---- a place, as the code has it
+
+pub placed_back : (p : Place) → place_in (located p) ≡ p
+placed_back Nowhere = refl
+placed_back (Line at) = refl
+placed_back (Doubled at) = refl
+placed_back (Malformed at) = refl
+
+pub located_back : (r : Result (Option ℕ) Misplaced) → located (place_in r) ≡ r
+located_back (Ok None) = refl
+located_back (Ok (Some at)) = refl
+located_back (Err (misplaced.Doubled at)) = refl
+located_back (Err (misplaced.Malformed at)) = refl
+
+pub placed_as : {p : Place} {r : Result (Option ℕ) Misplaced} → r ≡ located p → p ≡ place_in r
+placed_as {p} e = sym (placed_back p) ∙ ap place_in (sym e)
 
 -- ---- one line
 
@@ -102,14 +121,16 @@ search name p (x ∷ xs) =
     which false false ea m em rest =
         rest (one_bad x.offset p) ∙ bad x p bs ns (select (λ l. agrees (field 0 l) name) (x ∷ rest_of)) ∙ rw ea
 
-pub searched_step : (name f : List ℕ) (p : Place) (at : ℕ) → at < length f
-    → searched name (after_line name p at (line_at at f)) (placed_at (next at f) f) ≡ searched name p (placed_at at f)
-unfolding searched
-searched_step name f p at h = sym (ap (searched name p) (placed_step f at h))
+-- a line more, and none
+module _ (name : List ℕ) (p : Place) {s t : List Placed} where
+  pub searched_more : (at : ℕ) (l : List ℕ) → s ≡ placed at l ∷ t → {q : Place} → q ≡ after_line name p at l
+      → searched name q t ≡ searched name p s
+  unfolding searched
+  searched_more at l e f = ap (λ (x : Place). searched name x t) f ∙ sym (ap (searched name p) e)
 
-pub searched_end : (name f : List ℕ) (p : Place) (at : ℕ) → length f ≤ at → searched name p (placed_at at f) ≡ p
+pub searched_none : (name : List ℕ) (p : Place) {s : List Placed} → s ≡ [] → searched name p s ≡ p
 unfolding searched
-searched_end name f p at h = ap (searched name p) (placed_end f at h)
+searched_none name p e = ap (searched name p) e
 
 pub searched_place : (name f : List ℕ) → searched name Nowhere (placed_from 0 (lines f)) ≡ place_of name f
 unfolding place_of
@@ -156,12 +177,8 @@ pub line_known : (name f : List ℕ) (at : ℕ) → place_of name f ≡ Line at 
 unfolding place_of
 line_known name f at e = known name f at (malformed f) (named name f) refl refl e
 
--- the place of a name is good for what is done there
-pub line_there : (name f : List ℕ) → LineThere (place_of name f) f
-line_there name f = by (place_of name f) refl
-  where
-    by : (p : Place) → place_of name f ≡ p → LineThere p f
-    by Nowhere e = tt
-    by (Line at) e = let k = line_known name f at e in record { within = k.within; account = k.account }
-    by (Doubled at) e = tt
-    by (Malformed at) e = tt
+-- a line that is found has an entry
+pub entry_there : {E : Type 0} (P : E → Type 0) (r : Option E) {b : Bool} → MatchOption r (b ≡ false) P
+    → b ≡ true → IsSome r
+entry_there P None e h = absurd (false≢true (sym e ∙ h))
+entry_there P (Some x) e h = refl

@@ -4,6 +4,8 @@ use mathlib.Core.Bool.{Bool, true, false}
 use mathlib.Core.List.{List, [], ◌∷◌, ◌++◌}
 use mathlib.Core.Path.{◌≡◌, refl}
 use Prim.Native.Nat.{ℕ}
+use Rattle.std.specs.Prelude.{Ok, Err}
+use Rattle.refusals.specs.declared.Refusal.TheVariants as refusal
 use Rattle.octets.specs.Digits.{digit_of, hex_of}
 use Rattle.octets.specs.Parts.{agrees}
 use Rattle.accounts.specs.Account.{no_hash, hash_of, account_with, found}
@@ -12,8 +14,8 @@ use Rattle.smbpasswd.specs.Line.{lf, is_account}
 use Rattle.smbpasswd.specs.Record.{is_expired, account_in}
 use Rattle.smbpasswd.specs.File.{lines, place_of, find_in}
 use Rattle.smbpasswd.specs.Write.{changed_line, written_in}
-use Rattle.smbpasswd.specs.Summary.{counts_of, summary_of, refused_summary}
-use Rattle.smbpasswd.specs.declared.Place.TheVariants.{Nowhere, Line, Doubled, Malformed}
+use Rattle.smbpasswd.specs.Summary.{counts_of, summary_of}
+use Rattle.smbpasswd.specs.File.{Nowhere, Line, Doubled, Malformed}
 
 -- ---- lines
 
@@ -146,12 +148,12 @@ written = refl
 
 -- `1100 99`, a comment, bob, ann, and a line of another form
 pub summed : summary_of (49 ∷ 49 ∷ 48 ∷ 48 ∷ 32 ∷ 57 ∷ 57 ∷ lf ∷ (file ++ lf ∷ junk))
-    ≡ record { refusal = 0; counts = record { lines = 3; bad = 1; disabled = 1; expired = 1; no_nt = 1 } }
+    ≡ Ok (record { lines = 3; bad = 1; disabled = 1; expired = 1; no_nt = 1 })
 unfolding summary_of counts_of lines is_account account_in agrees digit_of
 summed = refl
 
 -- two spaces; a number of 33 bits
-pub refused_heads : (summary_of (53 ∷ 32 ∷ 32 ∷ 53 ∷ lf ∷ []) ≡ refused_summary)
-    × (summary_of (52 ∷ 50 ∷ 57 ∷ 52 ∷ 57 ∷ 54 ∷ 55 ∷ 50 ∷ 57 ∷ 54 ∷ 32 ∷ 49 ∷ []) ≡ refused_summary)
+pub refused_heads : (summary_of (53 ∷ 32 ∷ 32 ∷ 53 ∷ lf ∷ []) ≡ Err refusal.Line)
+    × (summary_of (52 ∷ 50 ∷ 57 ∷ 52 ∷ 57 ∷ 54 ∷ 55 ∷ 50 ∷ 57 ∷ 54 ∷ 32 ∷ 49 ∷ []) ≡ Err refusal.Line)
 unfolding summary_of counts_of lines digit_of
 refused_heads = (refl, refl)

@@ -1,15 +1,18 @@
 -- An account file as lines, and where an account's line starts (document 02, request 2026-02).
 -- Assumes nothing: these are definitions.
 use Rattle.std.specs.Prelude.{Bool, cond, not, List, [], ◌∷◌, ℕ, ◌+◌, eqb, length, drop}
+use Rattle.std.specs.Prelude.{Option, Some, None, Result, Ok, Err}
 use Rattle.octets.specs.Parts.{agrees}
 use Rattle.octets.specs.Split.{before, with_first}
 use Rattle.accounts.specs.Account.{not_found, found}
 use Rattle.accounts.specs.declared.Lookup.{Lookup}
 use Rattle.smbpasswd.specs.Line.{lf, field, is_comment, is_account}
 use Rattle.smbpasswd.specs.Record.{account_in}
-use Rattle.smbpasswd.specs.declared.Place.{Place}
-use Rattle.smbpasswd.specs.declared.Place.TheVariants.{Nowhere, Line, Doubled, Malformed}
-use Rattle.smbpasswd.specs.declared.Found.{Found}
+use Rattle.refusals.specs.declared.Refusal.{Refusal}
+use Rattle.refusals.specs.declared.Refusal.TheVariants as refusal
+use Rattle.smbpasswd.specs.declared.AccountLine.{AccountLine}
+use Rattle.smbpasswd.specs.declared.Misplaced.{Misplaced}
+use Rattle.smbpasswd.specs.declared.Misplaced.TheVariants as misplaced
 
 -- ---- lines
 
@@ -45,6 +48,14 @@ named name f = select (λ l. agrees (field 0 l) name) (counted f)
 
 -- ---- lookup
 
+-- where the line of a name starts: on no line; at an offset; on two lines or more, the first of
+-- which starts at an offset; or a line of another form, of any name, starts at one
+pub data Place : Type 0 where
+  Nowhere : Place
+  Line : ℕ → Place
+  Doubled : ℕ → Place
+  Malformed : ℕ → Place
+
 -- "14, first line of another form, even past the name sought, with its start's offset; then 15, the
 -- name sought stands on two lines. A name on no line is answered none". 15 has the offset of the
 -- first of those lines.
@@ -70,6 +81,21 @@ place_offset (Line at) = at
 place_offset (Doubled at) = at
 place_offset (Malformed at) = at
 
+-- a place, as the code answers it
+abbrev pub located : Place → Result (Option ℕ) Misplaced
+located Nowhere = Ok None
+located (Line at) = Ok (Some at)
+located (Doubled at) = Err (misplaced.Doubled at)
+located (Malformed at) = Err (misplaced.Malformed at)
+
+abbrev pub misplaced_refusal : Misplaced → Refusal
+misplaced_refusal (misplaced.Doubled at) = refusal.Doubled
+misplaced_refusal (misplaced.Malformed at) = refusal.Line
+
+abbrev pub misplaced_offset : Misplaced → ℕ
+misplaced_offset (misplaced.Doubled at) = at
+misplaced_offset (misplaced.Malformed at) = at
+
 -- the line that starts at an offset
 abbrev pub line_at : ℕ → List ℕ → List ℕ
 line_at at f = before lf (drop at f)
@@ -80,6 +106,19 @@ lookup_at now max_age f Nowhere = not_found
 lookup_at now max_age f (Line at) = found (account_in now max_age (line_at at f))
 lookup_at now max_age f (Doubled at) = not_found
 lookup_at now max_age f (Malformed at) = not_found
+
+-- the same, as the code answers it
+abbrev pub found_at : ℕ → ℕ → List ℕ → Place → Result (Option AccountLine) Misplaced
+found_at now max_age f Nowhere = Ok None
+found_at now max_age f (Line at) =
+    Ok (Some (record { offset = at; account = account_in now max_age (line_at at f) }))
+found_at now max_age f (Doubled at) = Err (misplaced.Doubled at)
+found_at now max_age f (Malformed at) = Err (misplaced.Malformed at)
+
+-- what a lookup finds: the place, and the record where there is one
+pub record Found : Type 0 where
+  pub place : Place
+  pub lookup : Lookup
 
 unfoldable pub find_in : ℕ → ℕ → List ℕ → List ℕ → Found
 find_in now max_age name f =

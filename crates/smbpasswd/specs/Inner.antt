@@ -1,20 +1,30 @@
 -- The columns of a line, and search and count line by line. Only contracts of private functions
 -- cite this.
 -- Assumes nothing: these are definitions.
-use Rattle.std.specs.Prelude.{true, cond, not, ◌&&◌, List, [], ◌∷◌, ◌≡◌, ℕ, zero, suc, ◌+◌, ◌≤◌, ◌<◌, length, drop}
+use Rattle.std.specs.Prelude.{true, cond, not, ◌&&◌, List, [], ◌∷◌, ◌≡◌, length, drop}
+use Rattle.std.specs.Prelude.{ℕ, zero, suc, ◌+◌, ◌≤◌, ◌<◌}
+use Rattle.std.specs.Prelude.{Option, Some, None, Result, Ok, Err}
 use mir.Val.{bool_byte}
 use Rattle.octets.specs.Parts.{agrees}
 use Rattle.octets.specs.Split.{before}
 use Rattle.smbpasswd.specs.Line.{colon, field, is_comment, is_account}
 use Rattle.smbpasswd.specs.Record.{account_in}
-use Rattle.smbpasswd.specs.File.{Placed, line_at}
+use Rattle.smbpasswd.specs.File.{lines, Placed, placed_from, line_at}
+use Rattle.smbpasswd.specs.File.{Place, Nowhere, Line, Doubled, Malformed}
 use Rattle.smbpasswd.specs.Summary.{is_number, value_of}
 use Rattle.smbpasswd.specs.declared.Counts.{Counts}
-use Rattle.smbpasswd.specs.declared.summaries.Number.{Number}
-use Rattle.smbpasswd.specs.declared.summaries.Number.TheVariants.{Value, NoNumber}
-use Rattle.smbpasswd.specs.declared.Place.{Place}
-use Rattle.smbpasswd.specs.declared.Place.TheVariants.{Nowhere, Line, Doubled, Malformed}
+use Rattle.smbpasswd.specs.declared.Misplaced.{Misplaced}
+use Rattle.smbpasswd.specs.declared.Misplaced.TheVariants as misplaced
 use Rattle.smbpasswd.specs.declared.lines.Columns.{Columns}
+
+-- ---- lines
+
+abbrev pub placed : ℕ → List ℕ → Placed
+placed at l = record { offset = at; line = l }
+
+-- the lines from an offset on
+abbrev pub placed_at : ℕ → List ℕ → List Placed
+placed_at at f = placed_from at (lines (drop at f))
 
 -- ---- columns
 
@@ -39,6 +49,13 @@ columns_of l =
     }
 
 -- ---- the search
+
+-- the place that the code has so far
+abbrev pub place_in : Result (Option ℕ) Misplaced → Place
+place_in (Ok None) = Nowhere
+place_in (Ok (Some at)) = Line at
+place_in (Err (misplaced.Doubled at)) = Doubled at
+place_in (Err (misplaced.Malformed at)) = Malformed at
 
 -- one more line of the name, or of another form: a malformed one counts before all others, and the
 -- first of each kind has the offset
@@ -65,16 +82,10 @@ unfoldable pub searched : List ℕ → Place → List Placed → Place
 searched name p [] = p
 searched name p (x ∷ xs) = searched name (after_line name p x.offset x.line) xs
 
--- where a place is a line, one with an account's form starts there
+-- a line of an account's form starts there
 pub record IsLine (at : ℕ) (f : List ℕ) : Type 0 where
   pub within : at < length f
   pub account : is_account (line_at at f) ≡ true
-
-abbrev pub LineThere : Place → List ℕ → Type 0
-LineThere Nowhere f = Unit {0}
-LineThere (Line at) f = IsLine at f
-LineThere (Doubled at) f = Unit {0}
-LineThere (Malformed at) f = Unit {0}
 
 -- ---- the counts
 
@@ -106,5 +117,5 @@ pub record Within (n : ℕ) (k : Counts) : Type 0 where
 -- ---- the first line
 
 -- a number, or none
-abbrev pub number_in : List ℕ → Number
-number_in s = cond (is_number s) (Value (value_of s)) NoNumber
+abbrev pub number_in : List ℕ → Option ℕ
+number_in s = cond (is_number s) (Some (value_of s)) None

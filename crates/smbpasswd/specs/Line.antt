@@ -1,7 +1,8 @@
 -- A line of an account file in Samba's smbpasswd(5) layout. Words in quotes are document 02's,
 -- request 2026-02.
 -- Assumes nothing: these are definitions.
-use Rattle.std.specs.Prelude.{Bool, true, ◌&&◌, ◌||◌, List, [], ◌∷◌, map, ℕ, zero, suc, eqb, leb, length, take, drop, get_or}
+use Rattle.std.specs.Prelude.{Bool, true, ◌&&◌, ◌||◌, List, [], ◌∷◌, map, length}
+use Rattle.std.specs.Prelude.{ℕ, zero, suc, eqb, leb, take, drop, get_or}
 use Rattle.octets.specs.Digits.{digit_of, all_below}
 use Rattle.octets.specs.Parts.{agrees}
 use Rattle.octets.specs.Split.{holds, before, behind}

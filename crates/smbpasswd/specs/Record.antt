@@ -32,5 +32,6 @@ is_expired now max_age never t =
 -- "D means disabled; the hours and dial-in marks are clear"; the fields 2 and 3 are LM and NT hash
 unfoldable pub account_in : ℕ → ℕ → List ℕ → Account
 account_in now max_age l =
-    account_with (hash_in (field 3 l)) (hash_in (field 2 l)) (has_flag letter_d (field 4 l)) false false
+    account_with (hash_in (field 3 l)) (hash_in (field 2 l)) (has_flag letter_d (field 4 l))
+    false false
     (is_expired now max_age (has_flag letter_x (field 4 l)) (time_in (field 5 l)))

@@ -1,7 +1,9 @@
 -- What `acctsum` says of its input (document 02, request 2026-02): "a line of present time and
 -- maximum age (decimal, a space between), then a file, 64 KiB in all".
 -- Assumes nothing: these are definitions.
-use Rattle.std.specs.Prelude.{Bool, cond, not, ◌&&◌, List, map, ℕ, ◌^◌, leb, ltb, length}
+use Rattle.std.specs.Prelude.{Bool, cond, not, ◌&&◌, List, map, ℕ, ◌^◌, leb, ltb, length, Result, Ok, Err}
+use Rattle.refusals.specs.declared.Refusal.{Refusal}
+use Rattle.refusals.specs.declared.Refusal.TheVariants as refusal
 use Rattle.octets.specs.Digits.{digit_of, all_below, number_from}
 use Rattle.octets.specs.Split.{holds, before, behind}
 use Rattle.accounts.specs.declared.Account.{Account}
@@ -9,7 +11,6 @@ use Rattle.smbpasswd.specs.Line.{lf, is_account}
 use Rattle.smbpasswd.specs.Record.{account_in}
 use Rattle.smbpasswd.specs.File.{select, counted, malformed}
 use Rattle.smbpasswd.specs.declared.Counts.{Counts}
-use Rattle.smbpasswd.specs.declared.Summary.{Summary}
 
 -- ---- counts
 
@@ -55,16 +56,10 @@ longest_input = 65536
 
 -- ---- the whole input
 
-abbrev pub refused_summary : Summary
-refused_summary = record { refusal = 14; counts = no_counts }
-
 -- "Another first line, a number past 32 bits or a longer input prints only `refused 14`"
-unfoldable pub summary_of : List ℕ → Summary
+unfoldable pub summary_of : List ℕ → Result Counts Refusal
 summary_of input =
     cond (leb (length input) longest_input && is_head (before lf input))
-    (record {
-      refusal = 0;
-      counts = counts_of (value_of (before space (before lf input)))
-          (value_of (behind space (before lf input))) (behind lf input);
-    })
-    refused_summary
+    (Ok (counts_of (value_of (before space (before lf input)))
+    (value_of (behind space (before lf input))) (behind lf input)))
+    (Err refusal.Line)

@@ -6,9 +6,8 @@ use Rattle.octets.specs.Numbers.{to_be}
 use Rattle.accounts.specs.declared.Account.{Account}
 use Rattle.accounts.specs.declared.Hash.{Hash}
 use Rattle.smbpasswd.specs.Line.{letter_x, colon, lct, from_field, field}
+use Rattle.smbpasswd.specs.File.{Place, Nowhere, Line, Doubled, Malformed}
 use Rattle.smbpasswd.specs.File.{place_of, line_at}
-use Rattle.smbpasswd.specs.declared.Place.{Place}
-use Rattle.smbpasswd.specs.declared.Place.TheVariants.{Nowhere, Line, Doubled, Malformed}
 
 -- "digits in upper case, no hash as 32 X"
 abbrev pub hash_text : Hash → List ℕ

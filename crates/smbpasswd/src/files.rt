@@ -3,95 +3,89 @@ ghost use Rattle.std.specs.Prelude.{◌≡◌};
 ghost use Rattle.octets.specs.Digits.{hex_text};
 ghost use Rattle.octets.specs.Numbers.{to_be};
 ghost use Rattle.octets.specs.Parts.{over_at};
-ghost use Rattle.smbpasswd.specs.File.{place_of, place_refusal, place_offset, lookup_at, find_in};
+ghost use Rattle.smbpasswd.specs.File.{Line, place_of, located, found_at};
 ghost use Rattle.smbpasswd.specs.Write.{hash_text, written_at, written_in};
-ghost use Rattle.smbpasswd.specs.Inner.{one_more, one_bad, after_line, LineThere};
-ghost use Rattle.smbpasswd.specs.declared.Place.TheVariants.{Line};
+ghost use Rattle.smbpasswd.specs.Inner.{place_in, one_more, one_bad, after_line, IsLine};
 
-use crate::fields::is_account;
-use crate::lines::{columns_of, is_comment, line_at};
-use crate::records::account_in;
+use crate::clock::Clock;
+use crate::entries::Entry;
+use crate::lines::{Lines, columns_of, is_comment, line_at};
 use crate::texts::{hash_text, time_digits};
-use crate::{Found, Place};
+use crate::{AccountLine, Misplaced};
 
 // ---- where the line of a name starts
 
 // One line more of the name, at an offset: the first has the offset.
-fn one_more(place: Place, at: usize) -> Place
-    ensures { result ≡ one_more at place }
+fn one_more(place: Result<Option<usize>, Misplaced>, at: usize) -> Result<Option<usize>, Misplaced>
+    ensures { result ≡ located (one_more at (place_in place)) }
 {
-    match place {
-        Place::Nowhere => Place::Line(at),
-        Place::Line(first) => Place::Doubled(first),
-        Place::Doubled(first) => Place::Doubled(first),
-        Place::Malformed(first) => Place::Malformed(first),
+    match place? {
+        None => Ok(Some(at)),
+        Some(first) => Err(Misplaced::Doubled(first)),
     }
 }
 
 // One line more of another form: the first of these counts before all others.
-fn one_bad(place: Place, at: usize) -> Place
-    ensures { result ≡ one_bad at place }
+fn one_bad(place: Result<Option<usize>, Misplaced>, at: usize) -> Result<Option<usize>, Misplaced>
+    ensures { result ≡ located (one_bad at (place_in place)) }
 {
     match place {
-        Place::Nowhere => Place::Malformed(at),
-        Place::Line(_) => Place::Malformed(at),
-        Place::Doubled(_) => Place::Malformed(at),
-        Place::Malformed(first) => Place::Malformed(first),
+        Err(Misplaced::Malformed(_)) => place,
+        Err(Misplaced::Doubled(_)) => Err(Misplaced::Malformed(at)),
+        Ok(_) => Err(Misplaced::Malformed(at)),
     }
 }
 
 // The place after one line more, which starts at an offset.
-fn after_line(name: &[u8], place: Place, at: usize, line: &[u8]) -> Place
-    ensures { result ≡ after_line name.now place at line.now }
+fn after_line(
+    name: &[u8],
+    place: Result<Option<usize>, Misplaced>,
+    at: usize,
+    line: &[u8],
+) -> Result<Option<usize>, Misplaced>
+    ensures { result ≡ located (after_line name.now (place_in place) at line.now) }
 {
     if is_comment(line) {
         return place;
     }
-    if !is_account(line, columns_of(line)) {
+    let Some(entry) = Entry::of(line) else {
         return one_bad(place, at);
-    }
-    if octets::agree(octets::up_to(line, b':'), name) {
+    };
+    if octets::agree(entry.name(), name) {
         return one_more(place, at);
     }
     place
 }
 
-// Where the line of a name starts. There is one pass over the file.
-pub fn locate(file: &[u8], name: &[u8]) -> Place
-    ensures { result ≡ place_of name.now file.now }
+// Where the line of a name starts, if it is on one. There is one pass over the file.
+pub fn locate(file: &[u8], name: &[u8]) -> Result<Option<usize>, Misplaced>
+    ensures { result ≡ located (place_of name.now file.now) }
 {
-    let mut place = Place::Nowhere;
-    let mut at: usize = 0;
-    while at < file.len() {
-        let line = line_at(file, at);
+    let mut place = Ok(None);
+    for (at, line) in Lines::of(file) {
         place = after_line(name, place, at, line);
-        at = at + line.len() + 1;
     }
     place
 }
 
 // ---- the record of a name
 
-// The record at a place, or none.
-fn lookup_at(file: &[u8], place: Place, present: u32, max_age: u32) -> accounts::Lookup
-    requires { LineThere place file.now }
-    ensures { result ≡ lookup_at present max_age file.now place }
+// The record of a name and its line, if it is on one, given the present time and the maximum age of
+// a password.
+pub fn find(
+    file: &[u8],
+    name: &[u8],
+    present: u32,
+    max_age: u32,
+) -> Result<Option<AccountLine>, Misplaced>
+    ensures { result ≡ found_at present max_age file.now (place_of name.now file.now) }
 {
-    match place {
-        Place::Nowhere => accounts::not_found(),
-        Place::Line(at) => accounts::found(account_in(line_at(file, at), present, max_age)),
-        Place::Doubled(_) => accounts::not_found(),
-        Place::Malformed(_) => accounts::not_found(),
-    }
-}
-
-// The record of a name, given the present time and the maximum age of a password.
-pub fn find(file: &[u8], name: &[u8], present: u32, max_age: u32) -> Found
-    ensures { result ≡ find_in present max_age name.now file.now }
-{
-    let place = locate(file, name);
-    let lookup = lookup_at(file, place, present, max_age);
-    Found { place, lookup }
+    let Some(offset) = locate(file, name)? else {
+        return Ok(None);
+    };
+    let clock = Clock { present, max_age };
+    let account = Entry::of(line_at(file, offset)).unwrap().account(clock);
+    Ok(Some(AccountLine { offset, account }))
 }
 
 // ---- a record written back
@@ -109,16 +103,14 @@ fn write_fields(
         ≡ over_at time (hex_text (to_be 4 present)) (over_at nt (hash_text account.nt)
         (over_at lm (hash_text account.lm) file.old)) }
 {
-    let lm_hash = account.lm;
-    let nt_hash = account.nt;
-    octets::copy_at(file, lm, &hash_text(lm_hash));
-    octets::copy_at(file, nt, &hash_text(nt_hash));
+    octets::copy_at(file, lm, &hash_text(account.lm));
+    octets::copy_at(file, nt, &hash_text(account.nt));
     octets::copy_at(file, time, &time_digits(present));
 }
 
 // Writes them into the line at an offset.
 fn write_line(file: &mut [u8], at: usize, account: accounts::Account, present: u32)
-    requires { LineThere (Line at) file.old }
+    requires { IsLine at file.old }
     ensures { file.new ≡ written_at account present file.old (Line at) }
 {
     let c = columns_of(line_at(file, at));
@@ -128,52 +120,20 @@ fn write_line(file: &mut [u8], at: usize, account: accounts::Account, present: u
     write_fields(file, lm, nt, time, account, present);
 }
 
-// Writes them into the line at a place, if it is one.
-fn write_at(file: &mut [u8], place: Place, account: accounts::Account, present: u32)
-    requires { LineThere place file.old }
-    ensures { file.new ≡ written_at account present file.old place }
-{
-    match place {
-        Place::Nowhere => {}
-        Place::Line(at) => write_line(file, at, account, present),
-        Place::Doubled(_) => {}
-        Place::Malformed(_) => {}
-    }
-}
-
 // Writes a changed record into the line of its name, with the present time as that of the last
 // change. Where the name is on no line, or 14 or 15 is answered, nothing is written.
-pub fn write_back(file: &mut [u8], name: &[u8], account: accounts::Account, present: u32) -> Place
-    ensures { (result ≡ place_of name.now file.old)
-        × (file.new ≡ written_in name.now account present file.old) }
+pub fn write_back(
+    file: &mut [u8],
+    name: &[u8],
+    account: accounts::Account,
+    present: u32,
+) -> Result<Option<usize>, Misplaced>
+    ensures place { result ≡ located (place_of name.now file.old) }
+    ensures written { file.new ≡ written_in name.now account present file.old }
 {
-    let place = locate(file, name);
-    write_at(file, place, account, present);
-    place
-}
-
-// ---- what a place says
-
-// The refusal number of a place; 0 is none.
-pub fn refusal_of(place: Place) -> u8
-    ensures { result ≡ place_refusal place }
-{
-    match place {
-        Place::Nowhere => 0,
-        Place::Line(_) => 0,
-        Place::Doubled(_) => 15,
-        Place::Malformed(_) => 14,
+    let place = locate(file, name)?;
+    if let Some(at) = place {
+        write_line(file, at, account, present);
     }
-}
-
-// Its offset; 0 where there is none.
-pub fn offset_of(place: Place) -> usize
-    ensures { result ≡ place_offset place }
-{
-    match place {
-        Place::Nowhere => 0,
-        Place::Line(at) => at,
-        Place::Doubled(at) => at,
-        Place::Malformed(at) => at,
-    }
+    Ok(place)
 }

@@ -2,50 +2,63 @@
 // changed record written back into its line, the accounts counted. Every public function is total.
 #![tactic(auto)]
 
+mod clock;
+mod entries;
 mod fields;
 mod files;
 mod lines;
-mod records;
 mod summaries;
 mod texts;
 
-pub use files::{find, locate, offset_of, refusal_of, write_back};
+ghost use Rattle.std.specs.Prelude.{◌≡◌};
+ghost use Rattle.smbpasswd.specs.File.{misplaced_refusal, misplaced_offset};
+
+pub use files::{find, locate, write_back};
+use refusals::Refusal;
 pub use summaries::{count, summarize};
 
-// Where the line of a name starts.
-#[derive(Clone, Copy)]
-pub enum Place {
-    // on no line
-    Nowhere,
-    // at this offset
-    Line(usize),
-    // refusal 15: on two lines or more, the first of which starts at this offset
+// Why a name has no line that counts.
+#[derive(Clone, Copy, Debug, PartialEq, Eq)]
+pub enum Misplaced {
+    // refusal 15: it is on two lines or more, the first of which starts at this offset
     Doubled(usize),
     // refusal 14: the first line of another form, of any name, starts at this offset
     Malformed(usize),
 }
 
-// What a lookup answers: the place, and the record where there is one.
+impl Misplaced {
+    pub fn refusal(self) -> Refusal
+        ensures { result ≡ misplaced_refusal self }
+    {
+        match self {
+            Misplaced::Doubled(_) => Refusal::Doubled,
+            Misplaced::Malformed(_) => Refusal::Line,
+        }
+    }
+
+    pub fn offset(self) -> usize
+        ensures { result ≡ misplaced_offset self }
+    {
+        match self {
+            Misplaced::Doubled(at) | Misplaced::Malformed(at) => at,
+        }
+    }
+}
+
+// The account of a name, and where its line starts.
 #[derive(Clone, Copy)]
-pub struct Found {
-    pub place: Place,
-    pub lookup: accounts::Lookup,
+pub struct AccountLine {
+    pub offset: usize,
+    pub account: accounts::Account,
 }
 
 // How many lines there are, of another form, and of accounts that are disabled, that are expired
 // and that have no NT hash.
-#[derive(Clone, Copy)]
+#[derive(Clone, Copy, Debug, Default, PartialEq, Eq)]
 pub struct Counts {
     pub lines: usize,
     pub bad: usize,
     pub disabled: usize,
     pub expired: usize,
     pub no_nt: usize,
-}
-
-// What `acctsum` is told by its input: the refusal (0 is none), and the counts.
-#[derive(Clone, Copy)]
-pub struct Summary {
-    pub refusal: u8,
-    pub counts: Counts,
 }

@@ -1,21 +1,12 @@
-// A line of the file, and where its fields begin.
+// The lines of a file, and where the fields of one begin.
 ghost use Rattle.std.specs.Prelude.{◌≡◌, ◌+◌, ◌≤◌, length, drop};
+ghost use Rattle.std.specs.Iterator.{YieldsFirstBy, item_count};
 ghost use Rattle.octets.specs.Split.{before};
-ghost use Rattle.smbpasswd.specs.Line.{colon, is_comment};
+ghost use Rattle.smbpasswd.specs.Line.{colon, field, is_comment};
 ghost use Rattle.smbpasswd.specs.File.{line_at};
-ghost use Rattle.smbpasswd.specs.Inner.{columns_of};
+ghost use Rattle.smbpasswd.specs.Inner.{columns_of, placed, placed_at};
 
-// Where the fields behind the name begin, and the rest of the line: each right behind a colon or,
-// where there are fewer, beyond the end of the line.
-#[derive(Clone, Copy)]
-pub(crate) struct Columns {
-    pub uid: usize,
-    pub lm: usize,
-    pub nt: usize,
-    pub flags: usize,
-    pub time: usize,
-    pub rest: usize,
-}
+// ---- lines
 
 // The line that starts at an offset.
 pub(crate) fn line_at(file: &[u8], at: usize) -> &[u8]
@@ -28,10 +19,54 @@ pub(crate) fn line_at(file: &[u8], at: usize) -> &[u8]
 pub(crate) fn is_comment(line: &[u8]) -> bool
     ensures { result ≡ is_comment line.now }
 {
-    if line.len() == 0 {
-        return false;
+    line.first() == Some(&b'#')
+}
+
+// The lines from an offset on, each with the offset at which it starts.
+#[derive(Drop)]
+pub(crate) struct Lines<'a> {
+    file: &'a [u8],
+    at: usize,
+}
+
+impl<'a> Lines<'a> {
+    pub fn of(file: &'a [u8]) -> Self
+        ensures { (result.file.now ≡ file.now) × (result.at ≡ 0) }
+    {
+        Lines { file, at: 0 }
     }
-    line[0] == b'#'
+}
+
+impl<'a> Iterator for Lines<'a> {
+    type Item = (usize, &'a [u8]);
+
+    ghost next_gives = { YieldsFirstBy (λ x. placed x.0 x.1.now) (λ s. placed_at s.at s.file.now) };
+
+    ghost remaining = { item_count (λ s. placed_at s.at s.file.now) };
+
+    fn next(&mut self) -> Option<(usize, &'a [u8])> {
+        let at = self.at;
+        if self.file.len() <= at {
+            return None;
+        }
+        let line = line_at(self.file, at);
+        self.at = at + line.len() + 1;
+        Some((at, line))
+    }
+}
+
+// ---- fields
+
+// Where the fields behind the name begin, and the rest of the line: each right behind a colon or,
+// where there are fewer, beyond the end of the line.
+#[derive(Clone, Copy)]
+pub(crate) struct Columns {
+    pub uid: usize,
+    pub lm: usize,
+    pub nt: usize,
+    pub flags: usize,
+    pub time: usize,
+    pub rest: usize,
 }
 
 // Where the field behind the one at a place begins.

@@ -13,12 +13,10 @@ use lib.Seq.{get_or-drop}
 use Rattle.octets.specs.Numbers.{from_le, to_le}
 use Rattle.octets.proofs.Listed.{part_written}
 use Rattle.octets.proofs.Numbers.{Octets}
-use Rattle.unicode_text.specs.declared.Char.{Char}
+use Rattle.unicode_text.specs.declared.encoding.Char.{Char}
 use Rattle.unicode_text.specs.Scalars.{is_scalar, decoded_as, malformed}
 use Rattle.unicode_text.specs.Utf16.{high_of, low_of, utf16_of, is_high, is_low, char_from_units, unit_at}
 use Rattle.unicode_text.specs.Utf16.{utf16_first}
-use Rattle.unicode_text.specs.Inner.{NotWidened}
-use Rattle.unicode_text.proofs.CodecUtf8.{at_most_three, at_most_four}
 use Rattle.unicode_text.proofs.Ranges.{between_both, inside, below, above, outside, scalar_low}
 use Rattle.unicode_text.proofs.Ranges.{scalar_high, scalar_cases, scalar_most}
 use Rattle.unicode_text.proofs.Texts.{Codec}
@@ -147,16 +145,6 @@ fits l h = by _ (found (length l) (unit_at l 0) (unit_at l 2))
     by x none = omega arith
     by x (one p q r) = p
     by x (two p q r) = p
-
--- two octets of it are at most three in UTF-8
-pub not_widened : (m u v : ℕ) → u < 0x10000 → NotWidened (char_from_units m u v)
-not_widened m u v h = by _ (found m u v)
-  where
-    by : (x : Char) → Told m u v x → NotWidened x
-    by x none p = absurd (omega (arith, p))
-    by x (one q r s) p = omega (arith, at_most_three u h)
-    by x (two q r s) p =
-        omega (arith, at_most_four (0x10000 + ((u - 0xd800) * 1024 + (v - 0xdc00))))
 
 -- a unit that is no surrogate is a scalar value
 unit_scalar : (u : ℕ) → u < 0x10000 → is_high u ≡ false → is_low u ≡ false → is_scalar u ≡ true

@@ -10,7 +10,7 @@ use lib.Dec.{leb, ltb}
 use lib.ListN.{length, take, get_or, get_or-eq_default}
 use Rattle.octets.specs.Digits.{between}
 use Rattle.octets.proofs.Listed.{part_written}
-use Rattle.unicode_text.specs.declared.Char.{Char}
+use Rattle.unicode_text.specs.declared.encoding.Char.{Char}
 use Rattle.unicode_text.specs.Scalars.{is_scalar, decoded_as, malformed}
 use Rattle.unicode_text.specs.Utf8.{tail, utf8_of, is_tail, char_if_valid, char_from_octets, utf8_first}
 use Rattle.unicode_text.proofs.Ranges.{between_both, inside, above, scalar_low, scalar_most}

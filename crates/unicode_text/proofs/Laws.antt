@@ -2,31 +2,27 @@
 -- was decoded is encoded again, for each encoding; and the text of a text's password is that text,
 -- the password of a password's text that password.
 -- Assumes nothing.
-use mathlib.Core.Bool.{Bool, true, false, cond}
+use mathlib.Core.Bool.{Bool, true, false}
 use mathlib.Core.List.{List, [], ◌∷◌}
 use mathlib.Core.Option.{Option, none, some}
 use mathlib.Core.Path.{◌≡◌, refl, sym, ap, ◌∙◌, subst}
 use Prim.Native.Nat.{ℕ, ◌+◌, ◌*◌, ◌/◌, ◌%◌, ◌≤◌}
 use native.Mathlib.Omega.{arith}
-use borrow.Author.Tests.{ltb-false}
+use borrow.Author.Tests.{le-ltb, ltb-false}
 use lib.Dec.{ltb}
 use lib.ListN.{length, length-append}
-use Rattle.octets.specs.Parts.{fixed}
+use Rattle.std.specs.Prelude.{Ok}
 use Rattle.octets.proofs.Numbers.{Octets}
-use Rattle.unicode_text.specs.declared.Char.{Char}
-use Rattle.unicode_text.specs.declared.Password.{Password}
-use Rattle.unicode_text.specs.declared.Text.{Text}
+use Rattle.unicode_text.specs.declared.encoding.Char.{Char}
 use Rattle.unicode_text.specs.Scalars.{encoded, decoded, encoded_if, recoded}
 use Rattle.unicode_text.specs.Utf8.{utf8_of, utf8_first, utf8_encoded, utf8_decoded}
 use Rattle.unicode_text.specs.Utf16.{utf16_of, utf16_first, utf16_encoded, utf16_decoded}
-use Rattle.unicode_text.specs.Password.{password_max, text_max, long_refusal}
-use Rattle.unicode_text.specs.Password.{refused_password, password_for, password_of, password_octets}
-use Rattle.unicode_text.specs.Password.{text_for, text_of, text_octets}
+use Rattle.unicode_text.specs.Password.{password_max, text_max, converted, fitted, password_of, text_of}
 use Rattle.unicode_text.proofs.Texts.{Scalars, Codec, decode_encoded, encode_decoded}
 use Rattle.unicode_text.proofs.CodecUtf8.{utf8_codec, at_most_three, at_most_four}
 use Rattle.unicode_text.proofs.CodecUtf16.{utf16_codec, utf16_one, utf16_two}
 use Rattle.unicode_text.proofs.CodecUtf16.{Size, one, two, size}
-use Rattle.unicode_text.proofs.Converting.{held, password_good, text_good}
+use Rattle.unicode_text.proofs.Converting.{good}
 
 -- ---- each encoding by itself
 
@@ -105,107 +101,97 @@ text_size (v ∷ vs) =
           ∙ even_sum (length (utf16_of v)) (length (encoded utf16_of vs)) h.1 t.1,
     )
 
+-- the two sizes, where the one is converted to the other
+sizes : (vs p t : List ℕ) → utf16_encoded vs ≡ p → utf8_encoded vs ≡ t
+    → (2 * length t ≤ 3 * length p) × (length p % 2 ≡ 0)
+sizes vs p t e k =
+    subst (λ (x : List ℕ). (2 * length x ≤ 3 * length p) × (length p % 2 ≡ 0)) k
+    (subst (λ (x : List ℕ). (2 * length (utf8_encoded vs) ≤ 3 * length x) × (length x % 2 ≡ 0)) e
+    (text_size vs))
+
+-- the text of a password has at most three octets for two
+pub text_long : (p t : List ℕ) → Octets p → recoded utf16_first utf8_of p ≡ some t
+    → 2 * length t ≤ 3 * length p
+text_long p t o e =
+    let m = between utf16_first utf8_of p t e in
+    (sizes m.text p t (utf16_encode_decoded p m.text o m.read).0 m.same).0
+
+-- so it fits wherever the password does
+pub text_fitted : (p : List ℕ) → Octets p → length p ≤ password_max
+    → fitted text_max (recoded utf16_first utf8_of p) ≡ text_of p
+unfolding text_of
+text_fitted p o h =
+    by (recoded utf16_first utf8_of p) refl
+    ∙ sym (ap (λ (t : Bool). converted t (recoded utf16_first utf8_of p))
+    (le-ltb password_max (length p) h))
+  where
+    by : (d : Option (List ℕ)) → recoded utf16_first utf8_of p ≡ d
+        → fitted text_max d ≡ converted false d
+    by none e = refl
+    by (some t) e =
+        ap (λ (x : Bool). converted x (some t))
+        (le-ltb text_max (length t) (omega (arith, text_long p t o e, h)))
+
 -- ---- the answers
 
 -- a password that is not refused
-record Given (o : Option (List ℕ)) : Type 0 where
-  octets : List ℕ
-  same : o ≡ some octets
-  fits : length octets ≤ password_max
+record Given (o : Option (List ℕ)) (l : List ℕ) : Type 0 where
+  same : o ≡ some l
+  fits : length l ≤ password_max
 
-given : (o : Option (List ℕ)) → (password_for o).refusal ≡ 0 → Given o
-given none e = absurd (omega (arith, e))
-given (some l) e = by (ltb password_max (length l)) refl e
+given : (o : Option (List ℕ)) (l : List ℕ) → fitted password_max o ≡ Ok l → Given o l
+given none l e = let z : ◌≡◌ {A = ℕ} 0 1 = cc in absurd (omega (arith, z))
+given (some k) l e = by (ltb password_max (length k)) refl e
   where
-    by : (t : Bool) → ltb password_max (length l) ≡ t
-        → (cond {A = Password} t (refused_password long_refusal)
-        (record { refusal = 0; size = length l; octets = fixed password_max l })).refusal ≡ 0
-        → Given (some l)
-    by true p q = absurd (omega (arith, q))
-    by false p q = record { octets = l; same = refl; fits = ltb-false password_max (length l) p }
+    by : (t : Bool) → ltb password_max (length k) ≡ t → converted t (some k) ≡ Ok l
+        → Given (some k) l
+    by true p q = let z : ◌≡◌ {A = ℕ} 0 1 = cc in absurd (omega (arith, z))
+    by false p q =
+        let y : k ≡ l = cc in
+        record {
+          same = ap some y;
+          fits = subst (λ (x : List ℕ). length x ≤ password_max) y (ltb-false password_max (length k) p);
+        }
 
 -- a text that is not refused
-record Shown (n : ℕ) (o : Option (List ℕ)) : Type 0 where
-  octets : List ℕ
-  same : o ≡ some octets
+record Shown (n : ℕ) (o : Option (List ℕ)) (l : List ℕ) : Type 0 where
+  same : o ≡ some l
   fits : n ≤ password_max
 
-shown : (n : ℕ) (o : Option (List ℕ)) → (text_for (ltb password_max n) o).refusal ≡ 0 → Shown n o
-shown n none e = absurd (omega (arith, e))
-shown n (some l) e = by (ltb password_max n) refl e
+shown : (n : ℕ) (o : Option (List ℕ)) (l : List ℕ) → converted (ltb password_max n) o ≡ Ok l
+    → Shown n o l
+shown n none l e = let z : ◌≡◌ {A = ℕ} 0 1 = cc in absurd (omega (arith, z))
+shown n (some k) l e = by (ltb password_max n) refl e
   where
-    by : (t : Bool) → ltb password_max n ≡ t → (text_for t (some l)).refusal ≡ 0 → Shown n (some l)
-    by true p q = absurd (omega (arith, q))
-    by false p q = record { octets = l; same = refl; fits = ltb-false password_max n p }
-
--- the password of l, where l is what its text is in UTF-16
-password_is : (t l : List ℕ) → recoded utf8_first utf16_of t ≡ some l → length l ≤ password_max
-    → password_of t ≡ record { refusal = 0; size = length l; octets = fixed password_max l }
-unfolding password_of
-password_is t l e h = ap password_for e ∙ sym (password_good l h)
-
-text_is : (p l : List ℕ) → recoded utf16_first utf8_of p ≡ some l → length p ≤ password_max
-    → text_of p ≡ record { refusal = 0; size = length l; octets = fixed text_max l }
-unfolding text_of
-text_is p l e h = ap (text_for (ltb password_max (length p))) e ∙ sym (text_good (length p) l h)
-
--- the octets that the two answers hold
-password_held : (t l : List ℕ) → recoded utf8_first utf16_of t ≡ some l → length l ≤ password_max
-    → password_octets (password_of t) ≡ l
-password_held t l e h = ap password_octets (password_is t l e h) ∙ held password_max l h
-
-text_held : (p l : List ℕ) → recoded utf16_first utf8_of p ≡ some l → length p ≤ password_max
-    → length l ≤ text_max → text_octets (text_of p) ≡ l
-text_held p l e h k = ap text_octets (text_is p l e h) ∙ held text_max l k
+    by : (t : Bool) → ltb password_max n ≡ t → converted t (some k) ≡ Ok l → Shown n (some k) l
+    by true p q = let z : ◌≡◌ {A = ℕ} 0 1 = cc in absurd (omega (arith, z))
+    by false p q = let y : k ≡ l = cc in record { same = ap some y; fits = ltb-false password_max n p }
 
 -- ---- the laws
 
 -- what a user typed is shown again
-pub text_back : (t : List ℕ) → (password_of t).refusal ≡ 0
-    → ((text_of (password_octets (password_of t))).refusal ≡ 0)
-    × (text_octets (text_of (password_octets (password_of t))) ≡ t)
-unfolding password_of
-text_back t e =
-    let g = given (recoded utf8_first utf16_of t) e in
-    let l = g.octets in
-    let m = between utf8_first utf16_of t l g.same in
-    let k = utf8_encode_decoded t m.text m.read in
-    let b = recoded_back utf8_codec utf16_codec t l tt g.same in
-    let i = password_held t l g.same g.fits in
-    let long : length t ≤ text_max =
-    omega (arith, (text_size m.text).0, ap length m.same, ap length k.0, g.fits) in (
-      ap (λ (x : List ℕ). (text_of x).refusal) i
-          ∙ ap (λ (x : Text). x.refusal) (text_is l t b g.fits),
-      ap (λ (x : List ℕ). text_octets (text_of x)) i ∙ text_held l t b g.fits long,
-    )
+pub text_back : (t p : List ℕ) → password_of t ≡ Ok p → text_of p ≡ Ok t
+unfolding password_of text_of
+text_back t p e =
+    let g = given (recoded utf8_first utf16_of t) p e in
+    ap (converted (ltb password_max (length p)))
+    (recoded_back utf8_codec utf16_codec t p tt g.same)
+    ∙ ap (λ (x : Bool). converted x (some t)) (le-ltb password_max (length p) g.fits)
 
 -- a password that is shown and typed is the same
-pub password_back : (p : List ℕ) → Octets p → (text_of p).refusal ≡ 0
-    → ((password_of (text_octets (text_of p))).refusal ≡ 0)
-    × (password_octets (password_of (text_octets (text_of p))) ≡ p)
-unfolding text_of
-password_back p o e =
-    let g = shown (length p) (recoded utf16_first utf8_of p) e in
-    let l = g.octets in
-    let m = between utf16_first utf8_of p l g.same in
-    let k = utf16_encode_decoded p m.text o m.read in
-    let b = recoded_back utf16_codec utf8_codec p l o g.same in
-    let long : length l ≤ text_max =
-    omega (arith, (text_size m.text).0, ap length m.same, ap length k.0, g.fits) in
-    let i = text_held p l g.same g.fits long in (
-      ap (λ (x : List ℕ). (password_of x).refusal) i
-          ∙ ap (λ (x : Password). x.refusal) (password_is l p b g.fits),
-      ap (λ (x : List ℕ). password_octets (password_of x)) i ∙ password_held l p b g.fits,
-    )
+pub password_back : (p t : List ℕ) → Octets p → text_of p ≡ Ok t → password_of t ≡ Ok p
+unfolding password_of text_of
+password_back p t o e =
+    let g = shown (length p) (recoded utf16_first utf8_of p) t e in
+    ap (fitted password_max) (recoded_back utf16_codec utf8_codec p t o g.same)
+    ∙ good password_max p g.fits
 
 -- the password of a text has the length of an NT password
-pub password_size_lem : (t : List ℕ) → (password_of t).refusal ≡ 0
-    → (length (password_octets (password_of t)) ≤ password_max)
-    × (length (password_octets (password_of t)) % 2 ≡ 0)
+pub password_size_lem : (t p : List ℕ) → password_of t ≡ Ok p
+    → (length p ≤ password_max) × (length p % 2 ≡ 0)
 unfolding password_of
-password_size_lem t e =
-    let g = given (recoded utf8_first utf16_of t) e in
-    let m = between utf8_first utf16_of t g.octets g.same in
-    subst (λ (x : List ℕ). (length x ≤ password_max) × (length x % 2 ≡ 0))
-    (sym (password_held t g.octets g.same g.fits))
-    (g.fits, ap (λ (x : List ℕ). length x % 2) (sym m.same) ∙ (text_size m.text).1)
+password_size_lem t p e =
+    let g = given (recoded utf8_first utf16_of t) p e in
+    let m = between utf8_first utf16_of t p g.same in
+    let k = utf8_encode_decoded t m.text m.read in
+    (g.fits, (sizes m.text p t m.same k.0).1)

@@ -1,9 +1,8 @@
--- What the code's parts tell beside their answers. Only contracts of private functions cite this.
+-- What the code's parts answer. Only contracts of private functions cite this.
 -- Assumes nothing: these are definitions.
-use Rattle.std.specs.Prelude.{◌*◌, ◌≤◌, ◌<◌, length}
-use Rattle.unicode_text.specs.declared.Char.{Char}
-use Rattle.unicode_text.specs.Utf8.{utf8_of}
+use Rattle.std.specs.Prelude.{cond, Option, Some, None, eqb}
+use Rattle.unicode_text.specs.declared.encoding.Char.{Char}
 
--- for each two octets in UTF-16 a character has at most three in UTF-8
-abbrev pub NotWidened : Char → Type 0
-NotWidened c = 0 < c.width → 2 * length (utf8_of c.value) ≤ 3 * c.width
+-- a character, or none where the octets are malformed
+abbrev pub found : Char → Option Char
+found c = cond (eqb c.width 0) None (Some c)

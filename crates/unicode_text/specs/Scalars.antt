@@ -1,12 +1,11 @@
 -- Unicode scalar values, a character at the front of encoded octets, and texts: what UTF-8 and
 -- UTF-16 have in common.
 -- Assumes nothing: these are definitions.
-use Rattle.std.specs.Prelude.{Bool, true, false, cond, ◌||◌, List, [], ◌∷◌, ◌++◌, ℕ, zero, suc, ◌-◌, eqb, ltb, length}
+use Rattle.std.specs.Prelude.{Bool, true, false, cond, ◌||◌, List, [], ◌∷◌, ◌++◌, eqb, ltb}
+use Rattle.std.specs.Prelude.{ℕ, zero, suc, ◌-◌}
 use Rattle.std.proofs.Math.Option.{Option, none, some}
-use Rattle.octets.specs.Parts.{fixed}
 use Rattle.octets.specs.Digits.{between}
-use Rattle.unicode_text.specs.declared.Char.{Char}
-use Rattle.unicode_text.specs.declared.Encoding.{Encoding}
+use Rattle.unicode_text.specs.declared.encoding.Char.{Char}
 
 -- RFC 3629 section 3: U+0000 to U+10FFFF but for U+D800 to U+DFFF, which are the surrogates of
 -- UTF-16 and no characters
@@ -22,10 +21,6 @@ decoded_as width value = record { width = width; value = value }
 
 abbrev pub malformed : Char
 malformed = decoded_as 0 0
-
--- its one to four octets, as the code holds them
-abbrev pub encoding_of : List ℕ → Encoding
-encoding_of l = record { size = length l; octets = fixed 4 l }
 
 -- ---- a text, which is a list of scalar values
 

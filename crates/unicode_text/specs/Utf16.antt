@@ -1,11 +1,12 @@
 -- UTF-16 (RFC 2781), the least significant octet of each 16-bit unit first, as the Unicode
 -- characters of an NT password stand (RFC 2433 A.6).
 -- Assumes nothing: these are definitions.
-use Rattle.std.specs.Prelude.{Bool, cond, ◌&&◌, List, [], ◌∷◌, ◌++◌, ℕ, ◌+◌, ◌-◌, ◌*◌, ◌/◌, ◌%◌, leb, ltb, length, get_or}
+use Rattle.std.specs.Prelude.{Bool, cond, ◌&&◌, List, [], ◌∷◌, ◌++◌, leb, ltb, length, get_or}
+use Rattle.std.specs.Prelude.{ℕ, ◌+◌, ◌-◌, ◌*◌, ◌/◌, ◌%◌}
 use Rattle.std.proofs.Math.Option.{Option}
 use Rattle.octets.specs.Digits.{between}
 use Rattle.octets.specs.Numbers.{from_le, to_le}
-use Rattle.unicode_text.specs.declared.Char.{Char}
+use Rattle.unicode_text.specs.declared.encoding.Char.{Char}
 use Rattle.unicode_text.specs.Scalars.{decoded_as, malformed, encoded, decoded}
 
 -- section 2.1: one unit, or from 10000 on a high and a low surrogate with ten bits each of what

@@ -1,9 +1,10 @@
 -- UTF-8 (RFC 3629).
 -- Assumes nothing: these are definitions.
-use Rattle.std.specs.Prelude.{Bool, cond, ◌&&◌, List, [], ◌∷◌, ℕ, ◌+◌, ◌*◌, ◌/◌, ◌%◌, leb, ltb, get_or}
+use Rattle.std.specs.Prelude.{Bool, cond, ◌&&◌, List, [], ◌∷◌, leb, ltb, get_or}
+use Rattle.std.specs.Prelude.{ℕ, ◌+◌, ◌*◌, ◌/◌, ◌%◌}
 use Rattle.std.proofs.Math.Option.{Option}
 use Rattle.octets.specs.Digits.{between}
-use Rattle.unicode_text.specs.declared.Char.{Char}
+use Rattle.unicode_text.specs.declared.encoding.Char.{Char}
 use Rattle.unicode_text.specs.Scalars.{is_scalar, decoded_as, malformed, encoded, decoded}
 
 -- section 3, the table: the octets of a scalar value. A tail, 10xxxxxx, has six of its bits.

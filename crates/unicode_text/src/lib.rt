@@ -3,154 +3,86 @@
 // a pair of surrogates for a character over U+FFFF (RFC 2781).
 #![tactic(auto)]
 
+mod coded;
+mod encoding;
 mod utf16;
 mod utf8;
 
-ghost use Rattle.std.specs.Prelude.{◌≡◌, ◌<◌, get_or};
-ghost use Rattle.octets.specs.Digits.{between};
-ghost use Rattle.unicode_text.specs.Scalars.{is_scalar};
-ghost use Rattle.unicode_text.specs.Password.{refused_password, password_of, refused_text, text_of};
+ghost use Rattle.std.specs.Prelude.{◌≡◌, cond};
+ghost use Rattle.unicode_text.specs.Scalars.{well_formed, recoded};
+ghost use Rattle.unicode_text.specs.Password.{fitted, password_of, text_of};
 
-use refusals::{both, refuse_if};
+pub use coded::Coded;
+use encoding::Encoding;
+use refusals::Refusal;
+use utf8::Utf8;
+use utf16::Utf16;
 
 // Sizes in octets: the longest NT password, and the text of one (256 units of at most 3 octets).
 pub const PASSWORD_MAX: usize = 512;
 
 pub const TEXT_MAX: usize = 768;
 
-// The octets of a password: size of them, and zeros behind. Beside a refusal (101, 8) the size and
-// all octets are 0. 0 is no refusal.
-#[derive(Clone, Copy)]
-pub struct Password {
-    pub refusal: u8,
-    pub size: usize,
-    pub octets: [u8; PASSWORD_MAX],
-}
-
-// The octets of a text in UTF-8, in the same way.
-#[derive(Clone, Copy)]
-pub struct Text {
-    pub refusal: u8,
-    pub size: usize,
-    pub octets: [u8; TEXT_MAX],
-}
-
-// The scalar value with which octets begin, and how many of them tell it: 0 where they are
-// malformed.
-#[derive(Clone, Copy)]
-struct Char {
-    width: usize,
-    value: u32,
-}
-
-// The octets of one character: size of them, and zeros behind.
-#[derive(Clone, Copy)]
-struct Encoding {
-    size: usize,
-    octets: [u8; 4],
-}
-
-fn is_between(low: u32, high: u32, n: u32) -> bool
-    ensures { result ≡ between low high n }
+// Whether nothing in s is malformed.
+fn is_well_formed<E: Encoding>(s: &[u8]) -> bool
+    ensures { result ≡ well_formed E.first s.now }
 {
-    both(low <= n, n <= high)
-}
-
-// No surrogate, and at most U+10FFFF.
-fn is_scalar(n: u32) -> bool
-    ensures { result ≡ is_scalar n }
-{
-    n < 0xd800 || is_between(0xe000, 0x10ffff, n)
-}
-
-// The octet at a place, and 0 where there is none.
-fn octet_at(s: &[u8], i: usize) -> u32
-    ensures { (result ≡ get_or s.now i 0) × (result < 256) }
-{
-    if i < s.len() {
-        return s[i] as u32;
+    let mut rest = s;
+    while !rest.is_empty() {
+        let Some(char) = E::first(rest) else {
+            return false;
+        };
+        rest = &rest[char.width..];
     }
-    0
+    true
 }
 
-fn refused_password(refusal: u8) -> Password
-    ensures { result ≡ refused_password refusal }
+// Why s has no place in the other encoding: it is malformed, or else too long.
+fn too_long<E: Encoding>(s: &[u8]) -> Refusal
+    ensures { result ≡ cond (well_formed E.first s.now) Refusal.Input Refusal.Text }
 {
-    Password {
-        refusal,
-        size: 0,
-        octets: [0; PASSWORD_MAX],
+    if is_well_formed::<E>(s) {
+        Refusal::Input
+    } else {
+        Refusal::Text
     }
 }
 
-fn refused_text(refusal: u8) -> Text
-    ensures { result ≡ refused_text refusal }
+// What s is in another encoding, if that is at most N octets.
+fn recode<From: Encoding, To: Encoding, const N: usize>(s: &[u8]) -> Result<Coded<N>, Refusal>
+    ensures { result ≡ fitted N (recoded From.first To.code s.now) }
 {
-    Text {
-        refusal,
-        size: 0,
-        octets: [0; TEXT_MAX],
+    let mut done = Coded::<N>::new();
+    let mut rest = s;
+    while !rest.is_empty() {
+        let Some(char) = From::first(rest) else {
+            return Err(Refusal::Text);
+        };
+        let octets = To::encode(char.value);
+        if N - done.len() < octets.len() {
+            return Err(too_long::<From>(rest));
+        }
+        done.append(octets.as_slice());
+        rest = &rest[char.width..];
     }
+    Ok(done)
 }
 
 // The password of a text in UTF-8. Refusals 101 (the text is malformed anywhere), then 8 (the
 // password is over 512 octets).
-pub fn password_of(text: &[u8]) -> Password
+pub fn password_of(text: &[u8]) -> Result<Coded<PASSWORD_MAX>, Refusal>
     ensures { result ≡ password_of text.now }
 {
-    let mut octets = [0u8; PASSWORD_MAX];
-    let mut size: usize = 0;
-    let mut rest = text;
-    while 0 < rest.len() {
-        let char = utf8::first(rest);
-        let width = char.width;
-        if width == 0 {
-            return refused_password(101);
-        }
-        let encoding = utf16::encode(char.value);
-        let n = encoding.size;
-        let units = encoding.octets;
-        if PASSWORD_MAX - size < n {
-            return refused_password(refuse_if(!utf8::is_well_formed(rest), 101, 8));
-        }
-        octets::copy_at(&mut octets, size, octets::part_of(&units, 0, n));
-        size += n;
-        rest = &rest[width..];
-    }
-    Password {
-        refusal: 0,
-        size,
-        octets,
-    }
+    recode::<Utf8, Utf16, PASSWORD_MAX>(text)
 }
 
 // The text of a password in UTF-8. Refusals 101 (an odd number of octets, or a surrogate that is
 // not paired), then 8 (over 512 octets).
-pub fn text_of(password: &[u8]) -> Text
+pub fn text_of(password: &[u8]) -> Result<Coded<TEXT_MAX>, Refusal>
     ensures { result ≡ text_of password.now }
 {
     if PASSWORD_MAX < password.len() {
-        return refused_text(refuse_if(!utf16::is_well_formed(password), 101, 8));
+        return Err(too_long::<Utf16>(password));
     }
-    let mut octets = [0u8; TEXT_MAX];
-    let mut size: usize = 0;
-    let mut rest = password;
-    while 0 < rest.len() {
-        let char = utf16::first(rest);
-        let width = char.width;
-        if width == 0 {
-            return refused_text(101);
-        }
-        let encoding = utf8::encode(char.value);
-        let n = encoding.size;
-        let units = encoding.octets;
-        octets::copy_at(&mut octets, size, octets::part_of(&units, 0, n));
-        size += n;
-        rest = &rest[width..];
-    }
-    Text {
-        refusal: 0,
-        size,
-        octets,
-    }
+    recode::<Utf16, Utf8, TEXT_MAX>(password)
 }

@@ -1,23 +1,16 @@
--- `smbpasswd::files::find` meets its contract.
+-- `smbpasswd::files::find` meets its contract: a line that is found has an account's form.
 -- Assumes nothing.
-use mathlib.Core.Path.{sym, ap, ap₂, ◌∙◌, subst}
-use Rattle.accounts.specs.declared.Lookup.{Lookup}
-use Rattle.smbpasswd.specs.File.{lookup_at, find_in}
-use Rattle.smbpasswd.specs.Inner.{LineThere}
-use Rattle.smbpasswd.specs.declared.Place.{Place}
-use Rattle.smbpasswd.proofs.Search.{line_there}
+use mathlib.Core.Path.{◌≡◌, sym, ap, ◌∙◌}
+use Rattle.std.specs.Prelude.{Ok}
+use Rattle.smbpasswd.specs.Line.{is_account}
+use Rattle.smbpasswd.specs.File.{Line, place_of}
+use Rattle.smbpasswd.proofs.Search.{placed_as, line_known, entry_there}
 use Rattle.smbpasswd.proofs.files.find.Goals as goal
 
-pub lookup_at-lookup-requires : goal.lookup_at-lookup-requires
-lookup_at-lookup-requires c =
+pub unwrap-requires : goal.unwrap-requires
+unwrap-requires c =
     let a = c.args in
-    subst (λ (p : Place). LineThere p a.file.now) (sym c.locate-place.ensures) (line_there a.name.now a.file.now)
-
-pub returns : goal.returns
-unfolding find_in
-returns c =
-    let l = c in
-    let a = l.args in
-    let e = l.locate-place.ensures in
-    ap₂ (λ (p : Place) (x : Lookup). record { place = p; lookup = x }) e
-    (c.lookup_at-lookup.ensures ∙ ap (lookup_at a.present a.max_age a.file.now) e)
+    let p : place_of a.name.now a.file.now ≡ Line c.in-Some.offset =
+    placed_as (sym (ap Ok c.in-Some.is) ∙ sym c.in_ok-offset.was ∙ c.locate.ensures) in
+    entry_there _ c.of.result c.of.ensures
+    (ap is_account c.line_at.ensures ∙ (line_known a.name.now a.file.now c.in-Some.offset p).account)

@@ -1,13 +1,14 @@
 use mathlib.Core.List.{List}
-use mathlib.Core.Path.{sym, ap, ap₂, ◌∙◌, subst}
+use mathlib.Core.Path.{◌≡◌, sym, ap, ap₂, ◌∙◌, subst}
 use Prim.Native.Nat.{ℕ, ◌+◌, ◌≤◌, ◌^◌}
 use native.Mathlib.Omega.{arith}
 use lib.ListN.{length}
-use Rattle.smbpasswd.specs.File.{line_at}
-use Rattle.smbpasswd.specs.Inner.{count_line, count_lines, Within}
 use Rattle.smbpasswd.specs.declared.Counts.{Counts}
-use Rattle.smbpasswd.proofs.LineLaws.{placed_at, line_short}
-use Rattle.smbpasswd.proofs.Counting.{counted_file, count_step, count_end, count_within}
+use Rattle.smbpasswd.specs.declared.lines.Lines.{Lines}
+use Rattle.smbpasswd.specs.Summary.{no_counts}
+use Rattle.smbpasswd.specs.Inner.{count_lines, Within, placed_at}
+use Rattle.smbpasswd.proofs.LineLaws.{placed_le}
+use Rattle.smbpasswd.proofs.Counting.{same, counted_file, counted_more, counted_none, count_within}
 use Rattle.smbpasswd.proofs.summaries.count.Goals as goal
 
 -- a bound that is not sharp
@@ -15,68 +16,40 @@ wider : (m n : ℕ) (k : Counts) → m ≤ n → Within m k → Within n k
 wider m n k h w =
     record { lines = omega arith; bad = omega arith; disabled = omega arith; expired = omega arith; no_nt = omega arith }
 
-pub loop-at-init : goal.loop-at-init
-loop-at-init c =
+none : Within 0 no_counts
+none = record { lines = omega arith; bad = omega arith; disabled = omega arith; expired = omega arith; no_nt = omega arith }
+
+pub loop-line-init : goal.loop-line-init
+loop-line-init c =
     let a = c.args in
-    let e = c.no_counts-k.ensures in (
-      ap (λ (k : Counts). count_lines a.present a.max_age k (placed_at 0 a.file.now)) e
-          ∙ counted_file a.present a.max_age a.file.now,
-      subst (Within 0) (sym e)
-          (record { lines = omega arith; bad = omega arith; disabled = omega arith; expired = omega arith; no_nt = omega arith }),
-      omega arith,
+    let d = c.default-k.ensures in
+    let k : c.default-k.result ≡ no_counts = same d.0 d.1.0 d.1.1.0 d.1.1.1.0 d.1.1.1.1 in
+    let lines : placed_at c.into_iter-line-iterator.result.at c.into_iter-line-iterator.result.file.now ≡ placed_at 0 a.file.now =
+    ap (λ (x : Lines). placed_at x.at x.file.now) c.into_iter-line-iterator.ensures.into_iter_gives
+    ∙ ap₂ (λ (i : ℕ) (f : List ℕ). placed_at i f) c.of-line-items.ensures.1 c.of-line-items.ensures.0 in (
+      ap₂ (count_lines a.present a.max_age) k lines ∙ counted_file a.present a.max_age a.file.now,
+      0,
+      subst (Within 0) (sym k) none,
+      omega (arith, ap length lines, placed_le a.file.now),
     )
 
 pub count_line-k-requires : goal.count_line-k-requires
 count_line-k-requires c =
-    let h = c in
-    wider h.loop-at.at (2 ^ 63) h.loop-at.k (omega (arith, h.well_formed.0.1)) h.loop-at.invariant.1
+    let v = c.loop-line.invariant in
+    wider v.1 (2 ^ 63) c.loop-line.k (omega (arith, v.3, c.well_formed.0.1)) v.2
 
-pub loop-at-preserved : goal.loop-at-preserved
-loop-at-preserved c =
-    let ends : let h = c in
-    h.loop-at.at + length c.line_at-line.result.now ≤ length h.args.file.now =
-    let t = c in
-    line_short _ _ _ c.line_at-line.ensures t.loop-at-test.true in
-    let t = c in
-    let h = t in
-    let a = h.args in
-    let k = h.loop-at.k in
-    let at = h.loop-at.at in
-    let counted = c.count_line-k.ensures ∙ ap (count_line a.present a.max_age k) c.line_at-line.ensures in (
-      ap₂ (λ (j : Counts) (l : List ℕ). count_lines a.present a.max_age j (placed_at (at + length l + 1) a.file.now))
-          counted c.line_at-line.ensures
-          ∙ count_step a.present a.max_age a.file.now k at t.loop-at-test.true ∙ h.loop-at.invariant.0,
-      subst (Within (at + length c.line_at-line.result.now + 1)) (sym counted)
-          (wider (at + 1) _ _ (omega arith) (count_within a.present a.max_age at k (line_at at a.file.now) h.loop-at.invariant.1)),
-      omega (arith, ends),
+pub loop-line-preserved : goal.loop-line-preserved
+loop-line-preserved c =
+    let a = c.args in
+    let v = c.loop-line.invariant in
+    let k = c.loop-line.k in (
+      counted_more a.present a.max_age k c.in-Some.field-0-0 c.in-Some.line.now c.in-Some.ensures.steps c.count_line-k.ensures ∙ v.0,
+      v.1 + 1,
+      subst (Within (v.1 + 1)) (sym c.count_line-k.ensures) (count_within a.present a.max_age v.1 k c.in-Some.line.now v.2),
+      omega (arith, v.3, ap length c.in-Some.ensures.steps),
     )
 
 pub returns : goal.returns
 returns c =
-    let h = c in
-    let a = h.args in
-    sym (count_end a.present a.max_age a.file.now h.loop-at.k h.loop-at.at c.loop-at-test.false) ∙ h.loop-at.invariant.0
-
-pub overflow_add-at : goal.overflow_add-at
-overflow_add-at c =
-    let ends : let h = c in
-    h.loop-at.at + length c.line_at-line.result.now ≤ length h.args.file.now =
-    let t = c in
-    line_short _ _ _ c.line_at-line.ensures t.loop-at-test.true in
-    record { fits = omega (arith, ends, c.well_formed.0.1) }
-
-pub overflow_add-at-in-loop-at : goal.overflow_add-at-in-loop-at
-overflow_add-at-in-loop-at c =
-    let ends : let h = c in
-    h.loop-at.at + length c.line_at-line.result.now ≤ length h.args.file.now =
-    let t = c in
-    line_short _ _ _ c.line_at-line.ensures t.loop-at-test.true in
-    record { fits = omega (arith, ends, c.well_formed.0.1) }
-
-pub loop-at-smaller : goal.loop-at-smaller
-loop-at-smaller c =
-    let ends : let h = c in
-    h.loop-at.at + length c.line_at-line.result.now ≤ length h.args.file.now =
-    let t = c in
-    line_short _ _ _ c.line_at-line.ensures t.loop-at-test.true in
-    omega (arith, ends)
+    let a = c.args in
+    sym (counted_none a.present a.max_age c.loop-line.k c.in-None.ensures.steps.0) ∙ c.loop-line.invariant.0

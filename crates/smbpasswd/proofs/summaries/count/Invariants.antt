@@ -1,16 +1,12 @@
 -- `smbpasswd::summaries::count` meets its contract.
 -- Assumes nothing.
-use mathlib.Core.Path.{◌≡◌}
-use Prim.Native.Nat.{◌+◌, ◌-◌, ◌≤◌}
-use lib.ListN.{length}
+use Rattle.std.proofs.Common.{◌≡◌, ◌+◌, ◌≤◌, ℕ, length}
 use Rattle.smbpasswd.specs.Summary.{counts_of}
-use Rattle.smbpasswd.specs.Inner.{count_lines, Within}
-use Rattle.smbpasswd.proofs.LineLaws.{placed_at}
+use Rattle.smbpasswd.specs.Inner.{count_lines, Within, placed_at}
 use Rattle.smbpasswd.proofs.summaries.count.Given as goal
 
-abbrev pub invariant-loop-at : goal.invariant-loop-at
-invariant-loop-at l =
-    (count_lines l.present l.max_age l.k (placed_at l.at l.file) ≡ counts_of l.present l.max_age l.file) × Within l.at l.k × (l.at ≤ length l.file + 1)
-
-abbrev pub decreases-loop-at : goal.decreases-loop-at
-decreases-loop-at l = length l.file - l.at
+abbrev pub invariant-loop-line : goal.invariant-loop-line
+invariant-loop-line l =
+    let left = placed_at l.line-iterator.at l.line-iterator.file.now in
+    (count_lines l.clock.present l.clock.max_age l.k left ≡ counts_of l.clock.present l.clock.max_age l.file)
+    × (m : ℕ) × Within m l.k × (m + length left ≤ length l.file)

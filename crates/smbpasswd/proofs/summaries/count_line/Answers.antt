@@ -1,55 +1,30 @@
 -- `smbpasswd::summaries::count_line` meets its contract.
 -- Assumes nothing.
-use mathlib.Core.Bool.{Bool, true, false}
-use mathlib.Core.Path.{◌≡◌, sym, ◌∙◌}
-use Prim.Native.Nat.{ℕ, ◌+◌, ◌≤◌, ◌<◌, ◌^◌}
-use native.Mathlib.Omega.{arith}
-use mir.Val.{bool_byte}
-use Rattle.smbpasswd.specs.Line.{is_comment, is_account}
-use Rattle.smbpasswd.specs.Record.{account_in}
-use Rattle.smbpasswd.proofs.Counting.{comment_counted, bad_counted, account_counted}
+use mathlib.Core.List.{List}
+use mathlib.Core.Path.{refl, sym, ap, ◌∙◌}
+use Prim.Native.Nat.{ℕ, ◌+◌}
+use Rattle.smbpasswd.specs.Line.{letter_d, letter_x, field, is_absent, is_account}
+use Rattle.smbpasswd.specs.Record.{has_flag, time_in, is_expired, account_in}
+use Rattle.smbpasswd.proofs.Counting.{same, comment_counted, bad_counted, account_counted}
 use Rattle.smbpasswd.proofs.summaries.count_line.Goals as goal
-
--- a count and one more
-fits : (n : ℕ) (b : Bool) → n ≤ 2 ^ 63 → n + bool_byte b < 2 ^ 64
-fits n true h = omega arith
-fits n false h = omega arith
 
 pub returns-then-is_comment : goal.returns-then-is_comment
 returns-then-is_comment c = comment_counted _ _ _ _ (sym c.is_comment.ensures ∙ c.if-is_comment.true)
 
-pub returns-then-not-is_account : goal.returns-then-not-is_account
-returns-then-not-is_account c =
-    let no-comment : is_comment c.args.line.now ≡ false =
-    sym c.is_comment.ensures ∙ c.if-is_comment.false in
-    let p = c in
-    bad_counted _ _ _ _ no-comment (sym p.is_account.ensures ∙ p.if-not-is_account.true)
+pub returns-in_default : goal.returns-in_default
+returns-in_default c =
+    bad_counted _ _ _ _ (sym c.is_comment.ensures ∙ c.if-is_comment.false) c.in_default.ensures
 
 pub returns : goal.returns
 unfolding account_in
 returns c =
-    let no-comment : is_comment c.args.line.now ≡ false =
-    sym c.is_comment.ensures ∙ c.if-is_comment.false in
-    let formed : is_account c.args.line.now ≡ true =
-    sym c.is_account.ensures ∙ c.if-not-is_account.false in
-    let n = c in
-    let e = n in
-    let d = e in
-    let p = d in
-    account_counted _ _ _ _ no-comment formed d.is_disabled-disabled.ensures e.has_expired-expired.ensures
-    n.lacks_nt-no_nt.ensures
-
-pub has_expired-expired-requires : goal.has_expired-expired-requires
-has_expired-expired-requires c =
-    let formed : is_account c.args.line.now ≡ true =
-    sym c.is_account.ensures ∙ c.if-not-is_account.false in
-    (c.columns_of-c.ensures, formed)
-
-pub overflow_add-result-3 : goal.overflow_add-result-3
-overflow_add-result-3 c = record { fits = fits _ c.is_disabled-disabled.result (omega arith) }
-
-pub overflow_add-result-4 : goal.overflow_add-result-4
-overflow_add-result-4 c = record { fits = fits _ c.has_expired-expired.result (omega arith) }
-
-pub overflow_add-result-5 : goal.overflow_add-result-5
-overflow_add-result-5 c = record { fits = fits _ c.lacks_nt-no_nt.result (omega arith) }
+    let k = c.args.k in
+    let line = c.in-Some.ensures in
+    same refl refl (ap (λ (x : ℕ). k.disabled + x) c.from.ensures) (ap (λ (x : ℕ). k.expired + x) c.from-2.ensures)
+    (ap (λ (x : ℕ). k.no_nt + x) c.from-3.ensures)
+    ∙ account_counted c.args.clock.present c.args.clock.max_age k c.args.line.now
+    (sym c.is_comment.ensures ∙ c.if-is_comment.false) (ap is_account (sym line) ∙ c.in-Some.entry.formed)
+    (c.is_disabled.ensures ∙ ap (λ (l : List ℕ). has_flag letter_d (field 4 l)) line)
+    (c.has_expired.ensures
+    ∙ ap (λ (l : List ℕ). is_expired c.args.clock.present c.args.clock.max_age (has_flag letter_x (field 4 l)) (time_in (field 5 l))) line)
+    (c.lacks_nt.ensures ∙ ap (λ (l : List ℕ). is_absent (field 3 l)) line)

@@ -1,0 +1,19 @@
+// When a password is too old.
+ghost use Rattle.std.specs.Prelude.{◌≡◌};
+ghost use Rattle.smbpasswd.specs.Record.{is_expired};
+
+// The present time and the maximum age of a password, in seconds.
+#[derive(Clone, Copy)]
+pub(crate) struct Clock {
+    pub present: u32,
+    pub max_age: u32,
+}
+
+impl Clock {
+    // Whether a password that was last changed at a time is expired, unless it never is.
+    pub fn is_expired(self, never: bool, time: u32) -> bool
+        ensures { result ≡ is_expired self.present self.max_age never time }
+    {
+        !never && time != 0 && time <= self.present && self.max_age < self.present - time
+    }
+}
