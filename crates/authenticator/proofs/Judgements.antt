@@ -1,8 +1,8 @@
 -- Verdicts put together from the parts that the code made.
 -- Assumes nothing.
-use Rattle.std.specs.Prelude.{Option, None}
+use Rattle.std.specs.Prelude.{Option, Some, None}
 use mathlib.Core.Bool.{Bool, true, false, cond}
-use mathlib.Core.Path.{◌≡◌, sym, ap, ap₂, ◌∙◌}
+use mathlib.Core.Path.{◌≡◌, refl, sym, ap, ap₂, ◌∙◌}
 use Rattle.accounts.specs.Account.{
   not_found,
   found,
@@ -16,6 +16,7 @@ use Rattle.accounts.specs.declared.EntryLookup.{EntryLookup}
 use Rattle.message.specs.Reasons.{changing_password}
 use Rattle.verify.specs.Faults.{is_faultless}
 use Rattle.verify.specs.declared.ChangeFault.{ChangeFault}
+use Rattle.verify.specs.declared.ChangeFault.TheVariants.{NoNtHash, NoNtResponse, LengthOver, LengthOdd, OldHashWrong, ResponseWrong, LmNotAllowed, LengthOverLm, HashAbsent, HashWrong}
 use Rattle.verify.specs.Change.{CheckedChange}
 use Rattle.verify.specs.declared.CheckedResponse.{CheckedResponse}
 use Rattle.authenticator.specs.Conversation.{ended}
@@ -61,3 +62,16 @@ module _ (c : Conversation) (v : CheckedChange) {next : Conversation} (n : next 
       ≡ verdict_of (change_judgement c v)
   unchanged_judged t u =
       ap₂ (verdict (Failure changing_password false) v.fault) n u ∙ ap (chosen c v) (sym t)
+
+-- a fault is not none
+pub faulty : (f : ChangeFault) → is_faultless (Some f) ≡ false
+faulty NoNtHash = refl
+faulty NoNtResponse = refl
+faulty LengthOver = refl
+faulty LengthOdd = refl
+faulty OldHashWrong = refl
+faulty ResponseWrong = refl
+faulty LmNotAllowed = refl
+faulty LengthOverLm = refl
+faulty HashAbsent = refl
+faulty HashWrong = refl

@@ -5,7 +5,12 @@
 use mathlib.Core.Bool.{Bool, true, false, cond}
 use mathlib.Core.List.{List, ◌++◌}
 use mathlib.Core.Logic.{◌≢◌}
-use mathlib.Core.Path.{◌≡◌, refl, sym, ap, ◌∙◌, subst}
+use mathlib.Core.Path.{◌≡◌, refl, sym, ap, ap₂, ◌∙◌, subst}
+use Rattle.std.specs.Prelude.{Result, Ok, Err}
+use Rattle.refusals.specs.Refusal.{number}
+use Rattle.refusals.specs.declared.Refusal.{Refusal}
+use Rattle.refusals.proofs.Numbers.{number_some}
+use Rattle.authenticator.specs.declared.Started.{Started}
 use Prim.Native.Nat.{ℕ, suc, ◌+◌, ◌≤◌, ◌<◌}
 use native.Mathlib.Omega.{arith}
 use borrow.Author.Tests.{eqb-true, eqb-false, ne_eqb, le-ltb, ltb-false}
@@ -21,7 +26,7 @@ use Rattle.packets.specs.Reply.{challenge_packet, bad_reply_buffer}
 use Rattle.challenges.proofs.Laid.{length_challenges_from}
 use Rattle.packets.proofs.Writing.{taken}
 use Rattle.authenticator.specs.Conversation.{closed}
-use Rattle.authenticator.specs.Opening.{Opening, retries_of, spends, no_limit, too_many_retries, open_refusal, opened_issued, first_conversation, opening_packet, opened_by, opened, opened_buffer, OpenedAs}
+use Rattle.authenticator.specs.Opening.{Opening, retries_of, spends, no_limit, too_many_retries, open_refusal, opened_issued, first_conversation, opening_packet, opened_by, opened_as, opened, opened_buffer, places_after, OpenedAs}
 use Rattle.authenticator.specs.declared.Conversation.{Conversation}
 use Rattle.authenticator.specs.Opening.{Opened}
 use Rattle.authenticator.proofs.Spends.{challenges_wide, challenges_distinct}
@@ -198,26 +203,52 @@ module _ (o : Opening) (limited : 0 < o.limit) (few : retries_of o.retries ≤ 7
 
 -- ---- how the code shows its promise at a return
 
-module _ (o : Opening) {r : Opened} {list counts buffer : List ℕ} where
-  pub refused_promise : (n : ℕ) → open_refusal o ≡ n → n ≢ 0 → r ≡ record { refusal = n; conversation = closed; written = 0; used = o.issued.used }
-      → list ≡ o.issued.buffer → counts ≡ o.issued.counts → buffer ≡ o.buffer → OpenedAs o r (record { buffer = list; used = r.used; counts = counts }) buffer
-  refused_promise n e not e₁ e₂ e₃ e₄ =
-      let k = opened_not o (λ f. not (sym e ∙ sym (opened_number o) ∙ f)) in
-      let u = ap (λ (x : Opened). x.used) e₁ in
+module _ (o : Opening) {list counts buffer : List ℕ} where
+  pub refused_promise : (answer : Result Started Refusal) (r : Refusal) → answer ≡ Err r
+      → open_refusal o ≡ number r → list ≡ o.issued.buffer → counts ≡ o.issued.counts
+      → buffer ≡ o.buffer
+      → OpenedAs o answer
+      (record { buffer = list; used = places_after o.issued.used answer; counts = counts }) buffer
+  refused_promise answer r g e e₂ e₃ e₄ =
+      let k = opened_not o (λ f. number_some r (sym e ∙ sym (opened_number o) ∙ f)) in
+      let u = ap (places_after o.issued.used) g in
       record {
-        answer = e₁ ∙ ap (λ (m : ℕ). record { refusal = m; conversation = closed; written = 0; used = o.issued.used }) (sym e) ∙ sym k.0;
+        answer =
+            ap (opened_as o) g
+            ∙ ap (λ (m : ℕ). record {
+              refusal = m;
+              conversation = closed;
+              written = 0;
+              used = o.issued.used;
+            }) (sym e)
+            ∙ sym k.0;
         list = same_issued e₂ u e₃ ∙ sym k.1;
         reply = e₄ ∙ sym k.2;
       }
 
-  pub accepted_promise : open_refusal o ≡ 0 → record { buffer = list; used = r.used; counts = counts } ≡ spent 8 (spends o) o.issued
-      → r ≡ record { refusal = 0; conversation = first_conversation o; written = length (opening_packet o); used = r.used }
-      → buffer ≡ written_over (opening_packet o) o.buffer → OpenedAs o r (record { buffer = list; used = r.used; counts = counts }) buffer
-  accepted_promise e h e₁ e₂ =
+  pub accepted_promise : (s : Started) → open_refusal o ≡ 0
+      → record { buffer = list; used = s.used; counts = counts } ≡ spent 8 (spends o) o.issued
+      → s.conversation ≡ first_conversation o → s.written ≡ length (opening_packet o)
+      → buffer ≡ written_over (opening_packet o) o.buffer
+      → OpenedAs o (Ok s) (record { buffer = list; used = s.used; counts = counts }) buffer
+  accepted_promise s e h e₀ e₁ e₂ =
       let ok = opened_number o ∙ e in
       let after = h ∙ sym (opened_spent o ok) in
       record {
-        answer = e₁ ∙ ap (λ (u : ℕ). record { refusal = 0; conversation = first_conversation o; written = length (opening_packet o); used = u }) (ap (λ (i : Issued). i.used) after) ∙ sym (good o ok);
+        answer =
+            ap₂ (λ (c : Conversation) (n : ℕ). record {
+              refusal = 0;
+              conversation = c;
+              written = n;
+              used = s.used;
+            }) e₀ e₁
+            ∙ ap (λ (u : ℕ). record {
+              refusal = 0;
+              conversation = first_conversation o;
+              written = length (opening_packet o);
+              used = u;
+            }) (ap (λ (i : Issued). i.used) after)
+            ∙ sym (good o ok);
         list = after;
         reply = e₂ ∙ sym (written_over_buffer o ok);
       }

@@ -9,9 +9,11 @@ use native.Mathlib.Omega.{arith}
 use borrow.Author.Tests.{eqb-true}
 use lib.Dec.{eqb}
 use Rattle.accounts.specs.declared.Lookup.{Lookup}
-use Rattle.message.specs.Message.{failed_with, no_challenge, succeeded}
+use Rattle.std.specs.Prelude.{Result, Ok, Err, None}
+use Rattle.refusals.specs.declared.Refusal.{Refusal}
+use Rattle.message.specs.Message.{failed_with}
+use Rattle.message.specs.declared.Verdict.{Verdict}
 use Rattle.message.specs.Reasons.{changing_password, no_reason}
-use Rattle.message.specs.declared.Reading.{Reading}
 use Rattle.message.specs.declared.Verdict.{Verdict}
 use Rattle.message.specs.declared.Verdict.TheVariants as verdicts
 use Rattle.packets.specs.Response.{read_response}
@@ -92,9 +94,10 @@ judge_fitting c p l = judge_in_fitting c.phase c p l
 
 -- ---- what our peer reads of it
 
-abbrev pub reading_for : Terms → Reply → Reading
-reading_for t Success = succeeded
-reading_for t (Failure e retry) = failed_with e (retry_digit retry) (version t.change) no_challenge
+abbrev pub reading_for : Terms → Reply → Result Verdict Refusal
+reading_for t Success = Ok verdicts.Success
+reading_for t (Failure e retry) =
+    Ok (verdicts.Failure (failed_with e (retry_digit retry) (version t.change) None))
 
 -- V is one digit
 digit : (v : ChangeVersion) → version v < 10
@@ -110,13 +113,12 @@ read_reply_lem t id (Failure e false) behind small =
     failure_read id e 0 (version t.change) behind small (omega arith) (digit t.change)
 
 -- so the octets of a reply tell its reason, whatever the terms
-abbrev reason_read : Verdict → ℕ
-reason_read verdicts.Success = no_reason
-reason_read (verdicts.Failure f) = f.e
-reason_read (verdicts.Refused n) = no_reason
+abbrev reason_read : Result Verdict Refusal → ℕ
+reason_read (Ok verdicts.Success) = no_reason
+reason_read (Ok (verdicts.Failure f)) = f.e
+reason_read (Err r) = no_reason
 
-reason_read_lem : (t : Terms) (reply : Reply)
-    → reason_read (reading_for t reply).verdict ≡ reason_of reply
+reason_read_lem : (t : Terms) (reply : Reply) → reason_read (reading_for t reply) ≡ reason_of reply
 reason_read_lem t Success = refl
 reason_read_lem t (Failure e retry) = refl
 
@@ -124,7 +126,7 @@ pub reply_tells : (t u : Terms) (id : ℕ) (r s : Reply) → reason_of r < 1000 
     → reply_packet t id r ≡ reply_packet u id s → reason_of r ≡ reason_of s
 reply_tells t u id r s few less e =
     sym (reason_read_lem t r)
-    ∙ ap (λ (x : Reading). reason_read x.verdict)
+    ∙ ap reason_read
     (sym (read_reply_lem t id r [] few) ∙ ap (λ (x : List ℕ). read_reply id (x ++ [])) e
     ∙ read_reply_lem u id s [] less)
     ∙ reason_read_lem u s

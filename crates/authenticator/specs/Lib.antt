@@ -6,3 +6,4 @@ pub mod Encode
 pub mod Step
 pub mod Steps
 pub mod Repeats
+pub mod Inner

@@ -130,6 +130,11 @@ unfoldable pub opened_buffer : Opening → List ℕ
 opened_buffer o = cond (eqb (open_refusal o) 0) (written_over (opening_packet o) o.buffer)
     o.buffer
 
+-- how many places of the list are used after it
+abbrev pub places_after : ℕ → Result Started Refusal → ℕ
+places_after used (Ok s) = s.used
+places_after used (Err r) = used
+
 -- what an opening answers (r), and leaves in the list and in the reply buffer
 pub record OpenedAs (o : Opening) (r : Result Started Refusal) (issued : Issued) (buffer : List ℕ) : Type 0 where
   pub answer : opened_as o r ≡ opened o

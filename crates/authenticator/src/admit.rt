@@ -96,12 +96,8 @@ impl Conversation {
     }
 
     // The refusals 2 and 3, then none for a repeat, then 1, then 4 to 7.
-    pub(crate) fn admit(
-        self,
-        repeated: bool,
-        packet: &[u8],
-        reply: &[u8],
-    ) -> Result<(), Refusal>
+    #[tactic(auto, unfolding(crate::specs::Admit::refusal_for))]
+    pub(crate) fn admit(self, repeated: bool, packet: &[u8], reply: &[u8]) -> Result<(), Refusal>
         ensures { told result ≡ refusal_for repeated self packet.now reply.now }
     {
         if packets::is_bad_reply_buffer(reply) {

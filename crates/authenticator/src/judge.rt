@@ -59,8 +59,7 @@ impl Conversation {
             (read_response packet.now)) }
     {
         let fields = packets::read_response(packet);
-        let checked =
-            verify::check_response(self.terms, self.challenge, lookup, keys, fields);
+        let checked = verify::check_response(self.terms, self.challenge, lookup, keys, fields);
         let reason = checked.reason;
         let updated = checked.updated;
         let reply = self.reply_for(reason);

@@ -1,11 +1,11 @@
 // The opening of a conversation.
 ghost use Rattle.std.specs.Prelude.{◌≡◌, suc, ◌≤◌};
 ghost use Rattle.refusals.specs.Refusal.{told};
-ghost use Rattle.issued.specs.Issued.{spend_refusal, spent};
+ghost use Rattle.issued.specs.Issued.{spend_refusal, spent, used_after};
 ghost use Rattle.challenges.specs.Challenges.{challenges_from};
 ghost use Rattle.authenticator.specs.Opening.{retries_of, lm_allowed, change_of};
-ghost use Rattle.authenticator.specs.Opening.{first_conversation, OpenedAs};
-ghost use Rattle.authenticator.specs.Inner.{opening_with, IsSpent};
+ghost use Rattle.authenticator.specs.Opening.{first_conversation, places_after, OpenedAs};
+ghost use Rattle.authenticator.specs.Inner.{opening_with};
 
 use crate::successors::no_answer;
 use crate::{Conversation, Phase, Settings, Started};
@@ -68,11 +68,14 @@ fn spend(
     counts: &mut [u16],
 ) -> Result<usize, Refusal>
     requires { r ≤ 7 }
-    ensures number { told result ≡ spend_refusal 8 (challenges_from (suc r) challenge)
+    ensures refusal { told result ≡ spend_refusal 8 (challenges_from (suc r) challenge)
         (record { buffer = list.old; used = used; counts = counts.old }) }
-    ensures list { IsSpent used result list.new counts.new
-        (spent 8 (challenges_from (suc r) challenge)
-        (record { buffer = list.old; used = used; counts = counts.old })) }
+    ensures list { record {
+      buffer = list.new;
+      used = used_after used result;
+      counts = counts.new;
+    } ≡ spent 8 (challenges_from (suc r) challenge)
+        (record { buffer = list.old; used = used; counts = counts.old }) }
 {
     let run = challenges::challenges_from(challenge);
     let n = 8 * (usize::from(r) + 1);
@@ -107,7 +110,7 @@ impl Conversation {
           };
           buffer = reply.old;
         }) result
-            (record { buffer = list.new; used = used_after used result; counts = counts.new })
+            (record { buffer = list.new; used = places_after used result; counts = counts.new })
             reply.new }
     {
         let r = settings.retries();

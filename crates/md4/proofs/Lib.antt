@@ -1,3 +1,2 @@
-pub mod Auxiliary
-pub mod Table
+pub mod Rounds
 pub mod Laws

@@ -1,2 +1,1 @@
 pub mod Md4
-pub mod Inner

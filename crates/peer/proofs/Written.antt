@@ -5,7 +5,7 @@ use mathlib.Core.Path.{◌≡◌, refl, ap, ◌∙◌}
 use mathlib.Core.Bool.{Bool, true, false, cond}
 use mathlib.Core.List.{List}
 use Prim.Native.Nat.{ℕ}
-use Rattle.std.specs.Prelude.{Result, Ok, Err, IsErrAnd}
+use Rattle.std.specs.Prelude.{Result, Ok, Err}
 use Rattle.refusals.specs.Refusal.{number}
 use Rattle.refusals.specs.declared.Refusal.{Refusal}
 use Rattle.packets.specs.Frame.{written_as, answer_by, out_by}
@@ -23,12 +23,6 @@ module _ {A : Type 0} (r : Refusal) (x : A) where
       → (b ≡ false) × (y ≡ x)
   passed_there true h = absurd (cc)
   passed_there false h = (refl, cc)
-
--- a refusal that was passed on is the answer
-pub passed_on : {A : Type 0} (answer : Result A Refusal) {e : Refusal}
-    → IsErrAnd answer (λ x. x ≡ e) → answer ≡ Err e
-passed_on (Ok a) h = absurd h
-passed_on (Err x) h = ap Err h
 
 -- what is answered and left in the buffer
 abbrev pub Left : Wrote → Result ℕ Refusal → List ℕ → Type 0

@@ -22,6 +22,10 @@ use Rattle.authenticator.specs.Step.{Stepped}
 use Rattle.authenticator.specs.declared.Conversation.{Conversation}
 use Rattle.authenticator.specs.declared.Verdict.{Verdict}
 use Rattle.authenticator.specs.Step.{Refused, Judged}
+use Rattle.refusals.proofs.Passed.{passed_on}
+use Rattle.refusals.specs.Refusal.{number, told}
+use Rattle.refusals.proofs.Numbers.{number_some}
+use Rattle.authenticator.specs.Step.{stepped_as, unjudged}
 use Rattle.authenticator.proofs.Admitted.{passed, readable_by}
 use Rattle.authenticator.proofs.Steps.{judged_step, repeated_step, refused_step}
 use Rattle.authenticator.proofs.Written.{reply_fits, written_whole}
@@ -33,29 +37,24 @@ answer j c n e =
     record { kind = Judged e; fault = j.fault; next = c; written = n; updated = j.updated }
 
 -- ---- refused
-pub returns-then-refusal-ne0 : goal.returns-then-refusal-ne0
-returns-then-refusal-ne0 c =
+pub returns-in_err-admit : goal.returns-in_err-admit
+returns-in_err-admit c =
     let a = c.args in
     let p = a.packet.now in
     let b = a.reply.now in
     -- the record that is passed: the round keys stand beside either hash
     let l : Lookup = carrying_lookup a.lookup (stored_in a.keys.now) in
-    -- whether the packet is a repeat, and the refusal
-    let repeat-told = c.is_repeat-repeated.ensures in
-    let refusal-told : c.refusal-refusal.result ≡ step_refusal a.self p b =
-    c.refusal-refusal.ensures ∙ ap (λ (t : Bool). refusal_for t a.self p b) repeat-told in
-    let some : step_refusal a.self p b ≢ 0 =
-    λ e. c.if-refusal-ne0.true (refusal-told ∙ e) in
-    let whole = refused_step a.self p l b some in (
-      ap₂ (λ (n : ℕ) (l : EntryLookup). let s : Stepped = record {
-        kind = Refused n;
-        fault = None;
-        next = a.self;
-        written = 0;
-        updated = l;
-      } in s)
-          refusal-told c.no_entry-updated.ensures
-          ∙ sym (ap (λ (o : Outcome). stepped_of o.answer) whole),
+    -- the refusal, which is passed on
+    let r = c.in_err-admit.field-0.0 in
+    let refusal-told : number r ≡ step_refusal a.self p b =
+    sym (ap told c.in_err-admit.was) ∙ c.admit.ensures
+    ∙ ap (λ (t : Bool). refusal_for t a.self p b) c.is_repeat-repeated.ensures in
+    let some : step_refusal a.self p b ≢ 0 = λ e. number_some r (refusal-told ∙ e) in
+    let whole = refused_step a.self p l b some in
+    (
+      ap (stepped_as a.self) (passed_on c.from_residual.result c.from_residual.ensures.1)
+      ∙ ap (λ (n : ℕ). stepped_of (unjudged (Refused n) a.self 0)) refusal-told
+      ∙ sym (ap (λ (o : Outcome). stepped_of o.answer) whole),
       sym (ap (λ (o : Outcome). o.buffer) whole),
     )
 
@@ -69,9 +68,9 @@ repeat-requires c =
     let l : Lookup = carrying_lookup a.lookup (stored_in a.keys.now) in
     -- whether the packet is a repeat, and the refusal
     let repeat-told = c.is_repeat-repeated.ensures in
-    let refusal-told : c.refusal-refusal.result ≡ step_refusal a.self p b =
-    c.refusal-refusal.ensures ∙ ap (λ (t : Bool). refusal_for t a.self p b) repeat-told in
-    let none = sym refusal-told ∙ c.if-refusal-ne0.false in
+    let refusal-told : told c.admit.result ≡ step_refusal a.self p b =
+    c.admit.ensures ∙ ap (λ (t : Bool). refusal_for t a.self p b) repeat-told in
+    let none = sym refusal-told ∙ ap told c.in_ok-admit.was in
     (readable_by a.self _ _ _ none).room
 
 pub returns-then-repeated : goal.returns-then-repeated
@@ -83,9 +82,9 @@ returns-then-repeated c =
     let l : Lookup = carrying_lookup a.lookup (stored_in a.keys.now) in
     -- whether the packet is a repeat, and the refusal
     let repeat-told = c.is_repeat-repeated.ensures in
-    let refusal-told : c.refusal-refusal.result ≡ step_refusal a.self p b =
-    c.refusal-refusal.ensures ∙ ap (λ (t : Bool). refusal_for t a.self p b) repeat-told in
-    let none = sym refusal-told ∙ c.if-refusal-ne0.false in
+    let refusal-told : told c.admit.result ≡ step_refusal a.self p b =
+    c.admit.ensures ∙ ap (λ (t : Bool). refusal_for t a.self p b) repeat-told in
+    let none = sym refusal-told ∙ ap told c.in_ok-admit.was in
     let whole = repeated_step a.self p l b none (sym repeat-told ∙ c.if-repeated.true) in (
       c.repeat.ensures.0 ∙ sym (ap (λ (o : Outcome). stepped_of o.answer) whole),
       c.repeat.ensures.1 ∙ sym (ap (λ (o : Outcome). o.buffer) whole),
@@ -101,9 +100,9 @@ returns c =
     let l : Lookup = carrying_lookup a.lookup (stored_in a.keys.now) in
     -- whether the packet is a repeat, and the refusal
     let repeat-told = c.is_repeat-repeated.ensures in
-    let refusal-told : c.refusal-refusal.result ≡ step_refusal a.self p b =
-    c.refusal-refusal.ensures ∙ ap (λ (t : Bool). refusal_for t a.self p b) repeat-told in
-    let none = sym refusal-told ∙ c.if-refusal-ne0.false in
+    let refusal-told : told c.admit.result ≡ step_refusal a.self p b =
+    c.admit.ensures ∙ ap (λ (t : Bool). refusal_for t a.self p b) repeat-told in
+    let none = sym refusal-told ∙ ap told c.in_ok-admit.was in
     let ok = passed a.self p b none (sym repeat-told ∙ c.if-repeated.false) in
     let judgement = verdict_of (judge a.self p l) in
     let reply = reply_packet a.self.terms a.self.id judgement.reply in

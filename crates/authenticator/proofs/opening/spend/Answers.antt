@@ -1,7 +1,7 @@
 -- `authenticator::opening::spend` meets its contract.
 -- Assumes nothing.
 use mathlib.Core.List.{List}
-use mathlib.Core.Path.{◌≡◌, ap, ◌∙◌}
+use mathlib.Core.Path.{◌≡◌, ap, ap₂, ◌∙◌}
 use Prim.Native.Nat.{ℕ, ◌+◌, ◌*◌}
 use borrow.Author.Rules.{rules}
 use lib.ListN.{length}
@@ -16,6 +16,11 @@ returns c =
     search rules in
     let a = c.args in
     let i : Issued = record { buffer = a.list.now; used = a.used; counts = a.counts.now } in
-    let run = c.part_of.ensures ∙ ap (part 0 (8 * (a.r + 1))) c.challenges_from-run.ensures in
+    let run = c.part_of.ensures
+    ∙ ap₂ (λ (n : ℕ) (l : List ℕ). part 0 (8 * (n + 1)) l) c.from.ensures
+    c.challenges_from-run.ensures in
     let cs = ap (entries_in 8) run ∙ challenges_run a.r a.challenge c.requires eight in
-    (c.spend.ensures.0 ∙ ap (λ (es : List (List ℕ)). spend_refusal 8 es i) cs, c.spend.ensures.1 ∙ ap (λ (es : List (List ℕ)). spent 8 es i) cs)
+    record {
+      refusal = c.spend.ensures.refusal ∙ ap (λ (es : List (List ℕ)). spend_refusal 8 es i) cs;
+      list = c.spend.ensures.list ∙ ap (λ (es : List (List ℕ)). spent 8 es i) cs;
+    }

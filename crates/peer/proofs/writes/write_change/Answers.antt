@@ -10,7 +10,8 @@ use Rattle.packets.specs.declared.Change.{Change}
 use Rattle.packets.specs.Change.{change_written, change_out, change_write_refusal}
 use Rattle.peer.specs.Write.{change_fields, change_fields_of, change_for}
 use Rattle.peer.specs.Write.{write_change_refusal, write_change}
-use Rattle.peer.proofs.Written.{refused_there, passed_there, passed_on, refused_whole, written_whole}
+use Rattle.refusals.proofs.Passed.{passed_on}
+use Rattle.peer.proofs.Written.{refused_there, passed_there, refused_whole, written_whole}
 use Rattle.peer.proofs.writes.write_change.Goals as goal
 
 pub returns-in_err-before : goal.returns-in_err-before

@@ -10,7 +10,8 @@ use Rattle.packets.specs.declared.ChangeOne.{ChangeOne}
 use Rattle.packets.specs.ChangeOne.{change_one_written, change_one_out, change_one_write_refusal}
 use Rattle.peer.specs.Write.{change_one_fields, change_one_fields_of, change_one_for}
 use Rattle.peer.specs.Write.{write_change_one_refusal, write_change_one}
-use Rattle.peer.proofs.Written.{refused_there, passed_there, passed_on, refused_whole, written_whole}
+use Rattle.refusals.proofs.Passed.{passed_on}
+use Rattle.peer.proofs.Written.{refused_there, passed_there, refused_whole, written_whole}
 use Rattle.peer.proofs.writes.write_change_one.Goals as goal
 
 pub returns-in_err-before : goal.returns-in_err-before

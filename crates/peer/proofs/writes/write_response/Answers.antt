@@ -9,7 +9,8 @@ use Rattle.packets.specs.declared.Response.{Response}
 use Rattle.packets.specs.Response.{response_written, response_out, response_write_refusal}
 use Rattle.peer.specs.Write.{response_fields, response_fields_of, response_for}
 use Rattle.peer.specs.Write.{write_response_refusal, write_response}
-use Rattle.peer.proofs.Written.{refused_there, passed_there, passed_on, refused_whole, written_whole}
+use Rattle.refusals.proofs.Passed.{passed_on}
+use Rattle.peer.proofs.Written.{refused_there, passed_there, refused_whole, written_whole}
 use Rattle.peer.proofs.writes.write_response.Goals as goal
 
 pub returns-in_err-hash : goal.returns-in_err-hash
