@@ -102,11 +102,13 @@ pub(crate) fn crypt_block<K: RoundKeys>(keys: &K, x: u64) -> u64
 fn joined(a: [u8; 8], b: [u8; 8], c: [u8; 8]) -> [u8; 24]
     ensures { result ≡ a ++ (b ++ c) }
 {
-    let mut r = [0u8; 24];
-    octets::copy_at(&mut r, 0, &a);
-    octets::copy_at(&mut r, 8, &b);
-    octets::copy_at(&mut r, 16, &c);
-    r
+    let mut blocks = [0u8; 24];
+    let (first, rest) = blocks.split_at_mut(8);
+    let (second, third) = rest.split_at_mut(8);
+    first.copy_from_slice(&a);
+    second.copy_from_slice(&b);
+    third.copy_from_slice(&c);
+    blocks
 }
 
 // A block of 64 bits under the round keys of three keys, the three in step: a round of one does not
