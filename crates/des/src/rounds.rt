@@ -98,17 +98,6 @@ pub(crate) fn crypt_block<K: RoundKeys>(keys: &K, x: u64) -> u64
     halves.output_block()
 }
 
-// Three blocks, one after the other.
-fn joined(a: [u8; 8], b: [u8; 8], c: [u8; 8]) -> [u8; 24]
-    ensures { result ≡ a ++ (b ++ c) }
-{
-    let mut r = [0u8; 24];
-    octets::copy_at(&mut r, 0, &a);
-    octets::copy_at(&mut r, 8, &b);
-    octets::copy_at(&mut r, 16, &c);
-    r
-}
-
 // A block of 64 bits under the round keys of three keys, the three in step: a round of one does not
 // wait for a round of another. One function for an array of one block or three would be no plainer:
 // a loop within the loop, and another for the output, in the place of a line for each block.
@@ -125,9 +114,11 @@ pub(crate) fn crypt_three<K: RoundKeys>(k1: &K, k2: &K, k3: &K, x: u64) -> [u8; 
         h2 = h2.round(k2.key(i));
         h3 = h3.round(k3.key(i));
     }
-    joined(
-        octets::u64_to_be(h1.output_block()),
-        octets::u64_to_be(h2.output_block()),
-        octets::u64_to_be(h3.output_block()),
-    )
+    let mut blocks = [0u8; 24];
+    let (first, rest) = blocks.split_at_mut(8);
+    let (second, third) = rest.split_at_mut(8);
+    first.copy_from_slice(&octets::u64_to_be(h1.output_block()));
+    second.copy_from_slice(&octets::u64_to_be(h2.output_block()));
+    third.copy_from_slice(&octets::u64_to_be(h3.output_block()));
+    blocks
 }
