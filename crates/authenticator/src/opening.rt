@@ -1,7 +1,8 @@
 // The opening of a conversation.
 ghost use Rattle.std.specs.Prelude.{◌≡◌, cond, eqb, ltb, suc, ◌≤◌};
 ghost use Rattle.packets.specs.Reply.{bad_reply_buffer};
-ghost use Rattle.issued.specs.Issued.{spend_refusal, spent};
+ghost use Rattle.issued.specs.Issued.{spend_refusal, spent, used_after};
+ghost use Rattle.refusals.specs.Refusal.{told};
 ghost use Rattle.challenges.specs.Challenges.{challenges_from};
 ghost use Rattle.authenticator.specs.Conversation.{closed};
 ghost use Rattle.authenticator.specs.Opening.{most_retries, retries_of, lm_allowed};
@@ -10,8 +11,7 @@ ghost use Rattle.authenticator.specs.Opening.{change_of, OpenedAs};
 use crate::successors::{closed_conversation, no_answer};
 use crate::{ChangeChoice, Conversation, LmChoice, Opened, Phase, Retries};
 use accounts::blank_entry;
-use issued::Spent;
-use refusals::refuse_if;
+use refusals::{Refusal, refuse_if};
 use verify::{ChangeVersion, Terms};
 
 const DEFAULT_RETRIES: u8 = 2;
@@ -75,13 +75,22 @@ fn refused_opening(refusal: u8, used: usize) -> Opened
 }
 
 // Spends the challenge and its r successors: refusals 24, 16 and 17.
-fn spend(challenge: [u8; 8], r: u8, list: &mut [u8], used: usize, counts: &mut [u16]) -> Spent
+fn spend(
+    challenge: [u8; 8],
+    r: u8,
+    list: &mut [u8],
+    used: usize,
+    counts: &mut [u16],
+) -> Result<usize, Refusal>
     requires { r ≤ 7 }
-    ensures { (result.refusal ≡ spend_refusal 8 (challenges_from (suc r) challenge)
-        (record { buffer = list.old; used = used; counts = counts.old }))
-        × (record { buffer = list.new; used = result.used; counts = counts.new }
-        ≡ spent 8 (challenges_from (suc r) challenge)
-        (record { buffer = list.old; used = used; counts = counts.old })) }
+    ensures refusal { told result ≡ spend_refusal 8 (challenges_from (suc r) challenge)
+        (record { buffer = list.old; used = used; counts = counts.old }) }
+    ensures list { record {
+      buffer = list.new;
+      used = used_after used result;
+      counts = counts.new;
+    } ≡ spent 8 (challenges_from (suc r) challenge)
+        (record { buffer = list.old; used = used; counts = counts.old }) }
 {
     let run = challenges::challenges_from(challenge);
     let n = 8 * (r as usize + 1);
@@ -130,10 +139,10 @@ impl Conversation {
         if refusal != 0 {
             return refused_opening(refusal, used);
         }
-        let spent = spend(challenge, r, list, used, counts);
-        if spent.refusal != 0 {
-            return refused_opening(spent.refusal, used);
-        }
+        let used = match spend(challenge, r, list, used, counts) {
+            Ok(used) => used,
+            Err(refusal) => return refused_opening(refusal.number(), used),
+        };
         let written = packets::write_challenge(id, challenge, reply);
         let kept = blank_entry();
         let last = no_answer();
@@ -151,7 +160,7 @@ impl Conversation {
                 last,
             },
             written,
-            used: spent.used,
+            used,
         }
     }
 }

@@ -11,8 +11,9 @@ use borrow.Author.Rules.{rules}
 use borrow.Author.Tests.{ltb-false}
 use lib.Dec.{eqb, ltb}
 use lib.ListN.{length}
+use Rattle.refusals.specs.Refusal.{number}
 use Rattle.issued.specs.Issued.{Issued, spend_refusal, spent}
-use Rattle.issued.proofs.Spending.{spent_refused}
+use Rattle.issued.proofs.Spending.{numbered, spent_refused}
 use Rattle.challenges.specs.Challenges.{challenges_from}
 use Rattle.packets.specs.Reply.{challenge_packet, longest_reply, bad_reply_buffer}
 use Rattle.authenticator.specs.Opening.{Opening, most_retries, retries_of, spends}
@@ -53,8 +54,8 @@ returns-then-refusal-ne0 c =
     refused_promise o _ (argument_refusal_lem o some ∙ sym told)
     c.if-refusal-ne0.true c.refused_opening.ensures refl refl refl
 
-pub spend-spent-requires : goal.spend-spent-requires
-spend-spent-requires c =
+pub spend-requires : goal.spend-requires
+spend-requires c =
     let a = c.args in
     let o : Opening = record {
       id = a.id;
@@ -75,8 +76,8 @@ spend-spent-requires c =
     )
 
 -- 24, 16, 17
-pub returns-then-spent-ne0 : goal.returns-then-spent-ne0
-returns-then-spent-ne0 c =
+pub returns-in-Err : goal.returns-in-Err
+returns-in-Err c =
     let a = c.args in
     let o : Opening = record {
       id = a.id;
@@ -91,15 +92,17 @@ returns-then-spent-ne0 c =
     let told = arguments-told o c.argument_refusal-refusal.ensures c.retries_of-r.ensures in
     let good = arguments_good o (sym told ∙ c.if-refusal-ne0.false) in
     let entries = entries-told o c.retries_of-r.ensures in
-    let list-told = c.spend-spent.ensures.0
+    let list-told = c.in-Err.ensures.refusal
     ∙ ap (λ (es : List (List ℕ)). spend_refusal 8 es o.issued) entries in
     let refusal-told = list_refusal o good ∙ sym list-told in
-    let after-told = c.spend-spent.ensures.1
+    let after-told = c.in-Err.ensures.list
     ∙ ap (λ (es : List (List ℕ)). spent 8 es o.issued) entries in
+    let some = λ (e : number c.in-Err.refusal ≡ 0). numbered c.in-Err.refusal e in
     let after = after-told
-    ∙ spent_refused 8 (spends o) o.issued (λ e. c.if-spent-ne0.true (list-told ∙ e)) in
-    refused_promise o c.spend-spent.result.refusal refusal-told c.if-spent-ne0.true
-    c.refused_opening-then-spent-ne0.ensures (ap (λ (i : Issued). i.buffer) after)
+    ∙ spent_refused 8 (spends o) o.issued (λ e. some (list-told ∙ e)) in
+    refused_promise o c.number.result (refusal-told ∙ sym c.number.ensures)
+    (λ e. some (sym c.number.ensures ∙ e))
+    c.refused_opening-in-Err.ensures (ap (λ (i : Issued). i.buffer) after)
     (ap (λ (i : Issued). i.counts) after) refl
 
 -- opened
@@ -119,10 +122,10 @@ returns c =
     let told = arguments-told o c.argument_refusal-refusal.ensures c.retries_of-r.ensures in
     let good = arguments_good o (sym told ∙ c.if-refusal-ne0.false) in
     let entries = entries-told o c.retries_of-r.ensures in
-    let list-told = c.spend-spent.ensures.0
+    let list-told = c.in-Ok.ensures.refusal
     ∙ ap (λ (es : List (List ℕ)). spend_refusal 8 es o.issued) entries in
     let refusal-told = list_refusal o good ∙ sym list-told in
-    let after-told = c.spend-spent.ensures.1
+    let after-told = c.in-Ok.ensures.list
     ∙ ap (λ (es : List (List ℕ)). spent 8 es o.issued) entries in
     let eight : length a.challenge ≡ 8 = search rules in
     let room : longest_reply ≤ length o.buffer =
@@ -131,5 +134,5 @@ returns c =
     c.write_challenge-written.ensures.0
     ∙ written_whole _ _ (challenge_fits o.id o.challenge eight) room in
     let retried = c.retries_of-r.ensures in
-    accepted_promise o (refusal-told ∙ c.if-spent-ne0.false) after-told (cc)
+    accepted_promise o refusal-told after-told (cc)
     c.write_challenge-written.ensures.1

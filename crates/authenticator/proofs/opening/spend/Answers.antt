@@ -18,4 +18,7 @@ returns c =
     let i : Issued = record { buffer = a.list.now; used = a.used; counts = a.counts.now } in
     let run = c.part_of.ensures ∙ ap (part 0 (8 * (a.r + 1))) c.challenges_from-run.ensures in
     let cs = ap (entries_in 8) run ∙ challenges_run a.r a.challenge c.requires eight in
-    (c.spend.ensures.0 ∙ ap (λ (es : List (List ℕ)). spend_refusal 8 es i) cs, c.spend.ensures.1 ∙ ap (λ (es : List (List ℕ)). spent 8 es i) cs)
+    record {
+      refusal = c.spend.ensures.refusal ∙ ap (λ (es : List (List ℕ)). spend_refusal 8 es i) cs;
+      list = c.spend.ensures.list ∙ ap (λ (es : List (List ℕ)). spent 8 es i) cs;
+    }
