@@ -3,11 +3,10 @@
 use Rattle.std.specs.Prelude.{Bool, true, false, cond, ◌&&◌, List, ◌≡◌, ℕ}
 use Rattle.layouts.specs.Call.{Fills, sized, numbered}
 use Rattle.layouts.specs.Records.{record_size, encode_record, decode_record, is_encoded_record}
+use Rattle.smbpasswd.specs.File.{Place, Nowhere, Line, Doubled, Malformed}
 use Rattle.smbpasswd.specs.File.{place_of, place_refusal, place_offset, find_in}
 use Rattle.smbpasswd.specs.Write.{written_in}
 use Rattle.smbpasswd.specs.Summary.{counts_of}
-use Rattle.smbpasswd.specs.declared.Place.{Place}
-use Rattle.smbpasswd.specs.declared.Place.TheVariants.{Nowhere, Line, Doubled, Malformed}
 
 -- ---- looked up
 
@@ -16,7 +15,8 @@ pub record FindCall (file name : List ℕ) (now max_age : ℕ) (out : List ℕ) 
     (out_after : List ℕ) (offset_after : ℕ) : Type 0 where
   pub answer : Fills (sized record_size out) (place_refusal (place_of name file))
       (encode_record (find_in now max_age name file).lookup) out r out_after
-  pub offsets : offset_after ≡ cond (sized record_size out) (place_offset (place_of name file)) offset
+  pub offsets : offset_after
+      ≡ cond (sized record_size out) (place_offset (place_of name file)) offset
 
 -- ---- written back
 

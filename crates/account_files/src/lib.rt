@@ -3,13 +3,12 @@
 // their names in C. Every public function is total.
 #![tactic(auto)]
 
-ghost use Rattle.std.specs.Prelude.{◌≡◌};
-ghost use Rattle.account_files.specs.Calls.{is_somewhere, FindCall, WriteCall, CountCall};
+ghost use Rattle.account_files.specs.Calls.{FindCall, WriteCall, CountCall};
 ghost use Rattle.account_files.specs.Inner.{AccountCall};
 
 use accounts::{no_schedules, with_schedules};
 use layouts::{BAD_ARGUMENT, RECORD_SIZE, decode_head, is_encoded_record, put_record};
-use smbpasswd::Place;
+use refusals::Refusal;
 
 // ---- looked up
 
@@ -29,26 +28,23 @@ pub fn find_account(
     if out.len() != RECORD_SIZE {
         return BAD_ARGUMENT;
     }
-    let found = smbpasswd::find(file, name, present, max_age);
-    let place = found.place;
-    let lookup = found.lookup;
-    *offset = smbpasswd::offset_of(place);
-    put_record(smbpasswd::refusal_of(place), lookup, out)
+    match smbpasswd::find(file, name, present, max_age) {
+        Ok(Some(line)) => {
+            *offset = line.offset;
+            put_record(0, accounts::found(line.account), out)
+        }
+        Ok(None) => {
+            *offset = 0;
+            put_record(0, accounts::not_found(), out)
+        }
+        Err(misplaced) => {
+            *offset = misplaced.offset();
+            put_record(misplaced.refusal().number(), accounts::not_found(), out)
+        }
+    }
 }
 
 // ---- written back
-
-// Whether a place has an offset.
-fn is_somewhere(place: Place) -> bool
-    ensures { result ≡ is_somewhere place }
-{
-    match place {
-        Place::Nowhere => false,
-        Place::Line(_) => true,
-        Place::Doubled(_) => true,
-        Place::Malformed(_) => true,
-    }
-}
 
 fn write_back(
     file: &mut [u8],
@@ -60,12 +56,17 @@ fn write_back(
     ensures { AccountCall file.old name.now account present
         offset.old result file.new offset.new }
 {
-    let place = smbpasswd::write_back(file, name, account, present);
-    if !is_somewhere(place) {
-        return 103;
+    match smbpasswd::write_back(file, name, account, present) {
+        Ok(Some(at)) => {
+            *offset = at;
+            0
+        }
+        Ok(None) => u32::from(Refusal::Nowhere.number()),
+        Err(misplaced) => {
+            *offset = misplaced.offset();
+            u32::from(misplaced.refusal().number())
+        }
     }
-    *offset = smbpasswd::offset_of(place);
-    smbpasswd::refusal_of(place) as u32
 }
 
 // Writes a record back into the line of its name, but for its count and its round keys, for which a
@@ -85,7 +86,7 @@ pub fn write_account(
     }
     let lookup = decode_head(bytes);
     if !lookup.found {
-        return 102;
+        return u32::from(Refusal::Record.number());
     }
     let entry = lookup.entry;
     let account = with_schedules(entry, no_schedules(), no_schedules());

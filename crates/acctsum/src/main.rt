@@ -3,8 +3,10 @@
 // proved in `smbpasswd`.
 #![tactic(auto)]
 
+use refusals::Refusal;
+use smbpasswd::Counts;
 use std::io;
-use std::io::{Read, Write};
+use std::io::Read;
 
 // 65,536 octets are read at most; one more tells that there were too many. The array is passed
 // whole, as the check of a slice of one grows with its length.
@@ -12,27 +14,21 @@ fn read_input(stream: &mut impl Read, input: &mut [u8; 65537]) -> io::Result<usi
     reading::read_full(stream, input)
 }
 
-fn summarize(input: &[u8; 65537], n: usize) -> smbpasswd::Summary {
+fn summarize(input: &[u8; 65537], n: usize) -> Result<Counts, Refusal> {
     smbpasswd::summarize(octets::part_of(input, 0, n))
-}
-
-fn show(output: &mut impl Write, label: &[u8], n: usize) -> io::Result<()> {
-    output.write_all(label)?;
-    writeln!(output, "{n}")
 }
 
 fn main(rt: HostRuntime) -> io::Result<()> {
     let mut input = [0u8; 65537];
     let n = read_input(&mut rt.stdin(), &mut input)?;
-    let summary = summarize(&input, n);
-    let output = &mut rt.stdout();
-    if summary.refusal != 0 {
-        return show(output, b"refused ", summary.refusal as usize);
+    match summarize(&input, n) {
+        Err(refusal) => println!(rt; "refused {refusal}"),
+        Ok(counts) => {
+            println!(rt; "lines {}", counts.lines)?;
+            println!(rt; "bad {}", counts.bad)?;
+            println!(rt; "disabled {}", counts.disabled)?;
+            println!(rt; "expired {}", counts.expired)?;
+            println!(rt; "no-nt {}", counts.no_nt)
+        }
     }
-    let counts = summary.counts;
-    show(output, b"lines ", counts.lines)?;
-    show(output, b"bad ", counts.bad)?;
-    show(output, b"disabled ", counts.disabled)?;
-    show(output, b"expired ", counts.expired)?;
-    show(output, b"no-nt ", counts.no_nt)
 }

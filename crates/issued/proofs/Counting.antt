@@ -3,18 +3,17 @@
 -- Assumes nothing.
 use mathlib.Core.Bool.{Bool, true, false, cond, ◌||◌}
 use mathlib.Core.List.{List, [], ◌∷◌, ◌++◌, append-nil}
-use mathlib.Core.Path.{◌≡◌, refl, sym, ap, ap₂, ◌∙◌, subst}
-use Prim.Native.Nat.{ℕ, zero, suc, ◌+◌, ◌-◌, ◌≤◌, ◌<◌}
+use mathlib.Core.Path.{◌≡◌, refl, sym, ap, ◌∙◌, subst}
+use Prim.Native.Nat.{ℕ, zero, suc, ◌+◌, ◌≤◌, ◌<◌}
 use native.Mathlib.Omega.{arith}
 use borrow.Author.Tests.{eq-eqb, eqb-true, eqb-false, leb-true, leb-false}
 use lib.Dec.{eqb, leb}
-use lib.ListN.{length, take, drop, replicate, get_or, length-set, get_or-eq_default}
+use lib.ListN.{length, replicate, get_or, length-set, get_or-eq_default}
 use lib.Seq.{ext_get_or, get_or-set_same, get_or-set_other, set_out, append_snoc}
 use Rattle.octets.specs.Parts.{agrees}
 use Rattle.octets.proofs.Parts.{agrees_equal}
-use Rattle.issued.specs.Issued.{entries, contains, last_of, ending, endings, counts_of}
+use Rattle.issued.specs.Issued.{contains, last_of, ending, endings, counts_of}
 use Rattle.issued.specs.Inner.{raised_at, raised, CountsFit}
-use Rattle.issued.proofs.Listing.{Lie, entries_next, rest_part, rest_lies, last_first}
 
 -- ---- how many end in an octet
 
@@ -140,35 +139,33 @@ raised_at_most counts x y = which (eqb y x) (leb (length counts) x) refl refl
         omega (arith, ap (λ (z : ℕ). get_or (raised_at counts x) z 0) e, ap (λ (z : ℕ). get_or counts z 0) e, get_or-set_same counts x (get_or counts x 0 + 1) 0 (leb-false (length counts) x q))
     which false u p q = omega (arith, get_or-set_other counts x y (get_or counts x 0 + 1) 0 (eqb-false y x p))
 
-room_next : (counts : List ℕ) (x n : ℕ) → 0 < n → CountsFit counts n → CountsFit (raised_at counts x) (n - 1)
-room_next counts x n h r y = omega (arith, r y, raised_at_most counts x y)
-
 -- ---- a loop that raises the counts
 
--- n entries of l are left to be counted, and then the counts are `all`
-pub record Uncounted (w : ℕ) (counts l : List ℕ) (n : ℕ) (all : List ℕ) : Type 0 where
-  pub lie : Lie w l n
+-- the entries es are left to be counted, and then the counts are `all`
+pub record Uncounted (counts : List ℕ) (es : List (List ℕ)) (all : List ℕ) : Type 0 where
   pub size : length counts ≡ 256
-  pub room : CountsFit counts n
-  pub same : raised counts (entries w n l) ≡ all
+  pub room : CountsFit counts (length es)
+  pub same : raised counts es ≡ all
 
-module _ (w : ℕ) (counts l : List ℕ) (n : ℕ) (all : List ℕ) (more : 0 < n) (h : Uncounted w counts l n all) where
-  pub raise_fits : (x : ℕ) → (length counts ≡ 256) × (get_or counts x 0 < 65535)
-  raise_fits x = (h.size, omega (arith, h.room x))
+module _ {counts : List ℕ} {es : List (List ℕ)} {all : List ℕ} (h : Uncounted counts es all) where
+  pub raise_fits : {e : List ℕ} {fs : List (List ℕ)} → es ≡ e ∷ fs → (x : ℕ)
+      → (length counts ≡ 256) × (get_or counts x 0 < 65535)
+  raise_fits k x = (h.size, omega (arith, h.room x, ap length k))
 
-  -- one more is counted, and the rest is a slice from w on
-  pub raise_next : {raised_counts : List ℕ} → raised_counts ≡ raised_at counts (get_or l (w - 1) 0)
-      → Uncounted w raised_counts (take (length l - w) (drop w l)) (n - 1) all
+  -- one more is counted
+  pub raise_next : {e : List ℕ} {fs : List (List ℕ)} → es ≡ e ∷ fs
+      → {raised_counts : List ℕ} {x : ℕ} → raised_counts ≡ raised_at counts x → x ≡ last_of e
+      → Uncounted raised_counts fs all
   unfolding raised
-  raise_next e =
-      let k = e ∙ ap (raised_at counts) (sym (last_first w l n more h.lie)) in
+  raise_next {e} {fs} k g f =
+      let r = g ∙ ap (raised_at counts) f in
+      let n : length es ≡ suc (length fs) = ap length k in
       record {
-        lie = rest_lies w l n more h.lie;
-        size = ap length k ∙ length_raised_at counts (last_of (take w l)) ∙ h.size;
-        room = subst (λ (m : List ℕ). CountsFit m (n - 1)) (sym k) (room_next counts (last_of (take w l)) n more h.room);
-        same = ap₂ (λ (m r : List ℕ). raised m (entries w (n - 1) r)) k (rest_part w l) ∙ sym (ap (raised counts) (entries_next w n l more)) ∙ h.same;
+        size = ap length r ∙ length_raised_at counts (last_of e) ∙ h.size;
+        room = λ y. omega (arith, h.room y, n, ap (λ (m : List ℕ). get_or m y 0) r, raised_at_most counts (last_of e) y);
+        same = ap (λ (m : List ℕ). raised m fs) r ∙ sym (ap (raised counts) k) ∙ h.same;
       }
 
-pub all_counted : (w : ℕ) (counts l : List ℕ) (n : ℕ) (all : List ℕ) → n ≡ 0 → Uncounted w counts l n all → counts ≡ all
-unfolding raised
-all_counted w counts l n all z h = ap (λ (k : ℕ). raised counts (entries w k l)) (sym z) ∙ h.same
+  pub all_counted : es ≡ [] → counts ≡ all
+  unfolding raised
+  all_counted z = sym (ap (raised counts) z) ∙ h.same

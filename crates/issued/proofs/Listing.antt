@@ -2,49 +2,39 @@
 -- Assumes nothing.
 use mathlib.Core.Bool.{Bool, true, false, ◌||◌, or_assoc, false≢true}
 use mathlib.Core.List.{List, [], ◌∷◌, ◌++◌, append_assoc, flatten}
-use mathlib.Core.Path.{◌≡◌, refl, sym, ap, ap₂, ◌∙◌}
-use Prim.Native.Nat.{ℕ, zero, suc, ◌+◌, ◌-◌, ◌*◌, ◌≤◌, ◌<◌}
-use native.Mathlib.Nat.{mul-suc, mul-add, mul-zero, zero-add, suc-add}
+use mathlib.Core.Path.{◌≡◌, refl, sym, ap, ap₂, ◌∙◌, subst}
+use Prim.Native.Nat.{ℕ, zero, suc, ◌+◌, ◌*◌, ◌/◌, ◌≤◌, ◌<◌}
+use native.Mathlib.Nat.{div-eq_of_lt, add-div_right, mul-div_cancel_left, mul-suc, mul-add, mul-zero, zero-add, suc-add}
 use native.Mathlib.Omega.{arith}
-use lib.ListN.{length, take, drop, get_or, length-append, length-drop, take-append-drop}
-use lib.Seq.{take_all, length-take-le, get_or-take, take-append-le, drop-append-le, take-add, take_at, drop_at, drop-drop}
+use lib.ListN.{length, take, drop, length-append, length-drop, take-append-drop}
+use lib.Seq.{length-take-le, take-append-le, drop-append-le, take-add, take_at, drop_at, drop-drop}
 use Rattle.octets.specs.Parts.{over_at, agrees}
 use Rattle.octets.proofs.Parts.{over_fits, agrees_sym, agrees_equal}
-use Rattle.issued.specs.Issued.{entries, contains, contains_any, last_of}
+use Rattle.issued.specs.Issued.{entries, entries_in, places, contains, contains_any}
 
--- ---- one entry taken off the front
+-- ---- entries as chunks of a run
 
-pub entries_next : (w n : ℕ) (l : List ℕ) → 0 < n → entries w n l ≡ take w l ∷ entries w (n - 1) (drop w l)
-entries_next w zero l h = absurd (omega arith)
-entries_next w (suc k) l h = let e : k ≡ suc k - 1 = omega arith in ap (λ (m : ℕ). take w l ∷ entries w m (drop w l)) e
+-- the first one, which is n octets long, and the others
+pub entries_more : (w : ℕ) (x r : List ℕ) {l : List ℕ} {n : ℕ} → 0 < w → n ≡ w → l ≡ x ++ r → length x ≡ n
+    → entries_in w l ≡ x ∷ entries_in w r
+entries_more w x r {l} p m e f =
+    ap (entries_in w) e
+    ∙ ap (λ (n : ℕ). entries w n (x ++ r)) count
+    ∙ ap₂ (λ (y : List ℕ) (m : List ℕ). y ∷ entries w (places w r) m) (take_at x r w k) (drop_at x r w k)
+  where
+    k : length x ≡ w
+    k = f ∙ m
 
--- n entries lie in l
-pub record Lie (w : ℕ) (l : List ℕ) (n : ℕ) : Type 0 where
-  pub positive : 0 < w
-  pub fits : w * n ≤ length l
+    long : length (x ++ r) ≡ length r + w
+    long = omega (arith, length-append x r, k)
 
--- what a slice from w on holds
-pub rest_part : (w : ℕ) (l : List ℕ) → take (length l - w) (drop w l) ≡ drop w l
-rest_part w l = take_all (length l - w) (drop w l) (omega (arith, length-drop w l))
+    count : places w (x ++ r) ≡ suc (places w r)
+    count = ap (λ (n : ℕ). n / w) long ∙ add-div_right (length r) p ∙ omega arith
 
-module _ (w : ℕ) (l : List ℕ) (n : ℕ) (more : 0 < n) (h : Lie w l n) where
-  pub first_fits : w ≤ length l
-  first_fits = fits n more h.fits
-    where
-      fits : (k : ℕ) → 0 < k → w * k ≤ length l → w ≤ length l
-      fits zero p f = absurd (omega arith)
-      fits (suc k) p f = omega (arith, mul-suc w k)
-
-  pub rest_lies : Lie w (take (length l - w) (drop w l)) (n - 1)
-  rest_lies = record { positive = h.positive; fits = rw (rest_part w l, length-drop w l) (fits n more h.fits) }
-    where
-      fits : (k : ℕ) → 0 < k → w * k ≤ length l → w * (k - 1) ≤ length l - w
-      fits zero p f = absurd (omega arith)
-      fits (suc k) p f = let e : suc k - 1 ≡ k = omega arith in rw e (omega (arith, mul-suc w k))
-
-  pub last_first : last_of (take w l) ≡ get_or l (w - 1) 0
-  last_first =
-      ap (λ (m : ℕ). get_or (take w l) (m - 1) 0) (length-take-le w l first_fits) ∙ get_or-take w l (w - 1) 0 (omega (arith, h.positive))
+-- none where less is left than one
+pub entries_none : (w : ℕ) (l : List ℕ) {n : ℕ} → n ≡ w → length l < n → entries_in w l ≡ []
+entries_none w l {n} m h =
+    ap (λ (n : ℕ). entries w n l) (div-eq_of_lt (subst (λ (k : ℕ). length l < k) m h))
 
 -- ---- whether an entry stands among others
 
@@ -90,6 +80,10 @@ not_met (d ∷ cs) es c m h = which (agrees d c) (contains es d) refl refl (not_
 pub length_entries : (w n : ℕ) (l : List ℕ) → length (entries w n l) ≡ n
 length_entries w zero l = refl
 length_entries w (suc n) l = ap suc (length_entries w n (drop w l))
+
+-- how many there are
+pub length_in : (w : ℕ) (l : List ℕ) → length (entries_in w l) ≡ places w l
+length_in w l = length_entries w (places w l) l
 
 pub flatten_entries : (w n : ℕ) (l : List ℕ) → flatten (entries w n l) ≡ take (w * n) l
 unfolding flatten
@@ -149,3 +143,20 @@ entries_laid w n cs l wide fits =
     (entries_front w n (take k l) (flatten cs ++ behind) (omega arith)
     ∙ sym (entries_front w n (take k l) (drop k l) (omega arith)) ∙ ap (entries w n) (take-append-drop k l))
     (ap (entries w (length cs)) (drop_at (take k l) (flatten cs ++ behind) k front) ∙ entries_flatten w cs behind wide)
+
+-- the used places of a buffer are a run of their own
+pub entries_used : (w used : ℕ) (l : List ℕ) → 0 < w → w * used ≤ length l
+    → (places w (take (w * used) l) ≡ used) × (entries_in w (take (w * used) l) ≡ entries w used l)
+entries_used w used l p h = (count, same)
+  where
+    long : length (take (w * used) l) ≡ w * used
+    long = length-take-le (w * used) l h
+
+    count : places w (take (w * used) l) ≡ used
+    count = ap (λ (n : ℕ). n / w) long ∙ mul-div_cancel_left used p
+
+    same : entries_in w (take (w * used) l) ≡ entries w used l
+    same =
+        ap (λ (n : ℕ). entries w n (take (w * used) l)) count
+        ∙ sym (entries_front w used (take (w * used) l) (drop (w * used) l) (omega (arith, long)))
+        ∙ ap (entries w used) (take-append-drop (w * used) l)

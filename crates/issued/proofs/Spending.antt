@@ -1,8 +1,8 @@
 -- Entries that are not refused: what is known then, and that the list has them behind those that it
 -- had, with counts that are true.
 -- Assumes nothing.
-use mathlib.Core.Bool.{Bool, true, false, cond, not, ◌||◌, or-true, false≢true}
-use mathlib.Core.List.{List, [], ◌++◌, flatten}
+use mathlib.Core.Bool.{Bool, true, false, cond, not, ◌&&◌, ◌||◌, or-true, false≢true}
+use mathlib.Core.List.{List, [], ◌∷◌, ◌++◌, flatten}
 use mathlib.Core.Logic.{◌≢◌}
 use mathlib.Core.Path.{◌≡◌, refl, sym, ap, ◌∙◌}
 use Prim.Native.Nat.{ℕ, ◌+◌, ◌-◌, ◌*◌, ◌/◌, ◌%◌, ◌≤◌, ◌<◌}
@@ -11,9 +11,15 @@ use native.Mathlib.Omega.{arith}
 use borrow.Author.Tests.{eqb-true, eqb-false, ne_eqb, le-ltb, ltb-false}
 use lib.Dec.{eqb, ltb}
 use lib.ListN.{length, replicate}
+use lib.Pointwise.{pointwise}
+use Rattle.std.specs.Prelude.{Result, Ok, Err, IsErr}
 use Rattle.octets.specs.Parts.{agrees}
+use Rattle.refusals.specs.Refusal.{number}
+use Rattle.refusals.specs.declared.Refusal.{Refusal}
+use Rattle.refusals.specs.declared.Refusal.TheVariants as refusal
 use Rattle.octets.proofs.Parts.{length_over_at, agrees_refl, agrees_equal}
 use Rattle.issued.specs.Issued.{Issued, entries, places, listed, contains, contains_any, counts_of, bad_buffer, bad_counts, full, spend_refusal, added, spent}
+use Rattle.issued.specs.Issued.{used_after}
 use Rattle.issued.proofs.Listing.{Wide, entries_laid, contains_append, contains_any_none}
 use Rattle.issued.proofs.Counting.{none_counted}
 
@@ -92,6 +98,71 @@ pub may_spend_empty : (w : ℕ) (cs : List (List ℕ)) (i : Issued) → bad_buff
 may_spend_empty w cs i sound none zeros room =
     let empty : listed w i ≡ [] = ap (λ (n : ℕ). entries w n i.buffer) none in
     may_spend w cs i sound (zeros ∙ none_counted ∙ ap counts_of (sym empty)) (ap (contains_any cs) empty ∙ contains_any_none cs) (omega arith)
+
+-- ---- what is refused, test by test
+
+-- equal lists of counts are told as the definition tells them
+pub same_counts : (a b : List ℕ) → pointwise eqb a b ≡ agrees a b
+unfolding agrees
+same_counts [] [] = refl
+same_counts [] (y ∷ b) = refl
+same_counts (x ∷ a) [] = refl
+same_counts (x ∷ a) (y ∷ b) = ap (λ (t : Bool). eqb x y && t) (same_counts a b)
+
+module _ (w : ℕ) (cs : List (List ℕ)) (i : Issued) where
+  pub bad_refused : bad_buffer w i.buffer i.used ≡ true → 24 ≡ spend_refusal w cs i
+  unfolding spend_refusal
+  bad_refused g = rw g
+
+  module _ (g : bad_buffer w i.buffer i.used ≡ false) where
+    pub counts_refused : bad_counts w i ≡ true → 24 ≡ spend_refusal w cs i
+    unfolding spend_refusal
+    counts_refused k = rw (g, k)
+
+    module _ (k : bad_counts w i ≡ false) where
+      pub met_refused : contains_any cs (listed w i) ≡ true → 16 ≡ spend_refusal w cs i
+      unfolding spend_refusal
+      met_refused m = rw (g, k, m)
+
+      module _ (m : contains_any cs (listed w i) ≡ false) where
+        pub full_refused : full w cs i ≡ true → 17 ≡ spend_refusal w cs i
+        unfolding spend_refusal
+        full_refused f = rw (g, k, m, f)
+
+        pub none_refused : full w cs i ≡ false → 0 ≡ spend_refusal w cs i
+        unfolding spend_refusal
+        none_refused f = rw (g, k, m, f)
+
+-- no refusal has the number 0, which is none
+pub numbered : (r : Refusal) → number r ≢ 0
+numbered refusal.Ended e = omega arith
+numbered refusal.ReplyBuffer e = omega arith
+numbered refusal.Frame e = omega arith
+numbered refusal.Code e = omega arith
+numbered refusal.Identifier e = omega arith
+numbered refusal.Size e = omega arith
+numbered refusal.Flags e = omega arith
+numbered refusal.Input e = omega arith
+numbered refusal.Room e = omega arith
+numbered refusal.Name e = omega arith
+numbered refusal.Kind e = omega arith
+numbered refusal.Filler e = omega arith
+numbered refusal.Retries e = omega arith
+numbered refusal.Line e = omega arith
+numbered refusal.Doubled e = omega arith
+numbered refusal.Issued e = omega arith
+numbered refusal.Full e = omega arith
+numbered refusal.Limit e = omega arith
+numbered refusal.List e = omega arith
+numbered refusal.Argument e = omega arith
+numbered refusal.Text e = omega arith
+numbered refusal.Record e = omega arith
+numbered refusal.Nowhere e = omega arith
+
+-- where an answer is a refusal, as many places are used as before
+pub used_still : (used : ℕ) (r : Result ℕ Refusal) → IsErr r → used_after used r ≡ used
+used_still used (Ok n) h = absurd (false≢true h)
+used_still used (Err e) h = refl
 
 -- ---- the list afterwards
 

@@ -1,9 +1,12 @@
 -- The list of issued challenges. Words in quotes are document 02's, request 2026-03. All is said
 -- over w, the octets of an entry, which are 8 in MS-CHAP version 1.
 -- Assumes nothing: these are definitions.
-use Rattle.std.specs.Prelude.{Bool, false, cond, not, ◌||◌, ◌≡◌, ℕ, zero, suc, ◌+◌, ◌-◌, ◌*◌, ◌/◌, ◌%◌, eqb, ltb, length, take, drop, replicate, get_or}
+use Rattle.std.specs.Prelude.{Bool, false, cond, not, ◌||◌, ◌≡◌, eqb, ltb, Result, Ok, Err}
+use Rattle.std.specs.Prelude.{ℕ, zero, suc, ◌+◌, ◌-◌, ◌*◌, ◌/◌, ◌%◌}
+use Rattle.std.specs.Prelude.{length, take, drop, replicate, get_or}
 use mathlib.Core.List.{List, [], ◌∷◌, ◌++◌, flatten}
 use Rattle.octets.specs.Parts.{over_at, agrees}
+use Rattle.refusals.specs.declared.Refusal.{Refusal}
 
 -- What is passed: the buffer, how many of its places are used, and the counts.
 pub record Issued : Type 0 where
@@ -73,7 +76,8 @@ counts_of es = endings 0 octet_values es
 
 -- an empty list of n places
 abbrev pub empty_list : ℕ → ℕ → Issued
-empty_list w n = record { buffer = replicate (w * n) 0; used = 0; counts = replicate octet_values 0 }
+empty_list w n =
+    record { buffer = replicate (w * n) 0; used = 0; counts = replicate octet_values 0 }
 
 -- ---- spending
 
@@ -117,3 +121,8 @@ added w cs i =
 -- what is left once the entries cs were to be spent: where they are refused, all is as it was
 unfoldable pub spent : ℕ → List (List ℕ) → Issued → Issued
 spent w cs i = cond (eqb (spend_refusal w cs i) 0) (added w cs i) i
+
+-- how many places are used after an answer: where it is a refusal, as many as before
+abbrev pub used_after : ℕ → Result ℕ Refusal → ℕ
+used_after used (Ok n) = n
+used_after used (Err r) = used

@@ -10,3 +10,4 @@ pub mod ChangedLine
 pub mod ChangedFile
 pub mod ReadBack
 pub mod Worked
+pub mod Places

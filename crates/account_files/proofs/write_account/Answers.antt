@@ -12,10 +12,8 @@ use Rattle.accounts.specs.declared.EntryLookup.{EntryLookup}
 use Rattle.accounts.specs.declared.Schedules.{Schedules}
 use Rattle.layouts.specs.Keys.{keys_at}
 use Rattle.layouts.specs.Records.{nt_keys_at, lm_keys_at, is_encoded_record}
-use Rattle.smbpasswd.specs.File.{place_of}
+use Rattle.smbpasswd.specs.File.{Place, Nowhere, Line, Doubled, Malformed, place_of}
 use Rattle.smbpasswd.specs.Write.{changed_line, written_at, written_in}
-use Rattle.smbpasswd.specs.declared.Place.{Place}
-use Rattle.smbpasswd.specs.declared.Place.TheVariants.{Nowhere, Line, Doubled, Malformed}
 use Rattle.account_files.proofs.write_account.Goals as goal
 
 -- the hashes alone are written, whatever round keys stand beside them
@@ -42,7 +40,7 @@ returns-then-not-lookup c =
     sym c.is_encoded_record.ensures ∙ c.if-not-is_encoded_record.false in
     let none = sym (ap (λ (l : EntryLookup). l.found) c.decode_head-lookup.ensures)
     ∙ not-true _ c.if-not-lookup.true in
-    record { number = rw (good, none); written = rw (good, none); offsets = rw (good, none) }
+    record { number = rw (good, none) (c.from.ensures ∙ c.number.ensures); written = rw (good, none); offsets = rw (good, none) }
 
 pub returns : goal.returns
 returns c =

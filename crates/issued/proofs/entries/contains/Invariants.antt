@@ -1,15 +1,12 @@
--- `issued::entries::contains` meets its contract. The loop's invariant: the entry stands among
--- those that are left exactly where it stands among all.
+-- `issued::entries::contains` meets its contract.
 -- Assumes nothing.
-use mathlib.Core.Path.{◌≡◌}
-use lib.ListN.{length}
-use Rattle.issued.specs.Issued.{entries, contains}
-use Rattle.issued.proofs.Listing.{Lie}
+use Rattle.std.proofs.Common.{◌≡◌, length}
+use Rattle.std.specs.Slice.Iter.{chunks_exact_rest, chunks_exact_size}
+use Rattle.issued.specs.Issued.{entries_in, contains}
 use Rattle.issued.proofs.entries.contains.Given as goal
 
-abbrev pub invariant-loop-left : goal.invariant-loop-left
-invariant-loop-left l =
-    (l.width ≡ length l.entry) × Lie l.width l.rest l.left × (contains (entries l.width l.left l.rest) l.entry ≡ contains (entries l.width l.n l.run) l.entry)
-
-abbrev pub decreases-loop-left : goal.decreases-loop-left
-decreases-loop-left l = l.left
+abbrev pub invariant-loop-other : goal.invariant-loop-other
+invariant-loop-other l =
+    (chunks_exact_size l.other-iterator ≡ length l.entry)
+    × (contains (entries_in (length l.entry) (chunks_exact_rest l.other-iterator)) l.entry
+    ≡ contains (entries_in (length l.entry) l.run) l.entry)

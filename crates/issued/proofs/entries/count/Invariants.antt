@@ -1,13 +1,14 @@
--- `issued::entries::count` meets its contract. The loop's invariant: the entries that are left are
--- still to be counted.
+-- `issued::entries::count` meets its contract.
 -- Assumes nothing.
-use Rattle.issued.specs.Issued.{entries}
+use Rattle.std.proofs.Common.{◌≡◌}
+use Rattle.std.specs.Slice.Iter.{chunks_exact_rest, chunks_exact_size}
+use Rattle.issued.specs.Issued.{entries_in}
 use Rattle.issued.specs.Inner.{raised}
 use Rattle.issued.proofs.Counting.{Uncounted}
 use Rattle.issued.proofs.entries.count.Given as goal
 
-abbrev pub invariant-loop-left : goal.invariant-loop-left
-invariant-loop-left l = Uncounted l.width l.counts l.rest l.left (raised l.initial.counts (entries l.width l.n l.run))
-
-abbrev pub decreases-loop-left : goal.decreases-loop-left
-decreases-loop-left l = l.left
+abbrev pub invariant-loop-entry : goal.invariant-loop-entry
+invariant-loop-entry l =
+    (chunks_exact_size l.entry-iterator ≡ l.width)
+    × Uncounted l.counts (entries_in l.width (chunks_exact_rest l.entry-iterator))
+    (raised l.initial.counts (entries_in l.width l.run))

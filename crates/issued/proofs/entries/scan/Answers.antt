@@ -1,81 +1,55 @@
-use mathlib.Core.Path.{◌≡◌, refl, sym, ap, ◌∙◌, subst}
-use Prim.Native.Nat.{ℕ, ◌*◌, ◌≤◌, ◌<◌}
+use mathlib.Core.List.{List}
+use mathlib.Core.Path.{refl, ap, ◌∙◌}
+use Prim.Native.Nat.{ℕ}
 use native.Mathlib.Omega.{arith}
-use lib.ListN.{length, take}
-use lib.Seq.{length-take-le}
-use Rattle.issued.specs.Issued.{entries, contains}
-use Rattle.issued.specs.Inner.{Marked}
-use Rattle.issued.proofs.Listing.{first_fits}
+use lib.ListN.{length}
+use Rattle.std.specs.Slice.Iter.{chunks_exact_rest, chunks_exact_size}
+use Rattle.issued.specs.Issued.{entries_in, contains_any}
+use Rattle.issued.specs.Inner.{raised}
+use Rattle.issued.proofs.Listing.{entries_more, entries_none, length_in}
 use Rattle.issued.proofs.Counting.{raise_fits, raise_next, all_counted}
 use Rattle.issued.proofs.Marking.{met_next, met_all}
 use Rattle.issued.proofs.entries.scan.Goals as goal
 
-pub loop-left-init : goal.loop-left-init
-loop-left-init c =
+pub loop-entry-init : goal.loop-entry-init
+loop-entry-init c =
+    let q = c.args.sought.now in
+    let g = c.into_iter-entry-iterator.ensures.into_iter_gives in
+    let i = c.chunks_exact-entry-items.ensures in
+    let e = ap chunks_exact_rest g ∙ i.rest in
     let p = c.requires in (
+      ap chunks_exact_size g ∙ i.size,
       record {
-        lie = record { positive = p.0; fits = p.1 };
-        size = p.5;
-        room = p.6;
-        same = refl;
+        size = p.0;
+        room = λ y. omega (arith, p.1 y, length_in q.width c.args.list.now, ap (λ (l : List ℕ). length (entries_in q.width l)) e);
+        same = ap (λ (l : List ℕ). raised c.args.counts.now (entries_in q.width l)) e;
       },
-      refl,
+      ap (λ (l : List ℕ). contains_any (entries_in q.width q.run.now) (entries_in q.width l)) e,
     )
-
--- ---- inside the loop, the first entry that is left fits
-pub bounds-rest-width : goal.bounds-rest-width
-bounds-rest-width c =
-    let h = c.loop-left.invariant.0 in
-    omega (arith, first_fits _ _ _ (omega arith) h.lie, h.lie.positive)
 
 pub raise-requires : goal.raise-requires
-raise-requires c = raise_fits _ _ _ _ _ (omega arith) c.loop-left.invariant.0 _
+raise-requires c =
+    let q = c.args.sought.now in
+    let v = c.loop-entry.invariant in
+    let s = c.in-Some.ensures.steps in
+    raise_fits v.1
+    (entries_more q.width c.in-Some.entry.now (chunks_exact_rest c.next.new.self) q.some v.0 s.1.0 s.1.1)
+    c.last_of.result
 
-pub slice_bounds-is_sought-end : goal.slice_bounds-is_sought-end
-slice_bounds-is_sought-end c =
-    sym (length-take-le c.args.width c.loop-left.rest.now
-    (first_fits _ _ _ (omega arith) c.loop-left.invariant.0.lie))
-
-pub is_sought-requires : goal.is_sought-requires
-is_sought-requires c =
-    let a = c.args in
-    let p = c.requires in
-    subst
-    (λ (k : ℕ). (0 < k) × (k * a.n ≤ length a.run.now)
-    × (length a.marks.now ≡ 256)
-    × Marked a.marks.now (entries k a.n a.run.now))
-    (sym (length-take-le a.width c.loop-left.rest.now
-    (first_fits _ _ _ (omega arith) c.loop-left.invariant.0.lie)))
-    (p.0, p.2, p.3, p.4)
-
-pub slice_bounds-rest-count : goal.slice_bounds-rest-count
-slice_bounds-rest-count c = first_fits _ _ _ (omega arith) c.loop-left.invariant.0.lie
-
-pub slice_bounds-rest-start : goal.slice_bounds-rest-start
-slice_bounds-rest-start c = first_fits _ _ _ (omega arith) c.loop-left.invariant.0.lie
-
-pub loop-left-preserved : goal.loop-left-preserved
-loop-left-preserved c =
-    let a = c.args in
-    let h = c.loop-left in
-    let run = a.run.now in
-    let one = c.is_sought.ensures
-    ∙ ap (λ (n : ℕ). contains (entries n a.n run) (take a.width h.rest.now))
-    (length-take-le a.width h.rest.now (first_fits _ _ _ (omega arith) h.invariant.0.lie)) in (
-      raise_next _ _ _ _ _ (omega arith) h.invariant.0 c.raise.ensures,
-      met_next a.width h.left h.rest.now (entries a.width a.n run) h.met
-          (omega arith) c.either-met.ensures one ∙ h.invariant.1,
+pub loop-entry-preserved : goal.loop-entry-preserved
+loop-entry-preserved c =
+    let q = c.args.sought.now in
+    let v = c.loop-entry.invariant in
+    let s = c.in-Some.ensures.steps in
+    let k = entries_more q.width c.in-Some.entry.now (chunks_exact_rest c.next.new.self) q.some v.0 s.1.0 s.1.1 in (
+      s.0 ∙ v.0,
+      raise_next v.1 k c.raise.ensures c.last_of.ensures,
+      met_next (entries_in q.width q.run.now) c.loop-entry.met k refl c.has-met.ensures ∙ v.2,
     )
-
--- ---- behind the loop
-pub shape_of-counts : goal.shape_of-counts
-shape_of-counts c = c.loop-left.invariant.0.size ∙ sym c.requires.5
 
 pub returns : goal.returns
 returns c =
-    let h = c.loop-left in
-    let a = c.args in (
-      met_all a.width h.left h.rest.now (entries a.width a.n a.run.now) h.met
-          (omega arith) ∙ h.invariant.1,
-      all_counted _ _ _ _ _ (omega arith) h.invariant.0,
-    )
+    let q = c.args.sought.now in
+    let v = c.loop-entry.invariant in
+    let z = entries_none q.width (chunks_exact_rest c.loop-entry.entry-iterator) v.0 c.in-None.ensures.steps.1.0 in
+    (met_all (entries_in q.width q.run.now) c.loop-entry.met z ∙ v.2, all_counted v.1 z)

@@ -1,18 +1,17 @@
--- `issued::entries::scan` meets its contract. The loop's invariant: the entries that are left are
--- still to be counted, and one of them is sought, or one was met, exactly where one of all is.
+-- `issued::entries::scan` meets its contract.
 -- Assumes nothing.
-use mathlib.Core.Bool.{◌||◌}
-use mathlib.Core.Path.{◌≡◌}
-use Rattle.issued.specs.Issued.{entries, contains_any}
+use Rattle.std.proofs.Common.{◌≡◌, ◌||◌}
+use Rattle.std.specs.Slice.Iter.{chunks_exact_rest, chunks_exact_size}
+use Rattle.issued.specs.Issued.{entries_in, contains_any}
 use Rattle.issued.specs.Inner.{raised}
 use Rattle.issued.proofs.Counting.{Uncounted}
 use Rattle.issued.proofs.entries.scan.Given as goal
 
-abbrev pub invariant-loop-left : goal.invariant-loop-left
-invariant-loop-left l =
-    Uncounted l.width l.counts l.rest l.left (raised l.initial.counts (entries l.width l.used l.buffer))
-    × ((l.met || contains_any (entries l.width l.n l.run) (entries l.width l.left l.rest))
-    ≡ contains_any (entries l.width l.n l.run) (entries l.width l.used l.buffer))
-
-abbrev pub decreases-loop-left : goal.decreases-loop-left
-decreases-loop-left l = l.left
+abbrev pub invariant-loop-entry : goal.invariant-loop-entry
+invariant-loop-entry l =
+    let w = l.sought.width in
+    let left = entries_in w (chunks_exact_rest l.entry-iterator) in
+    let cs = entries_in w l.sought.run.now in
+    (chunks_exact_size l.entry-iterator ≡ w)
+    × Uncounted l.counts left (raised l.initial.counts (entries_in w l.list))
+    × ((l.met || contains_any cs left) ≡ contains_any cs (entries_in w l.list))
