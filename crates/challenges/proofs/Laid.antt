@@ -1,9 +1,9 @@
 -- A challenge and those that follow it by the 23 rule, laid one behind the other.
 -- Assumes nothing.
-use Rattle.std.proofs.Common.{◌≡◌, ℕ, zero, suc, ◌+◌, ◌-◌, ◌*◌, ◌<◌, List, ◌∷◌, ◌++◌, length, take, sym, refl, ap, ◌∙◌, ap₂, append_assoc, append-nil, arith, take_all}
+use Rattle.std.proofs.Common.{◌≡◌, ℕ, zero, suc, ◌+◌, ◌-◌, ◌<◌, List, ◌∷◌, ◌++◌, length, take, sym, refl, ap, ◌∙◌, ap₂, append_assoc, append-nil, arith, take_all, add-one, take-suc-set, []}
 use mathlib.Core.List.{flatten}
-use Rattle.octets.specs.Parts.{over_at}
-use Rattle.octets.proofs.Laid.{take_laid}
+use lib.ListN.{set}
+use Rattle.std.specs.List.{flat_map}
 use Rattle.challenges.specs.Challenges.{incremented, challenges_from}
 
 challenges_from_next : (n : ℕ) (c : List ℕ) → 0 < n → challenges_from n c ≡ c ∷ challenges_from (n - 1) (incremented c)
@@ -17,18 +17,21 @@ length_challenges_from zero c = refl
 length_challenges_from (suc n) c = ap suc (length_challenges_from n (incremented c))
 
 -- one turn of the loop: i challenges lie in run, and the rest follow from c
-pub laid_next : (run c all : List ℕ) (i : ℕ) {after next : List ℕ} → i < 8 → length run ≡ 64 → length c ≡ 8 → after ≡ over_at (8 * i) c run → next ≡ incremented c
-    → take (8 * i) run ++ flatten (challenges_from (8 - i) c) ≡ all → take (8 * (i + 1)) after ++ flatten (challenges_from (8 - (i + 1)) next) ≡ all
-unfolding flatten
-laid_next run c all i {after} {next} h long eight e f inv =
+pub laid_next : (run : List (List ℕ)) (c : List ℕ) (all : List (List ℕ)) (i : ℕ) {next : List ℕ} → i < 8 → length run ≡ 8 → next ≡ incremented c
+    → take i run ++ challenges_from (8 - i) c ≡ all → take (i + 1) (set run i c) ++ challenges_from (8 - (i + 1)) next ≡ all
+laid_next run c all i {next} h long f inv =
     let less : 8 - (i + 1) ≡ 8 - i - 1 = omega arith in
-    ap₂ (λ (x : List ℕ) (y : List (List ℕ)). take (8 * (i + 1)) x ++ flatten y) e (ap₂ challenges_from less f)
-    ∙ ap (λ (x : List ℕ). x ++ flatten (challenges_from (8 - i - 1) (incremented c))) (take_laid (8 * i) (8 * (i + 1)) c run (omega arith) (omega arith))
-    ∙ append_assoc (take (8 * i) run) c (flatten (challenges_from (8 - i - 1) (incremented c)))
-    ∙ ap (λ (x : List (List ℕ)). take (8 * i) run ++ flatten x) (sym (challenges_from_next (8 - i) c (omega arith)))
+    ap₂ (λ (x y : List (List ℕ)). x ++ y) (ap (λ (n : ℕ). take n (set run i c)) (add-one i) ∙ take-suc-set run i c (omega arith)) (ap₂ challenges_from less f)
+    ∙ append_assoc (take i run) (c ∷ []) (challenges_from (8 - i - 1) (incremented c))
+    ∙ ap (λ (x : List (List ℕ)). take i run ++ x) (sym (challenges_from_next (8 - i) c (omega arith)))
     ∙ inv
 
-pub laid_all : (run c all : List ℕ) (i : ℕ) → i ≡ 8 → length run ≡ 64 → take (8 * i) run ++ flatten (challenges_from (8 - i) c) ≡ all → run ≡ all
-unfolding flatten challenges_from
+pub laid_all : (run : List (List ℕ)) (c : List ℕ) (all : List (List ℕ)) (i : ℕ) → i ≡ 8 → length run ≡ 8 → take i run ++ challenges_from (8 - i) c ≡ all → run ≡ all
+unfolding challenges_from
 laid_all run c all i e long inv =
-    sym (ap (λ (k : ℕ). take (8 * k) run ++ flatten (challenges_from (8 - k) c)) e ∙ append-nil (take 64 run) ∙ take_all 64 run (omega arith)) ∙ inv
+    sym (ap (λ (k : ℕ). take k run ++ challenges_from (8 - k) c) e ∙ append-nil (take 8 run) ∙ take_all 8 run (omega arith)) ∙ inv
+
+pub flat_flatten : (l : List (List ℕ)) → flat_map (λ x. x) l ≡ flatten l
+unfolding flatten
+flat_flatten [] = refl
+flat_flatten (x ∷ l) = ap (λ (m : List ℕ). x ++ m) (flat_flatten l)

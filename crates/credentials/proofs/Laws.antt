@@ -2,18 +2,18 @@
 -- opening what was sealed gives the password back.
 -- Assumes nothing.
 use mathlib.Core.Path.{◌≡◌, refl, sym, ap, ap₂, ◌∙◌}
-use mathlib.Core.Bool.{Bool, true, false, cond, ◌||◌, true≢false}
+use mathlib.Core.Bool.{Bool, true, false, cond, ◌&&◌, ◌||◌, true≢false}
 use mathlib.Core.List.{List, ◌++◌, map}
-use mathlib.Core.Logic.{◌≢◌}
 use mathlib.Core.Option.{none, some}
 use Prim.Native.Nat.{ℕ, ◌+◌, ◌-◌, ◌%◌, ◌≤◌}
 use native.Mathlib.Nat.{mod-eq_of_lt}
 use native.Mathlib.Omega.{arith}
-use borrow.Author.Tests.{le-ltb, ne_eqb, ltb-false, eqb-false}
+use borrow.Author.Tests.{le-leb, le-ltb, ne_eqb, ltb-false, eqb-false}
 use lib.Dec.{eqb, ltb}
 use lib.ListN.{length, take, drop, replicate, length-append}
 use lib.Seq.{take_all, drop_at, take_at}
-use Rattle.refusals.proofs.Answers.{both_passed}
+use Rattle.std.specs.Prelude.{Ok, Err}
+use Rattle.refusals.specs.declared.Refusal.TheVariants.{Input, Filler}
 use Rattle.octets.specs.Parts.{part, fixed}
 use Rattle.octets.specs.Numbers.{from_le, to_le}
 use Rattle.octets.proofs.Parts.{over_fills, length_fixed}
@@ -22,12 +22,11 @@ use Rattle.md4.proofs.Laws.{length_md4, octets_md4}
 use Rattle.des.specs.Des.{des_encrypt}
 use Rattle.des.proofs.Sizes.{length_encrypt, length_three}
 use Rattle.des.proofs.Stored.{length_schedules, three_under_lem, length_three_under, under_tells}
-use Rattle.rc4.specs.Rc4.{crypted}
+use Rattle.rc4.specs.Rc4.{key_answer, crypted}
 use Rattle.rc4.proofs.Laws.{crypted_twice, length_crypted}
 use Rattle.credentials.specs.declared.Content.TheVariants.{Over, Odd, Password}
 use Rattle.credentials.specs.declared.Unsealed.{Unsealed}
-use Rattle.credentials.specs.declared.Sealed.{Sealed}
-use Rattle.credentials.specs.Credentials.{block_size, nt_hash_of, bad_nt_password, lm_keys, upper, response_of, schedules_of, response_under, old_under_new, hash_under_challenge, plain_block, sealed_block, bad_filler, seal_refusal, sealed_as, length_in, content_for, length_told, password_length, ValidLength, unsealed_as, password_in}
+use Rattle.credentials.specs.Credentials.{nt_hash_of, hash_answer, nt_hashed, bad_nt_password, lm_keys, upper, response_of, schedules_of, response_under, old_under_new, hash_under_challenge, plain_block, sealed_block, bad_filler, sealed_as, length_in, content_for, length_told, password_length, ValidLength, unsealed_as, password_in}
 use Rattle.credentials.specs.Credentials.{length_under}
 use Rattle.credentials.proofs.Plain.{front, front_length, body_length, plain_parts, length_plain}
 
@@ -174,23 +173,18 @@ good_password password e = which (ltb 512 (length password)) refl e
 pub small_even : (password : List ℕ) → length password ≤ 512 → length password % 2 ≡ 0 → bad_nt_password password ≡ false
 small_even password h e = simp (le-ltb 512 (length password) h, ne_eqb (length password % 2) 1 (λ o. omega (arith, o, e)))
 
--- ---- what sealing answers
+-- ---- what hashing and sealing answer
 
-module _ (old password filler : List ℕ) where
-  -- by the refusal
-  abbrev answer : ℕ → Sealed
-  answer n = record { refusal = n; block = cond (eqb n 0) (sealed_block old filler password) (replicate block_size 0) }
+pub hash_good : (password : List ℕ) → bad_nt_password password ≡ false → nt_hashed password ≡ Ok (nt_hash_of password)
+hash_good password e = ap (λ (b : Bool). hash_answer b (nt_hash_of password)) e
 
-  pub sealed_refused : {k : ℕ} → k ≡ seal_refusal password filler → k ≢ 0 → record { refusal = k; block = replicate block_size 0 } ≡ sealed_as old password filler
-  unfolding sealed_as
-  sealed_refused {k} e h =
-      ap (λ (b : Bool). record { refusal = k; block = cond b (sealed_block old filler password) (replicate block_size 0) }) (sym (ne_eqb k 0 h)) ∙ ap answer e
+pub sealed_good : (old password filler : List ℕ) → bad_nt_password password ≡ false → bad_filler filler ≡ false
+    → sealed_as old password filler ≡ Ok (sealed_block old filler password)
+unfolding sealed_as
+sealed_good old password filler e f =
+    ap₂ (λ (a b : Bool). cond a (Err Input) (cond b (Err Filler) (Ok (sealed_block old filler password)))) e f
 
-  pub sealed_good : bad_nt_password password ≡ false → bad_filler filler ≡ false → sealed_as old password filler ≡ record { refusal = 0; block = sealed_block old filler password }
-  unfolding sealed_as seal_refusal
-  sealed_good e f = ap₂ (λ (a b : Bool). answer (cond a 8 (cond b 12 0))) e f
-
-  -- what is known where neither is refused
-  pub seal_fits : seal_refusal password filler ≡ 0 → (bad_nt_password password ≡ false) × (bad_filler filler ≡ false)
-  unfolding seal_refusal
-  seal_fits = both_passed (bad_nt_password password) 8 (bad_filler filler) 12 (omega arith) (omega arith)
+-- a hash is a key that RC4 takes
+pub hash_taken : (hash : List ℕ) → length hash ≡ 16 → key_answer hash ≡ Ok tt
+hash_taken hash n =
+    ap₂ (λ (a b : Bool). cond (a && b) (Ok tt) (Err Input)) (le-leb 1 (length hash) (omega arith)) (le-leb (length hash) 256 (omega arith))

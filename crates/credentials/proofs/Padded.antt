@@ -1,42 +1,50 @@
 -- What the code puts together piece by piece: the upper-cased password, and two blocks under the
 -- halves of a key.
 -- Assumes nothing.
-use mathlib.Core.Path.{◌≡◌, refl, sym, ap, ap₂, ◌∙◌}
-use mathlib.Core.List.{List, [], ◌∷◌, ◌++◌, map, append-nil}
-use Prim.Native.Nat.{ℕ, suc, ◌≤◌, ◌<◌}
+use mathlib.Core.Path.{◌≡◌, refl, ap, ap₂, ◌∙◌}
+use mathlib.Core.List.{List, [], ◌∷◌, ◌++◌, map}
+use Prim.Native.Nat.{ℕ, ◌-◌, ◌≤◌}
 use native.Mathlib.Omega.{arith}
-use lib.ListN.{length, take, drop, get_or, set, replicate, drop_of_length-le}
-use lib.Seq.{drop-cons, take-suc-set, drop-set-lt, append_snoc, take_all}
+use mathlib.Core.Bool.{Bool, true, false, cond}
+use borrow.Author.Tests.{le-leb, lt-leb, ltb-true, ltb-false}
+use lib.Dec.{ltb}
+use lib.ListN.{length, replicate}
 use Rattle.octets.specs.Parts.{part, over, fixed}
-use Rattle.octets.proofs.Parts.{fixed_part}
+use Rattle.std.specs.Char.{to_ascii_uppercase}
+use Rattle.octets.proofs.Parts.{fixed_part, fixed_front}
 use Rattle.des.specs.Des.{des_encrypt}
 use Rattle.credentials.specs.Credentials.{upper, lm_keys}
 
 -- ---- each octet of a list changed, one after the other
 
 module _ (f : ℕ → ℕ) where
-  -- f x is stored at i, and the rest is still to be changed
-  pub map_turn : (l : List ℕ) (i : ℕ) {v : ℕ} → i < length l → v ≡ f (get_or l i 0)
-      → take (suc i) (set l i v) ++ map f (drop (suc i) (set l i v)) ≡ take i l ++ map f (drop i l)
-  map_turn l i {v} h e =
-      ap₂ (λ (x y : List ℕ). x ++ map f y) (take-suc-set l i v h) (drop-set-lt (suc i) l i v (omega arith))
-      ∙ append_snoc (take i l) v (map f (drop (suc i) l))
-      ∙ ap (λ (x : ℕ). take i l ++ (x ∷ map f (drop (suc i) l))) e
-      ∙ ap (λ (x : List ℕ). take i l ++ map f x) (sym (drop-cons l i 0 h))
-
-  pub map_end : (l : List ℕ) (i : ℕ) → length l ≤ i → take i l ++ map f (drop i l) ≡ l
-  map_end l i h = ap₂ (λ (x y : List ℕ). x ++ map f y) (take_all i l h) (drop_of_length-le l h) ∙ append-nil l
-
   map_over : (xs l : List ℕ) → map f (over xs l) ≡ over (map f xs) (map f l)
   unfolding over
   map_over [] l = refl
   map_over (x ∷ xs) [] = refl
   map_over (x ∷ xs) (y ∷ l) = ap (λ (m : List ℕ). f x ∷ m) (map_over xs l)
 
+same_upper : (c : ℕ) → to_ascii_uppercase c ≡ upper c
+same_upper c = by (ltb c 97) refl
+  where
+    high : (b : Bool) → ltb c 123 ≡ b → 97 ≤ c → cond b (c - 32) c ≡ upper c
+    high true e h = simp (le-leb 97 c h, le-leb c 122 (omega (arith, ltb-true c 123 e)))
+    high false e h = simp (le-leb 97 c h, lt-leb c 122 (omega (arith, ltb-false c 123 e)))
+
+    by : (b : Bool) → ltb c 97 ≡ b → to_ascii_uppercase c ≡ upper c
+    by true e = simp (e, lt-leb 97 c (ltb-true c 97 e))
+    by false e = simp e (high (ltb c 123) refl (ltb-false c 97 e))
+
+map_same : (l : List ℕ) → map to_ascii_uppercase l ≡ map upper l
+map_same [] = refl
+map_same (x ∷ l) = ap₂ (λ (y : ℕ) (m : List ℕ). y ∷ m) (same_upper x) (map_same l)
+
 -- zeros have no case: the password may be padded first
-pub keys_padded : (password : List ℕ) → map upper (over password (replicate 14 0)) ≡ lm_keys password
+pub keys_padded : (password : List ℕ) → map to_ascii_uppercase (fixed 14 (part 0 14 password)) ≡ lm_keys password
 unfolding lm_keys
-keys_padded password = map_over upper password (replicate 14 0)
+keys_padded password =
+    ap (map to_ascii_uppercase) (fixed_front 14 password) ∙ map_same (fixed 14 password)
+    ∙ map_over upper password (replicate 14 0)
 
 -- ---- two blocks under the first and the second seven octets of a run
 

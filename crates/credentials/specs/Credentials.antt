@@ -1,6 +1,7 @@
 -- Hashes, responses and the sealed password (RFC 2433, appendix A), over lists of octets.
 -- Assumes nothing: these are definitions.
-use Rattle.std.specs.Prelude.{Bool, cond, not, ◌||◌, List, [], ◌∷◌, ◌++◌, map, ◌≡◌, ℕ, ◌+◌, ◌-◌, ◌*◌, ◌%◌, ◌≤◌, eqb, ltb, length, take, replicate}
+use Rattle.std.specs.Prelude.{Bool, cond, not, ◌||◌, List, [], ◌∷◌, ◌++◌, map, ◌≡◌, ℕ, ◌+◌, ◌-◌}
+use Rattle.std.specs.Prelude.{◌*◌, ◌%◌, ◌≤◌, eqb, ltb, length, take, Result, Ok, Err}
 use Rattle.std.proofs.Math.Option.{Option, none, some}
 use Rattle.octets.specs.Parts.{part, fixed}
 use Rattle.octets.specs.Numbers.{from_le, to_le}
@@ -9,11 +10,11 @@ use Rattle.md4.specs.Md4.{md4_of}
 use Rattle.des.specs.Des.{des_encrypt, des_decrypt, des_three}
 use Rattle.des.specs.Stored.{three_schedules, three_under}
 use Rattle.rc4.specs.Rc4.{crypted}
-use Rattle.credentials.specs.declared.Hashed.{Hashed}
+use Rattle.refusals.specs.declared.Refusal.{Refusal}
+use Rattle.refusals.specs.declared.Refusal.TheVariants.{Input, Filler}
 use Rattle.credentials.specs.declared.Content.{Content}
 use Rattle.credentials.specs.declared.Content.TheVariants.{Over, Odd, Password}
 use Rattle.credentials.specs.declared.Unsealed.{Unsealed}
-use Rattle.credentials.specs.declared.Sealed.{Sealed}
 
 -- ---- sizes, in octets
 
@@ -74,14 +75,14 @@ lm_hash_of password = des_encrypt (part 0 7 (lm_keys password)) std_text
 abbrev pub bad_lm_password : List ℕ → Bool
 bad_lm_password password = ltb longest_lm (length password)
 
--- what the public functions answer: the hash, or 8 and sixteen octets 0
-abbrev pub hash_answer : Bool → List ℕ → Hashed
-hash_answer bad hash = record { refusal = cond bad 8 0; hash = cond bad (replicate hash_size 0) hash }
+-- what the public functions answer: the hash, or a refusal
+abbrev pub hash_answer : Bool → List ℕ → Result (List ℕ) Refusal
+hash_answer bad hash = cond bad (Err Input) (Ok hash)
 
-abbrev pub nt_hashed : List ℕ → Hashed
+abbrev pub nt_hashed : List ℕ → Result (List ℕ) Refusal
 nt_hashed password = hash_answer (bad_nt_password password) (nt_hash_of password)
 
-abbrev pub lm_hashed : List ℕ → Hashed
+abbrev pub lm_hashed : List ℕ → Result (List ℕ) Refusal
 lm_hashed password = hash_answer (bad_lm_password password) (lm_hash_of password)
 
 -- ---- responses
@@ -149,16 +150,10 @@ abbrev pub bad_filler : List ℕ → Bool
 bad_filler filler = not (eqb (length filler) longest_nt)
 
 -- refusals 8, then 12
-unfoldable pub seal_refusal : List ℕ → List ℕ → ℕ
-seal_refusal password filler = cond (bad_nt_password password) 8 (cond (bad_filler filler) 12 0)
-
-unfoldable pub sealed_as : List ℕ → List ℕ → List ℕ → Sealed
+unfoldable pub sealed_as : List ℕ → List ℕ → List ℕ → Result (List ℕ) Refusal
 sealed_as old password filler =
-    record {
-      refusal = seal_refusal password filler;
-      block = cond (eqb (seal_refusal password filler) 0) (sealed_block old filler password)
-          (replicate block_size 0);
-    }
+    cond (bad_nt_password password) (Err Input)
+    (cond (bad_filler filler) (Err Filler) (Ok (sealed_block old filler password)))
 
 -- the length that an opened block gives
 abbrev pub length_in : List ℕ → ℕ

@@ -1,14 +1,20 @@
 // Hashes, responses and the sealed password of MS-CHAP (RFC 2433, appendix A).
 #![tactic(auto)]
 
-ghost use Rattle.std.specs.Prelude.{◌≡◌, cond, ◌++◌, ◌^◌, ◌≤◌, ◌<◌, length};
+ghost use Rattle.std.specs.Prelude.{◌≡◌, ◌++◌, ◌^◌, ◌≤◌, ◌<◌, length};
 ghost use Rattle.octets.specs.Parts.{fixed};
 ghost use Rattle.octets.specs.Numbers.{to_le};
 ghost use Rattle.des.specs.Stored.{keys_in};
 ghost use Rattle.rc4.specs.Rc4.{crypted};
-ghost use Rattle.credentials.specs.Credentials.{longest_nt, keys_size, upper, bad_nt_password, lm_keys, nt_hashed, lm_hashed, response_of, schedules_of, encode_keys, response_under, halves_under, old_under_new, hash_under_challenge, hash_from_challenge, plain_block, bad_filler, seal_refusal, sealed_as, length_in, content_for, length_told, password_length, unsealed_as};
+ghost use Rattle.credentials.specs.Credentials.{longest_nt, keys_size, bad_nt_password, lm_keys};
+ghost use Rattle.credentials.specs.Credentials.{nt_hashed, lm_hashed, response_of, schedules_of};
+ghost use Rattle.credentials.specs.Credentials.{encode_keys, response_under, halves_under};
+ghost use Rattle.credentials.specs.Credentials.{old_under_new, hash_under_challenge};
+ghost use Rattle.credentials.specs.Credentials.{hash_from_challenge, plain_block, bad_filler};
+ghost use Rattle.credentials.specs.Credentials.{sealed_as, length_in, content_for, length_told};
+ghost use Rattle.credentials.specs.Credentials.{password_length, unsealed_as};
 
-use refusals::refuse_if;
+use refusals::Refusal;
 
 // Sizes in octets: a hash, the longest password for NT and for LM, a response's keys (three DES
 // keys of 7 octets), and a password's block (room for the longest one, and its length).
@@ -28,20 +34,6 @@ pub const SCHEDULES_SIZE: usize = 3 * 16;
 // The same in octets.
 pub const STORED_SIZE: usize = 8 * SCHEDULES_SIZE;
 
-// A hash, or a refusal (8) with sixteen octets 0. 0 is no refusal.
-#[derive(Clone, Copy)]
-pub struct Hashed {
-    pub refusal: u8,
-    pub hash: [u8; HASH_SIZE],
-}
-
-// A sealed password, or a refusal (8, 12) with octets 0. 0 is no refusal.
-#[derive(Clone, Copy)]
-pub struct Sealed {
-    pub refusal: u8,
-    pub block: [u8; BLOCK_SIZE],
-}
-
 // What an opened block holds: a length over 512, an odd length, or a password of this many octets.
 #[derive(Clone, Copy)]
 pub enum Content {
@@ -50,8 +42,8 @@ pub enum Content {
     Password(usize),
 }
 
-// An opened block: what it holds, and its octets, of which a password is the last. (An enum can
-// hold no array.)
+// An opened block: what it holds, and its octets, of which a password is the last. They stand
+// beside it, as they are hashed whatever it holds, so that the time does not tell which it is.
 #[derive(Clone, Copy)]
 pub struct Unsealed {
     pub content: Content,
@@ -69,42 +61,21 @@ pub fn is_bad_nt_password(password: &[u8]) -> bool
 
 // A.6, NtPasswordHash(): the password's octets as passed, 0 to 512 of them, an even number; else
 // refusal 8.
-pub fn nt_hash(password: &[u8]) -> Hashed
+pub fn nt_hash(password: &[u8]) -> Result<[u8; HASH_SIZE], Refusal>
     ensures { result ≡ nt_hashed password.now }
 {
     if is_bad_nt_password(password) {
-        return Hashed {
-            refusal: 8,
-            hash: [0; HASH_SIZE],
-        };
+        return Err(Refusal::Input);
     }
-    let hash = md4::md4(password).digest;
-    Hashed { refusal: 0, hash }
-}
-
-fn upper_case(c: u8) -> u8
-    ensures { result ≡ upper c }
-{
-    if c < 97 {
-        return c;
-    }
-    if 122 < c {
-        return c;
-    }
-    c - 32
+    md4::md4(password)
 }
 
 // The upper-cased password, zero-padded to 14 octets.
 fn lm_keys(password: &[u8]) -> [u8; LONGEST_LM]
     ensures { result ≡ lm_keys password.now }
 {
-    let mut keys = [0u8; LONGEST_LM];
-    octets::copy(&mut keys, password);
-    let mut i: usize = 0;
-    while i < LONGEST_LM {
-        keys[i] = upper_case(keys[i]);
-        i += 1;
-    }
+    let mut keys = octets::array_at(password, 0);
+    keys.make_ascii_uppercase();
     keys
 }
 
@@ -112,28 +83,21 @@ fn lm_keys(password: &[u8]) -> [u8; LONGEST_LM]
 fn joined(a: [u8; 8], b: [u8; 8]) -> [u8; HASH_SIZE]
     ensures { result ≡ a ++ b }
 {
-    [
-        a[0], a[1], a[2], a[3], a[4], a[5], a[6], a[7], b[0], b[1], b[2], b[3], b[4], b[5], b[6],
-        b[7],
-    ]
+    octets::array_at([a, b].as_flattened(), 0)
 }
 
 // A.2, LmPasswordHash(): at most 14 octets, else refusal 8; a longer password is never cut.
-pub fn lm_hash(password: &[u8]) -> Hashed
+pub fn lm_hash(password: &[u8]) -> Result<[u8; HASH_SIZE], Refusal>
     ensures { result ≡ lm_hashed password.now }
 {
     if LONGEST_LM < password.len() {
-        return Hashed {
-            refusal: 8,
-            hash: [0; HASH_SIZE],
-        };
+        return Err(Refusal::Input);
     }
     let keys = lm_keys(password);
     let text = *b"KGS!@#$%";
     let first = des::encrypt(octets::array_at(&keys, 0), text);
     let second = des::encrypt(octets::array_at(&keys, 7), text);
-    let hash = joined(first, second);
-    Hashed { refusal: 0, hash }
+    Ok(joined(first, second))
 }
 
 // ---- responses
@@ -142,9 +106,7 @@ pub fn lm_hash(password: &[u8]) -> Hashed
 fn response_keys(hash: [u8; HASH_SIZE]) -> [u8; KEYS_SIZE]
     ensures { result ≡ fixed keys_size hash }
 {
-    let mut keys = [0u8; KEYS_SIZE];
-    octets::copy(&mut keys, &hash);
-    keys
+    octets::array_at(&hash, 0)
 }
 
 // A.7, ChallengeResponse().
@@ -172,13 +134,7 @@ fn eight_octets(x: u64) -> [u8; 8]
 pub fn key_octets(keys: [u64; SCHEDULES_SIZE]) -> [u8; STORED_SIZE]
     ensures { (result ≡ encode_keys keys) × (keys_in result ≡ keys) }
 {
-    let mut r = [0u8; STORED_SIZE];
-    let mut i: usize = 0;
-    while i < SCHEDULES_SIZE {
-        octets::copy_at(&mut r, 8 * i, &eight_octets(keys[i]));
-        i += 1;
-    }
-    r
+    octets::array_at(keys.map(eight_octets).as_flattened(), 0)
 }
 
 // A.7 under stored round keys, which are lent in octets: those of another number of octets are
@@ -250,49 +206,39 @@ pub fn is_bad_filler(filler: &[u8]) -> bool
     filler.len() != LONGEST_NT
 }
 
-// 8, then 12; 0 is none.
-fn seal_refusal(password: &[u8], filler: &[u8]) -> u8
-    ensures { result ≡ seal_refusal password.now filler.now }
-{
-    refuse_if(
-        is_bad_nt_password(password),
-        8,
-        refuse_if(is_bad_filler(filler), 12, 0),
-    )
-}
-
 // A.12, EncryptPwBlockWithPasswordHash(): the password under the old hash. Refusals 8 (password),
 // then 12 (filler).
-pub fn seal(old: [u8; HASH_SIZE], password: &[u8], filler: &[u8]) -> Sealed
+pub fn seal(
+    old: [u8; HASH_SIZE],
+    password: &[u8],
+    filler: &[u8],
+) -> Result<[u8; BLOCK_SIZE], Refusal>
     ensures { result ≡ sealed_as old password.now filler.now }
 {
-    let refusal = seal_refusal(password, filler);
-    if refusal != 0 {
-        return Sealed {
-            refusal,
-            block: [0; BLOCK_SIZE],
-        };
+    if is_bad_nt_password(password) {
+        return Err(Refusal::Input);
+    }
+    if is_bad_filler(filler) {
+        return Err(Refusal::Filler);
     }
     let mut block = plain_block(password, filler);
-    rc4::rc4(&old, &mut block);
-    Sealed { refusal: 0, block }
-}
-
-// A content where a test holds, and else the rest: the order of the tests is composed by this.
-fn content_if(test: bool, content: Content, rest: Content) -> Content
-    ensures { result ≡ cond test content rest }
-{
-    if test { content } else { rest }
+    rc4::rc4(&old, &mut block)?;
+    Ok(block)
 }
 
 // What a length of the opened block says: over 512 before odd.
+#[tactic(auto, unfolding(crate::specs::Credentials::content_for))]
 fn content_of(n: u32) -> Content
     ensures { result ≡ content_for n }
 {
-    let over = (LONGEST_NT as u32) < n;
-    let odd = n % 2 == 1;
-    let even = content_if(odd, Content::Odd, Content::Password(n as usize));
-    content_if(over, Content::Over, even)
+    let n = n as usize;
+    if LONGEST_NT < n {
+        return Content::Over;
+    }
+    if n % 2 == 1 {
+        return Content::Odd;
+    }
+    Content::Password(n)
 }
 
 // Opens a block under the old hash.
@@ -301,9 +247,10 @@ pub fn unseal(old: [u8; HASH_SIZE], block: [u8; BLOCK_SIZE]) -> Unsealed
         × (length_told result.content ≡ password_length (length_in (crypted old block))) }
 {
     let mut plain = block;
-    rc4::rc4(&old, &mut plain);
+    rc4::rc4(&old, &mut plain).unwrap();
     let content = content_of(octets::u32_from_le(plain[512], plain[513], plain[514], plain[515]));
-    let mut octets = [0u8; LONGEST_NT];
-    octets::copy(&mut octets, &plain);
-    Unsealed { content, octets }
+    Unsealed {
+        content,
+        octets: octets::array_at(&plain, 0),
+    }
 }

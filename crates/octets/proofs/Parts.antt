@@ -149,6 +149,18 @@ length_part a n l h = length-take-le n (drop a l) (omega (arith, length-drop a l
 pub fixed_part : (a n : ℕ) (l : List ℕ) → a + n ≤ length l → fixed n (part a n l) ≡ part a n l
 fixed_part a n l h = fixed_same n (part a n l) (length_part a n l h)
 
+-- what of a list finds no place does not count
+over_front : (xs l : List ℕ) → over (take (length l) xs) l ≡ over xs l
+unfolding over
+over_front [] [] = refl
+over_front [] (y ∷ l) = refl
+over_front (x ∷ xs) [] = refl
+over_front (x ∷ xs) (y ∷ l) = ap (λ (m : List ℕ). x ∷ m) (over_front xs l)
+
+pub fixed_front : (n : ℕ) (l : List ℕ) → fixed n (part 0 n l) ≡ fixed n l
+fixed_front n l =
+    ap (λ (k : ℕ). over (take k l) (replicate n 0)) (sym (length-replicate {A = ℕ} n 0)) ∙ over_front l (replicate n 0)
+
 -- a list of n octets, taken whole
 pub fixed_whole : (n : ℕ) (l : List ℕ) → length l ≡ n → fixed n (part 0 n l) ≡ l
 fixed_whole n l e = ap (fixed n) (take_all n l (omega arith)) ∙ fixed_same n l e

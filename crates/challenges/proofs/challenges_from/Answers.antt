@@ -1,32 +1,26 @@
-use Rattle.std.proofs.Common.{◌*◌, length, sym, refl, ap, ◌∙◌, arith, rules}
+use Rattle.std.proofs.Common.{length-set, refl, ap, ◌∙◌, arith}
 use mathlib.Core.List.{flatten}
-use Rattle.octets.proofs.Parts.{length_over_at}
+use Rattle.octets.proofs.Parts.{fixed_whole}
 use Rattle.challenges.specs.Challenges.{challenges_from}
-use Rattle.challenges.proofs.Laid.{laid_next, laid_all}
+use Rattle.challenges.proofs.Laid.{laid_next, laid_all, flat_flatten}
 use Rattle.challenges.proofs.challenges_from.Goals as goal
 
-pub loop-i-init : goal.loop-i-init
-loop-i-init c = (omega arith, refl, search rules, refl)
+pub loop-place-init : goal.loop-place-init
+loop-place-init c = (refl, refl)
 
-pub slice_bounds-copy_at-end : goal.slice_bounds-copy_at-end
-slice_bounds-copy_at-end c = sym c.loop-i.invariant.1
-
-pub slice_bounds-copy_at-end-in-loop-i : goal.slice_bounds-copy_at-end-in-loop-i
-slice_bounds-copy_at-end-in-loop-i c = sym c.loop-i.invariant.2
-
-pub loop-i-preserved : goal.loop-i-preserved
-loop-i-preserved c =
-    let k = c in
-    let h = k in
-    let l = h.loop-i in (
-      omega arith,
-      ap length k.copy_at.ensures ∙ length_over_at (8 * l.i) l.next l.run ∙ l.invariant.1,
-      search rules,
-      laid_next l.run l.next (flatten (challenges_from 8 h.args.challenge)) l.i (omega arith) l.invariant.1 l.invariant.2 k.copy_at.ensures c.incremented-next.ensures
-          l.invariant.3,
+pub loop-place-preserved : goal.loop-place-preserved
+loop-place-preserved c =
+    let l = c.loop-place in (
+      simp length-set l.invariant.0,
+      laid_next l.place-items l.next (challenges_from 8 c.args.challenge) l.place-index (omega arith) l.invariant.0
+          c.incremented-after.ensures l.invariant.1,
     )
 
 pub returns : goal.returns
 returns c =
-    let l = c.loop-i in
-    laid_all l.run l.next (flatten (challenges_from 8 c.args.challenge)) l.i (omega arith) l.invariant.1 l.invariant.3
+    let l = c.loop-place in
+    let all = challenges_from 8 c.args.challenge in
+    c.array_at.ensures
+    ∙ fixed_whole 64 c.as_flattened.result.now (omega (arith, l.invariant.0, c.as_flattened.ensures.len))
+    ∙ c.as_flattened.ensures.value ∙ flat_flatten l.place-items
+    ∙ ap flatten (laid_all l.place-items l.next all l.place-index (omega arith) l.invariant.0 l.invariant.1)

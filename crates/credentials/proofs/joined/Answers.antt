@@ -1,15 +1,14 @@
 -- `credentials::joined` meets its contract.
 -- Assumes nothing.
-use borrow.Author.Rules.{rules}
-use mathlib.Core.Path.{◌≡◌, sym, ap₂}
-use mathlib.Core.List.{◌++◌}
-use lib.ListN.{length}
-use Rattle.octets.proofs.Listed.{written}
+use mathlib.Core.Path.{ap, ◌∙◌}
+use mathlib.Core.List.{List, ◌++◌, append-nil}
+use native.Mathlib.Omega.{arith}
+use Rattle.octets.proofs.Parts.{fixed_whole}
 use Rattle.credentials.proofs.joined.Goals as goal
 
 pub returns : goal.returns
 returns c =
     let a = c.args in
-    let m : length a.a ≡ 8 = search rules in
-    let n : length a.b ≡ 8 = search rules in
-    ap₂ ◌++◌ (sym (written 8 a.a m)) (sym (written 8 a.b n))
+    c.array_at.ensures
+    ∙ fixed_whole 16 c.as_flattened.result.now (omega (arith, c.as_flattened.ensures.len))
+    ∙ c.as_flattened.ensures.value ∙ ap (λ (l : List _). a.a ++ l) (append-nil a.b)

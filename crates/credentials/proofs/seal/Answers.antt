@@ -1,30 +1,29 @@
 -- `credentials::seal` meets its contract.
 -- Assumes nothing.
-use borrow.Author.Tests.{not-false, eqb-true}
-use mathlib.Core.Bool.{false}
 use mathlib.Core.List.{List}
-use mathlib.Core.Path.{◌≡◌, sym, ap, ◌∙◌}
+use mathlib.Core.Path.{sym, ap, ◌∙◌}
 use Prim.Native.Nat.{ℕ}
-use lib.ListN.{length}
+use Rattle.std.specs.Prelude.{Result, Ok}
+use Rattle.refusals.specs.declared.Refusal.{Refusal}
 use Rattle.rc4.specs.Rc4.{crypted}
-use Rattle.credentials.specs.Credentials.{bad_nt_password, bad_filler, sealed_block}
-use Rattle.credentials.proofs.Laws.{good_password, sealed_refused, sealed_good, seal_fits}
+use Rattle.credentials.specs.Credentials.{sealed_block, sealed_as}
+use Rattle.credentials.proofs.Laws.{sealed_good}
 use Rattle.credentials.proofs.seal.Goals as goal
 
-pub plain_block-block-requires : goal.plain_block-block-requires
-plain_block-block-requires c =
-    let fine : (bad_nt_password c.args.password.now ≡ false) × (bad_filler c.args.filler.now ≡ false) =
-    seal_fits c.args.old c.args.password.now c.args.filler.now (sym c.seal_refusal-refusal.ensures ∙ c.if-refusal-ne0.false) in
-    ((good_password c.args.password.now fine.0).0, eqb-true (length c.args.filler.now) 512 (not-false _ fine.1))
+pub returns-then-is_bad_nt_password : goal.returns-then-is_bad_nt_password
+unfolding sealed_as
+returns-then-is_bad_nt_password c = simp (sym c.is_bad_nt_password.ensures ∙ c.if-is_bad_nt_password.true)
 
--- ---- the answers
-pub returns-then-refusal-ne0 : goal.returns-then-refusal-ne0
-returns-then-refusal-ne0 c = sealed_refused c.args.old c.args.password.now c.args.filler.now c.seal_refusal-refusal.ensures c.if-refusal-ne0.true
+pub returns-then-is_bad_filler : goal.returns-then-is_bad_filler
+unfolding sealed_as
+returns-then-is_bad_filler c =
+    simp (sym c.is_bad_nt_password.ensures ∙ c.if-is_bad_nt_password.false, sym c.is_bad_filler.ensures ∙ c.if-is_bad_filler.true)
 
 pub returns : goal.returns
 unfolding sealed_block
 returns c =
-    let fine : (bad_nt_password c.args.password.now ≡ false) × (bad_filler c.args.filler.now ≡ false) =
-    seal_fits c.args.old c.args.password.now c.args.filler.now (sym c.seal_refusal-refusal.ensures ∙ c.if-refusal-ne0.false) in
-    ap (λ (x : List ℕ). record { refusal = 0; block = x }) (c.rc4.ensures.1 ∙ ap (crypted c.args.old) c.plain_block-block.ensures)
-    ∙ sym (sealed_good c.args.old c.args.password.now c.args.filler.now fine.0 fine.1)
+    let a = c.args in
+    let good = sym c.is_bad_nt_password.ensures ∙ c.if-is_bad_nt_password.false in
+    let full = sym c.is_bad_filler.ensures ∙ c.if-is_bad_filler.false in
+    ap {B = Result (List ℕ) Refusal} (λ (x : List ℕ). Ok x) (c.rc4.ensures.1 ∙ ap (crypted a.old) c.plain_block-block.ensures)
+    ∙ sym (sealed_good a.old a.password.now a.filler.now good full)
