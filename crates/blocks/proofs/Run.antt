@@ -1,40 +1,24 @@
 -- Laws of the run over blocks: a block and then the rest, a run over two parts, and the whole
 -- padded message as its whole blocks and its tail.
 -- Assumes nothing.
-use mathlib.Core.Path.{◌≡◌, sym, ap, ap₂, ◌∙◌}
+use mathlib.Core.Path.{◌≡◌, refl, sym, ap, ap₂, ◌∙◌}
 use mathlib.Core.List.{List, ◌∷◌, ◌++◌}
-use Prim.Native.Nat.{ℕ, zero, suc, ◌+◌, ◌-◌, ◌*◌, ◌/◌, ◌≤◌, ◌<◌}
+use Prim.Native.Nat.{ℕ, zero, suc, ◌+◌, ◌-◌, ◌*◌, ◌/◌, ◌≤◌}
 use native.Mathlib.Nat.{zero-add, suc-add, zero-mul}
 use native.Mathlib.Omega.{arith}
 use lib.ListN.{length, take, drop, replicate, length-drop, length-append, length-replicate}
 use lib.Seq.{take-append-le, drop-append-le, drop-drop, take_at}
+use Rattle.std.specs.List.{fold}
+use Rattle.std.specs.Simd.{first_chunks}
 use Rattle.blocks.specs.declared.Tail.{Tail}
 use Rattle.blocks.specs.Blocks.{run_blocks, zeros, padded, hash_blocks, tail_length, tail_of}
 
 module _ {S : Type 0} (f : List ℕ → S → S) where
-  -- of m octets, 64 at least: a block, and then the rest
-  run_more : (m : ℕ) (l : List ℕ) (s : S) → 64 ≤ m → run_blocks f (m / 64) l s ≡ run_blocks f ((m - 64) / 64) (drop 64 l) (f (take 64 l) s)
+  -- the blocks as a list of their own, one after the other
+  pub run_chunks : (n : ℕ) (l : List ℕ) (s : S) → fold (λ s b. f b s) s (first_chunks 64 n l) ≡ run_blocks f n l s
   unfolding run_blocks
-  run_more m l s h =
-      let e : m / 64 ≡ suc ((m - 64) / 64) = omega arith in
-      ap (λ (n : ℕ). run_blocks f n l s) e
-
-  -- fewer than 64: nothing
-  pub run_end : (m : ℕ) (l : List ℕ) (s : S) → m < 64 → run_blocks f (m / 64) l s ≡ s
-  unfolding run_blocks
-  run_end m l s h =
-      let e : m / 64 ≡ 0 = omega arith in
-      ap (λ (n : ℕ). run_blocks f n l s) e
-
-  -- a turn of a loop over the blocks of b, at i
-  pub run_turn : (b : List ℕ) (i : ℕ) (r : S) {q : S} → 64 ≤ length b - i → q ≡ f (take (i + 64 - i) (drop i b)) r
-      → run_blocks f ((length b - (i + 64)) / 64) (drop (i + 64) b) q ≡ run_blocks f ((length b - i) / 64) (drop i b) r
-  run_turn b i r {q} h e =
-      let n : i + 64 - i ≡ 64 = omega arith in
-      let k : length b - (i + 64) ≡ length b - i - 64 = omega arith in
-      ap₂ (λ (x : ℕ) (y : S). run_blocks f (x / 64) (drop (i + 64) b) y) k (e ∙ ap (λ (x : ℕ). f (take x (drop i b)) r) n)
-      ∙ ap (λ (x : List ℕ). run_blocks f ((length b - i - 64) / 64) x (f (take 64 (drop i b)) r)) (sym (drop-drop 64 i b))
-      ∙ sym (run_more (length b - i) (drop i b) r h)
+  run_chunks zero l s = refl
+  run_chunks (suc n) l s = run_chunks n (drop 64 l) (f (take 64 l) s)
 
   -- q blocks of a message that something follows, and then j of what is left
   run_append : (q j : ℕ) (m t : List ℕ) (s : S) → q * 64 ≤ length m

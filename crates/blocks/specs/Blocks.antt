@@ -2,7 +2,8 @@
 -- any function of a block and any way to write the length. MD4 is one (RFC 1320, 3.1, 3.2 and 3.4);
 -- SHA-1 pads alike and writes the length the other way round.
 -- Assumes nothing: these are definitions.
-use Rattle.std.specs.Prelude.{List, ◌∷◌, ◌++◌, ℕ, zero, suc, ◌+◌, ◌-◌, ◌*◌, ◌/◌, ◌%◌, length, take, drop, replicate}
+use Rattle.std.specs.Prelude.{List, ◌∷◌, ◌++◌, ℕ, zero, suc, ◌+◌, ◌-◌, ◌*◌, ◌/◌, ◌%◌, length, take}
+use Rattle.std.specs.Prelude.{drop, replicate}
 use Rattle.blocks.specs.declared.Tail.{Tail}
 
 -- the registers after the first n blocks of l; f is what a block does to the registers

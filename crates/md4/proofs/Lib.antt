@@ -1,2 +1,3 @@
-pub mod Rounds
+pub mod Auxiliary
+pub mod Table
 pub mod Laws

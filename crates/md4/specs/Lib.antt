@@ -1,1 +1,2 @@
 pub mod Md4
+pub mod Inner

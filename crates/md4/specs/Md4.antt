@@ -1,11 +1,14 @@
 -- MD4 (RFC 1320), over lists of octets. A word is a number below 2 ^ 32.
 -- Assumes nothing: these are definitions.
-use Rattle.std.specs.Prelude.{ℕ, zero, suc, ◌+◌, ◌-◌, ◌*◌, ◌/◌, ◌%◌, ◌^◌, cond, List, [], ◌∷◌, ◌++◌, length, replicate, bit_and, bit_or, bit_xor, nat_le, slice_index}
+use Rattle.std.specs.Prelude.{ℕ, zero, suc, ◌+◌, ◌-◌, ◌*◌, ◌/◌, ◌%◌, ◌^◌, cond, List, [], ◌∷◌, ◌++◌}
+use Rattle.std.specs.Prelude.{length, Result, Ok, Err, bit_and, bit_or, bit_xor, nat_le}
+use Rattle.std.specs.Prelude.{slice_index}
 use Rattle.octets.specs.Parts.{part}
 use Rattle.octets.specs.Numbers.{from_le, to_le}
 use Rattle.blocks.specs.Blocks.{hash_blocks}
+use Rattle.refusals.specs.declared.Refusal.{Refusal}
+use Rattle.refusals.specs.declared.Refusal.TheVariants.{Input}
 use Rattle.md4.specs.declared.Registers.{Registers}
-use Rattle.md4.specs.declared.Digested.{Digested}
 
 -- section 2: the sum of two words, and a word rotated to the left by s bits (0 < s < 32)
 abbrev pub plus : ℕ → ℕ → ℕ
@@ -41,27 +44,22 @@ operations aux add x [] r = r
 operations aux add x (e ∷ t) r = operations aux add x t
     (operation aux add e.1 (slice_index x e.0) r)
 
--- four operations in a row, as the code does them; each register is then in its own place again
-unfoldable pub row : (ℕ → ℕ → ℕ → ℕ) → ℕ → ℕ → ℕ → ℕ → ℕ → ℕ → ℕ → ℕ → ℕ → Registers → Registers
-row aux add s₀ s₁ s₂ s₃ x₀ x₁ x₂ x₃ r = operation aux add s₃ x₃
-    (operation aux add s₂ x₂ (operation aux add s₁ x₁ (operation aux add s₀ x₀ r)))
-
 -- the tables of the three rounds, a row for each row of the RFC
-unfoldable pub table1 : List (ℕ × ℕ)
+abbrev pub table1 : List (ℕ × ℕ)
 table1 =
     (0, 3) ∷ (1, 7) ∷ (2, 11) ∷ (3, 19)
     ∷ (4, 3) ∷ (5, 7) ∷ (6, 11) ∷ (7, 19)
     ∷ (8, 3) ∷ (9, 7) ∷ (10, 11) ∷ (11, 19)
     ∷ (12, 3) ∷ (13, 7) ∷ (14, 11) ∷ (15, 19) ∷ []
 
-unfoldable pub table2 : List (ℕ × ℕ)
+abbrev pub table2 : List (ℕ × ℕ)
 table2 =
     (0, 3) ∷ (4, 5) ∷ (8, 9) ∷ (12, 13)
     ∷ (1, 3) ∷ (5, 5) ∷ (9, 9) ∷ (13, 13)
     ∷ (2, 3) ∷ (6, 5) ∷ (10, 9) ∷ (14, 13)
     ∷ (3, 3) ∷ (7, 5) ∷ (11, 9) ∷ (15, 13) ∷ []
 
-unfoldable pub table3 : List (ℕ × ℕ)
+abbrev pub table3 : List (ℕ × ℕ)
 table3 =
     (0, 3) ∷ (8, 9) ∷ (4, 11) ∷ (12, 15)
     ∷ (2, 3) ∷ (10, 9) ∷ (6, 11) ∷ (14, 15)
@@ -69,13 +67,13 @@ table3 =
     ∷ (3, 3) ∷ (11, 9) ∷ (7, 11) ∷ (15, 15) ∷ []
 
 -- round 1 adds no constant, round 2 the square root of 2, round 3 that of 3
-unfoldable pub round1 : List ℕ → Registers → Registers
+abbrev pub round1 : List ℕ → Registers → Registers
 round1 x = operations aux_f 0 x table1
 
-unfoldable pub round2 : List ℕ → Registers → Registers
+abbrev pub round2 : List ℕ → Registers → Registers
 round2 x = operations aux_g 0x5a827999 x table2
 
-unfoldable pub round3 : List ℕ → Registers → Registers
+abbrev pub round3 : List ℕ → Registers → Registers
 round3 x = operations aux_h 0x6ed9eba1 x table3
 
 -- each register, increased by the value it had before the block
@@ -113,10 +111,6 @@ digest_of r = to_le 4 r.a ++ (to_le 4 r.b ++ (to_le 4 r.c ++ to_le 4 r.d))
 unfoldable pub md4_of : List ℕ → List ℕ
 md4_of m = digest_of (hash_blocks block (to_le 8) initial_registers m)
 
--- what the public function answers: the digest of at most 4,096 octets, else refusal 8 and sixteen
--- octets 0
-unfoldable pub md4_answer : List ℕ → Digested
-md4_answer m =
-    cond (nat_le (length m) 4096)
-    (record { refusal = 0; digest = md4_of m })
-    (record { refusal = 8; digest = replicate 16 0 })
+-- what the public function answers: the digest of at most 4,096 octets, else a refusal
+unfoldable pub md4_answer : List ℕ → Result (List ℕ) Refusal
+md4_answer m = cond (nat_le (length m) 4096) (Ok (md4_of m)) (Err Input)

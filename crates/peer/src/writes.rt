@@ -1,36 +1,12 @@
 // The peer's packets. Refusals go 8, 10, 12, 9; a refusal writes nothing.
-ghost use Rattle.std.specs.Prelude.{◌≡◌, cond};
-ghost use Rattle.credentials.specs.Credentials.{bad_nt_password, bad_filler, nt_hash_of, sealed_block};
+ghost use Rattle.std.specs.Prelude.{◌≡◌};
 ghost use Rattle.packets.specs.Frame.{written_as};
 ghost use Rattle.peer.specs.Write.{response_fields_of, change_fields_of, change_one_fields_of};
 ghost use Rattle.peer.specs.Write.{write_response, write_change, write_change_one};
-ghost use Rattle.refusals.specs.declared.Refusal.TheVariants.{Input, Filler};
 
 use crate::Turn;
 use packets::{ANSWER_SIZE, BLOCK_SIZE, CHALLENGE_SIZE, Change, ChangeOne, HASH_SIZE, Response};
 use refusals::Refusal;
-
-fn nt_hash(password: &[u8]) -> Result<[u8; 16], Refusal>
-    ensures { result ≡ cond (bad_nt_password password.now) (Err Input) (Ok (nt_hash_of password.now)) }
-{
-    if credentials::is_bad_nt_password(password) {
-        return Err(Refusal::Input);
-    }
-    Ok(credentials::nt_hash(password).hash)
-}
-
-fn seal(old: [u8; 16], password: &[u8], filler: &[u8]) -> Result<[u8; BLOCK_SIZE], Refusal>
-    ensures { result ≡ cond (bad_nt_password password.now) (Err Input)
-        (cond (bad_filler filler.now) (Err Filler) (Ok (sealed_block old filler.now password.now))) }
-{
-    if credentials::is_bad_nt_password(password) {
-        return Err(Refusal::Input);
-    }
-    if credentials::is_bad_filler(filler) {
-        return Err(Refusal::Filler);
-    }
-    Ok(credentials::seal(old, password, filler).block)
-}
 
 // The Response from an NT hash. The LM response is zero-filled.
 fn response_fields(hash: [u8; HASH_SIZE], challenge: [u8; CHALLENGE_SIZE]) -> Response
@@ -55,7 +31,7 @@ pub(crate) fn write_response(
         ≡ (write_response turn password.now name.now out.old).answer }
     ensures out { out.new ≡ (write_response turn password.now name.now out.old).out }
 {
-    let hash = nt_hash(password)?;
+    let hash = credentials::nt_hash(password)?;
     let fields = response_fields(hash, turn.challenge);
     packets::write_response(turn.id, fields, name, out)
 }
@@ -95,9 +71,9 @@ pub(crate) fn write_change(
         ≡ (write_change turn old.now new.now filler.now out.old).answer }
     ensures out { out.new ≡ (write_change turn old.now new.now filler.now out.old).out }
 {
-    let before = nt_hash(old)?;
-    let after = nt_hash(new)?;
-    let block = seal(before, new, filler)?;
+    let before = credentials::nt_hash(old)?;
+    let after = credentials::nt_hash(new)?;
+    let block = credentials::seal(before, new, filler)?;
     let fields = change_fields(before, after, block, turn.challenge);
     packets::write_change(turn.id, fields, out)
 }
@@ -133,8 +109,8 @@ pub(crate) fn write_change_one(
         ≡ (write_change_one turn old.now new.now out.old).answer }
     ensures out { out.new ≡ (write_change_one turn old.now new.now out.old).out }
 {
-    let before = nt_hash(old)?;
-    let after = nt_hash(new)?;
+    let before = credentials::nt_hash(old)?;
+    let after = credentials::nt_hash(new)?;
     let fields = change_one_fields(before, after, turn.challenge);
     packets::write_change_one(turn.id, fields, out)
 }

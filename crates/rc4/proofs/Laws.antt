@@ -1,13 +1,16 @@
 -- The laws of RC4 for other crates to cite: lengths, a second run that undoes the first, a run over
 -- two parts, and which keys are taken.
 -- Assumes nothing.
-use Rattle.std.proofs.Common.{◌≡◌, ℕ, zero, suc, ◌+◌, ◌≤◌, Bool, true, false, cond, ◌&&◌, eqb, leb, List, [], ◌∷◌, ◌++◌, length, refl, ap, ap₂, suc-add, zero-add, le-leb, leb-true}
+use Rattle.std.proofs.Common.{◌≡◌, ℕ, zero, suc, ◌+◌, ◌≤◌, Bool, true, false, cond, ◌&&◌, leb, List, [], ◌∷◌, ◌++◌, length, refl, ap, ap₂, suc-add, zero-add, le-leb, leb-true}
 use mathlib.Core.Bool.{and-eq-true_iff}
 use lib.Bits.{bit_xor}
 use Rattle.octets.proofs.Xor.{xor_undo}
+use Rattle.std.specs.Prelude.{Result, Ok, Err}
+use Rattle.refusals.specs.Refusal.{told}
+use Rattle.refusals.specs.declared.Refusal.{Refusal}
+use Rattle.refusals.specs.declared.Refusal.TheVariants.{Input}
 use Rattle.rc4.specs.declared.State.{State}
-use Rattle.rc4.specs.declared.Keyed.{Keyed}
-use Rattle.rc4.specs.Rc4.{started, next_state, output_octet, keystream, later_state, xors, ciphered, key_fits, key_refusal, zero_state, keyed, crypted}
+use Rattle.rc4.specs.Rc4.{started, next_state, output_octet, keystream, later_state, xors, ciphered, key_fits, key_refusal, keyed, key_answer, crypted}
 
 -- ---- lengths
 
@@ -84,11 +87,33 @@ crypted_refused key d n = which (key_fits key) refl
     which true e = absurd (n (fits_bounds key e).0 (fits_bounds key e).1)
     which false e = (refl, refl)
 
--- one run by the refusal and the state that a key has
-pub crypted_keyed : (key d : List ℕ) {x : Keyed} → x ≡ keyed key → crypted key d ≡ cond (eqb x.refusal 0) (ciphered x.state d) d
-unfolding crypted keyed key_refusal
-crypted_keyed key d e = rw e (which (key_fits key))
+-- one run by the state that a key has, and without one
+module _ (key d : List ℕ) where
+  pub run_taken : (w : State) → Ok w ≡ keyed key
+      → (◌≡◌ {A = Result (Unit {0}) Refusal} (Ok tt) (key_answer key)) × (ciphered w d ≡ crypted key d)
+  unfolding keyed crypted
+  run_taken w = which (key_fits key)
+    where
+      which : (b : Bool) → Ok w ≡ cond b (Ok (started key)) (Err Input)
+          → (◌≡◌ {A = Result (Unit {0}) Refusal} (Ok tt) (cond b (Ok tt) (Err Input))) × (ciphered w d ≡ cond b (ciphered (started key) d) d)
+      which true e = let same : w ≡ started key = cc in (refl, ap (λ (v : State). ciphered v d) same)
+      which false e = absurd (cc)
+
+  pub run_refused : (r : Refusal) → Err r ≡ keyed key
+      → (◌≡◌ {A = Result (Unit {0}) Refusal} (Err r) (key_answer key)) × (d ≡ crypted key d)
+  unfolding keyed crypted
+  run_refused r = which (key_fits key)
+    where
+      which : (b : Bool) → Err r ≡ cond b (Ok (started key)) (Err Input)
+          → (◌≡◌ {A = Result (Unit {0}) Refusal} (Err r) (cond b (Ok tt) (Err Input))) × (d ≡ cond b (ciphered (started key) d) d)
+      which true e = absurd (cc)
+      which false e = let same : r ≡ Input = cc in (ap (λ (x : Refusal). Err x) same, refl)
+
+-- the number that a run's answer tells
+pub told_answer : (key : List ℕ) → told (key_answer key) ≡ key_refusal key
+unfolding key_refusal
+told_answer key = which (key_fits key)
   where
-    which : (b : Bool) → cond b (ciphered (started key) d) d ≡ cond (eqb (cond b 0 8) 0) (ciphered (cond b (started key) zero_state) d) d
+    which : (b : Bool) → told {A = Unit {0}} (cond b (Ok tt) (Err Input)) ≡ cond b 0 8
     which true = refl
     which false = refl

@@ -1,9 +1,11 @@
 -- One turn of each loop of the code: the identity, the key schedule, the data. The last two share
 -- the look-ahead.
 -- Assumes nothing.
-use Rattle.std.proofs.Common.{◌≡◌, ℕ, suc, ◌+◌, ◌%◌, ◌<◌, ◌≤◌, cond, eqb, List, [], ◌++◌, length, get_or, take, drop, set, sym, refl, ap, ◌∙◌, ap₂, append-nil, mod-lt, zero-lt-suc, add-one, arith, length-set, drop_of_length-le, take_all, drop-cons, take-suc-set, drop-set-lt}
+use Rattle.std.proofs.Common.{◌≡◌, ℕ, zero, suc, ◌∷◌, map, zero-add, ◌+◌, ◌%◌, ◌<◌, ◌≤◌, cond, eqb, List, [], ◌++◌, length, get_or, take, drop, set, sym, refl, ap, ◌∙◌, ap₂, append-nil, mod-lt, zero-lt-suc, add-one, arith, length-set, drop_of_length-le, take_all, drop-cons, take-suc-set, drop-set-lt}
 use native.Mathlib.Nat.{mod-add-mod}
 use lib.Bits.{bit_xor}
+use Rattle.std.specs.List.{range_with_len}
+use Rattle.std.proofs.lemmas.List.FromFn.{map-range_with_len_more}
 use lib.Seq.{append_snoc}
 use Rattle.rc4.specs.declared.State.{State}
 use Rattle.rc4.specs.Rc4.{swapped, upto, mix_j, mix, mixed, next_i, next_j, next_state, output_octet, keystream, later_state, xors, ciphered}
@@ -11,9 +13,12 @@ use Rattle.rc4.proofs.Exchange.{ahead, sum_swapped, length_swapped}
 
 -- ---- the identity
 
-pub upto_turn : (s : List ℕ) (i : ℕ) → i < length s → take i s ≡ upto i → take (i + 1) (set s i i) ≡ upto (i + 1)
+pub upto_range : (n : ℕ) → map (λ (k : ℕ). k) (range_with_len 0 n) ≡ upto n
 unfolding upto
-upto_turn s i h e = rw (add-one, take-suc-set s i, e)
+upto_range zero = refl
+upto_range (suc n) =
+    ap (λ (m : ℕ). map (λ (k : ℕ). k) (range_with_len 0 m)) (sym (add-one n))
+    ∙ map-range_with_len_more (λ (k : ℕ). k) 0 n n (zero-add n) ∙ ap (λ (l : List ℕ). l ++ n ∷ []) (upto_range n)
 
 -- ---- the look-ahead of both loops
 

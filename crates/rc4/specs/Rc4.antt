@@ -1,9 +1,11 @@
 -- RC4 over lists of octets: the key schedule, the keystream, and data under the keystream. No RFC
 -- defines RC4; RFC 6229 lists keystreams of it.
 -- Assumes nothing: these are definitions.
-use Rattle.std.specs.Prelude.{ℕ, zero, suc, ◌+◌, ◌%◌, Bool, cond, ◌&&◌, List, [], ◌∷◌, ◌++◌, length, replicate, bit_xor, nat_le, slice_index, slice_set}
+use Rattle.std.specs.Prelude.{ℕ, zero, suc, ◌+◌, ◌%◌, Bool, cond, ◌&&◌, List, [], ◌∷◌, ◌++◌, length}
+use Rattle.std.specs.Prelude.{Result, Ok, Err, bit_xor, nat_le, slice_index, slice_set}
 use Rattle.rc4.specs.declared.State.{State}
-use Rattle.rc4.specs.declared.Keyed.{Keyed}
+use Rattle.refusals.specs.declared.Refusal.{Refusal}
+use Rattle.refusals.specs.declared.Refusal.TheVariants.{Input}
 
 -- the entries at i and j exchanged
 unfoldable pub swapped : List ℕ → ℕ → ℕ → List ℕ
@@ -82,13 +84,12 @@ key_fits key = nat_le 1 (length key) && nat_le (length key) 256
 unfoldable pub key_refusal : List ℕ → ℕ
 key_refusal key = cond (key_fits key) 0 8
 
--- the state of a key that is refused
-abbrev pub zero_state : State
-zero_state = record { s = replicate 256 0; i = 0; j = 0 }
+-- what a run answers, and what the state of a key is
+abbrev pub key_answer : List ℕ → Result (Unit {0}) Refusal
+key_answer key = cond (key_fits key) (Ok tt) (Err Input)
 
--- a key's refusal and state
-unfoldable pub keyed : List ℕ → Keyed
-keyed key = record { refusal = key_refusal key; state = cond (key_fits key) (started key) zero_state }
+unfoldable pub keyed : List ℕ → Result State Refusal
+keyed key = cond (key_fits key) (Ok (started key)) (Err Input)
 
 -- the data under the key's stream, and unchanged where the key is refused
 unfoldable pub crypted : List ℕ → List ℕ → List ℕ

@@ -2,25 +2,11 @@
 -- Assumes nothing.
 use mathlib.Core.Path.{◌≡◌, refl, sym, ap, ◌∙◌}
 use native.Mathlib.Nat.{le_of_eq}
-use native.Mathlib.Omega.{arith}
 use borrow.Author.Rules.{rules}
 use lib.ListN.{length, length-set}
 use Rattle.octets.proofs.Parts.{length_over}
-use Rattle.blocks.specs.Blocks.{tail_length, zeros}
 use Rattle.blocks.proofs.Ends.{tail_filled}
 use Rattle.blocks.proofs.tail_of.Goals as goal
-
-pub overflow_sub-octets : goal.overflow_sub-octets
-unfolding tail_length zeros
-overflow_sub-octets c = omega arith
-
-pub slice_bounds-copy-count-2 : goal.slice_bounds-copy-count-2
-unfolding tail_length zeros
-slice_bounds-copy-count-2 c = omega arith
-
-pub slice_bounds-octets-start : goal.slice_bounds-octets-start
-unfolding tail_length zeros
-slice_bounds-octets-start c = omega arith
 
 pub slice_bounds-octets-end : goal.slice_bounds-octets-end
 slice_bounds-octets-end c =

@@ -1,6 +1,6 @@
 -- `md4::digest` meets its contract.
 -- Assumes nothing.
-use Rattle.std.proofs.Common.{◌≡◌, ℕ, ◌*◌, ◌≤◌, List, length, sym, ap, ◌∙◌, length-take-le, rules}
+use Rattle.std.proofs.Common.{◌≡◌, ℕ, ◌*◌, List, length, ap, ◌∙◌}
 use Rattle.octets.specs.Numbers.{to_le}
 use Rattle.octets.proofs.Numbers.{length-to_le}
 use Rattle.blocks.specs.Blocks.{tail_of}
@@ -8,17 +8,9 @@ use Rattle.blocks.proofs.Run.{hash_by_tail, tail_fits}
 use Rattle.md4.specs.Md4.{block, initial_registers, digest_of, md4_of}
 use Rattle.md4.proofs.digest.Goals as goal
 
-pub slice_bounds-end-end : goal.slice_bounds-end-end
-slice_bounds-end-end c =
-    let n : length c.tail_of-tail.result.octets ≡ 128 = search rules in
-    rw (n, c.tail_of-tail.ensures) (tail_fits _ _ (ap length c.u64_to_le.ensures))
-
-pub slice_bounds-whole_blocks-end : goal.slice_bounds-whole_blocks-end
-slice_bounds-whole_blocks-end c =
-    let n : length c.tail_of-tail.result.octets ≡ 128 = search rules in
-    let fits : c.tail_of-tail.result.used ≤ length c.tail_of-tail.result.octets =
-    rw (n, c.tail_of-tail.ensures) (tail_fits _ _ (ap length c.u64_to_le.ensures)) in
-    sym (length-take-le c.tail_of-tail.result.used c.tail_of-tail.result.octets fits)
+pub shared_ref_as_front-whole_blocks : goal.shared_ref_as_front-whole_blocks
+shared_ref_as_front-whole_blocks c =
+    rw c.tail_of-tail.ensures (tail_fits _ _ (ap length c.u64_to_le.ensures))
 
 pub returns : goal.returns
 unfolding md4_of initial_registers

@@ -1,16 +1,9 @@
-use Rattle.std.proofs.Common.{◌≤◌, length, refl, le_antisymm, arith, take_all, rules}
-use Rattle.rc4.specs.Rc4.{upto}
-use Rattle.rc4.proofs.Turns.{upto_turn}
+-- `rc4::identity` meets its contract.
+-- Assumes nothing.
+use Rattle.std.proofs.Common.{◌∙◌, rules}
+use Rattle.octets.proofs.FromFn.{items_from_fn}
+use Rattle.rc4.proofs.Turns.{upto_range}
 use Rattle.rc4.proofs.identity.Goals as goal
 
-pub loop-i-init : goal.loop-i-init
-unfolding upto
-loop-i-init c = (search rules, search rules, refl)
-
-pub loop-i-preserved : goal.loop-i-preserved
-loop-i-preserved c = (search rules, search rules, upto_turn _ _ (search rules) c.loop-i.invariant.2)
-
 pub returns : goal.returns
-returns c =
-    let l : length c.loop-i.s ≤ 256 = omega arith in
-    rw (le_antisymm c.loop-i.invariant.0 c.loop-i-test.false, take_all 256 c.loop-i.s) at c.loop-i.invariant.2
+returns c = items_from_fn _ (λ k. k) _ (λ i y q k. search rules) 256 _ c.from_fn.ensures.items ∙ upto_range 256

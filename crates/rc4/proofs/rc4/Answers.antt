@@ -1,22 +1,15 @@
 -- `rc4::rc4` meets its contract.
 -- Assumes nothing.
-use Rattle.std.proofs.Common.{sym, ap, ◌∙◌, eq-eqb, ne_eqb}
-use Rattle.rc4.specs.declared.Keyed.{Keyed}
-use Rattle.rc4.specs.Rc4.{keyed}
-use Rattle.rc4.proofs.Laws.{crypted_keyed}
+use Rattle.std.proofs.Common.{sym, ◌∙◌, rules}
+use Rattle.rc4.proofs.Laws.{run_taken, run_refused}
 use Rattle.rc4.proofs.rc4.Goals as goal
 
-pub returns-then-refusal-eq0 : goal.returns-then-refusal-eq0
-unfolding keyed
-returns-then-refusal-eq0 c =
-    let h = c in
-    let e = h.new-keyed.ensures in
-    let a = h.args in
-    (ap (λ (x : Keyed). x.refusal) e, c.apply.ensures.1 ∙ sym (crypted_keyed a.key.now a.«data».now e ∙ simp (eq-eqb _ _ h.if-refusal-eq0.true)))
+pub returns-in_err-state : goal.returns-in_err-state
+returns-in_err-state c =
+    let run = run_refused c.args.key.now c.args.«data».now c.in_err-state.field-0.0 (sym c.in_err-state.was ∙ c.new.ensures) in
+    search rules
 
-pub returns-else-refusal-eq0 : goal.returns-else-refusal-eq0
-unfolding keyed
-returns-else-refusal-eq0 c =
-    let e = c.new-keyed.ensures in
-    let a = c.args in
-    (ap (λ (x : Keyed). x.refusal) e, sym (crypted_keyed a.key.now a.«data».now e ∙ simp (ne_eqb _ _ c.if-refusal-eq0.false)))
+pub returns : goal.returns
+returns c =
+    let run = run_taken c.args.key.now c.args.«data».now c.in_ok-state.state (sym c.in_ok-state.was ∙ c.new.ensures) in
+    (run.0, c.apply.ensures.1 ∙ run.1)

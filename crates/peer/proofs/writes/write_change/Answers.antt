@@ -5,7 +5,7 @@ use mathlib.Core.List.{List}
 use Prim.Native.Nat.{ℕ}
 use Rattle.std.specs.Prelude.{Err}
 use Rattle.refusals.specs.declared.Refusal.TheVariants.{Input, Filler}
-use Rattle.credentials.specs.Credentials.{bad_nt_password, bad_filler, nt_hash_of, sealed_block}
+use Rattle.credentials.specs.Credentials.{bad_nt_password, bad_filler, nt_hash_of, sealed_block, sealed_as}
 use Rattle.packets.specs.declared.Change.{Change}
 use Rattle.packets.specs.Change.{change_written, change_out, change_write_refusal}
 use Rattle.peer.specs.Write.{change_fields, change_fields_of, change_for}
@@ -32,7 +32,7 @@ returns-in_err-after c =
     record { answer = done.0; out = done.1 }
 
 pub returns-in_err-block : goal.returns-in_err-block
-unfolding write_change write_change_refusal
+unfolding write_change write_change_refusal sealed_as
 returns-in_err-block c =
     let a = c.args in
     let e = passed_there Input (nt_hash_of a.old.now) (bad_nt_password a.old.now) (sym c.nt_hash.ensures ∙ c.in_ok-before.was) in
@@ -42,7 +42,7 @@ returns-in_err-block c =
     record { answer = done.0; out = done.1 }
 
 pub returns : goal.returns
-unfolding write_change write_change_refusal change_for change_written change_out
+unfolding write_change write_change_refusal sealed_as change_for change_written change_out
 returns c =
     let a = c.args in
     let out = a.out.now in
