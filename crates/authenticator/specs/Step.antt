@@ -211,8 +211,8 @@ answer_as c (Ok s) =
     }
 answer_as c (Err r) = unjudged (Refused (number r)) c 0
 
-abbrev pub stepped_as : Conversation → Result EntryStep Refusal → Stepped
-stepped_as c (Ok s) =
+abbrev pub taken_as : EntryStep → Stepped
+taken_as s =
     record {
       kind = kind_of s.drawn;
       fault = s.fault;
@@ -220,4 +220,7 @@ stepped_as c (Ok s) =
       written = s.written;
       updated = s.updated;
     }
+
+abbrev pub stepped_as : Conversation → Result EntryStep Refusal → Stepped
+stepped_as c (Ok s) = taken_as s
 stepped_as c (Err r) = stepped_of (unjudged (Refused (number r)) c 0)

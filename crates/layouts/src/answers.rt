@@ -9,7 +9,9 @@ ghost use Rattle.layouts.specs.Inner.{in_room};
 use crate::StepResult;
 use crate::keys::BOTH_KEYS_SIZE;
 use crate::records::{ENTRY_LOOKUP_SIZE, decode_entry_lookup, encode_entry_lookup, is_flag};
-use crate::room::{Room, TAG_SIZE, empty_room, is_value, lay_value, put_byte, put_flag, put_two};
+use crate::room::{
+    Room, TAG_SIZE, empty_room, is_value, lay_value, put_byte, put_flag, put_octets,
+};
 use refusals::both;
 use verify::{fault_number, fault_with};
 
@@ -37,7 +39,7 @@ fn encode_result(res: StepResult) -> Room
     let fault = res.fault;
     let updated = res.updated;
     let mut room = put_flag(empty_room(), REPEATED_AT, res.repeated);
-    room = put_two(room, REASON_AT, octets::u16_to_be(res.reason));
+    room = put_octets(room, REASON_AT, octets::u16_to_be(res.reason));
     room = put_byte(room, FAULT_AT, fault_number(fault));
     encode_entry_lookup(room, UPDATED_AT, updated)
 }

@@ -1,6 +1,9 @@
 // The buffers that C passes: their sizes tested, and one filled.
 ghost use Rattle.std.specs.Prelude.{◌≡◌, length};
+ghost use Rattle.refusals.specs.Refusal.{number};
 ghost use Rattle.layouts.specs.Call.{Fills, sized, both_sized};
+
+use refusals::Refusal;
 
 // What a call returns for an argument that is not valid.
 pub const BAD_ARGUMENT: u32 = 100;
@@ -11,7 +14,14 @@ pub const INVALID: u32 = 4294967295;
 pub fn wide(n: u8) -> u32
     ensures { result ≡ n }
 {
-    n as u32
+    u32::from(n)
+}
+
+// What a call returns that is refused.
+pub fn refused(refusal: Refusal) -> u32
+    ensures { result ≡ number refusal }
+{
+    wide(refusal.number())
 }
 
 // Whether a has n bytes and b has m.

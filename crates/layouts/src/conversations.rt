@@ -10,7 +10,9 @@ ghost use Rattle.layouts.specs.Inner.{in_room};
 
 use crate::last_answers::{LAST_SIZE, decode_last, encode_last};
 use crate::records::{ENTRY_SIZE, decode_entry, encode_entry, is_flag};
-use crate::room::{Room, TAG_SIZE, empty_room, is_value, put_byte, put_eight, put_flag, put_value};
+use crate::room::{
+    Room, TAG_SIZE, empty_room, is_value, put_byte, put_flag, put_octets, put_value,
+};
 use authenticator::{Conversation, Phase, awaited_code};
 use verify::{ChangeVersion, Terms};
 
@@ -75,7 +77,7 @@ fn encode_state(conversation: Conversation) -> Room
     room = put_byte(room, CHANGE_AT, authenticator::version(change));
     room = put_byte(room, IDENTIFIER_AT, conversation.id);
     room = put_byte(room, RETRIES_AT, conversation.retries);
-    room = put_eight(room, CHALLENGE_AT, challenge);
+    room = put_octets(room, CHALLENGE_AT, challenge);
     room = encode_entry(room, KEPT_AT, kept);
     encode_last(room, LAST_AT, last)
 }

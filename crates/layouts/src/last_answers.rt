@@ -5,7 +5,7 @@ ghost use Rattle.layouts.specs.LastAnswers.{reply_number, reply_from, encode_las
 ghost use Rattle.layouts.specs.Inner.{room_size};
 
 use crate::records::is_flag;
-use crate::room::{Room, put_byte, put_flag, put_two};
+use crate::room::{Room, put_byte, put_flag, put_octets};
 use authenticator::{LastAnswer, Reply, reason_of};
 
 pub(crate) const LAST_SIZE: usize = 6;
@@ -55,7 +55,7 @@ pub(crate) fn encode_last(mut room: Room, at: usize, last: LastAnswer) -> Room
     room = put_byte(room, at + ANSWERED_CODE_AT, last.code);
     room = put_byte(room, at + ANSWERED_IDENTIFIER_AT, last.id);
     room = put_byte(room, at + REPLY_AT, reply_number(reply));
-    put_two(
+    put_octets(
         room,
         at + REPLY_REASON_AT,
         octets::u16_to_be(reason_of(reply)),

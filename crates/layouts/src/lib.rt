@@ -15,7 +15,7 @@ mod room;
 
 use accounts::EntryLookup;
 pub use answers::{ANSWER_HEAD_SIZE, ANSWER_SIZE, decode_answer, is_encoded_answer, put_answer};
-pub use buffers::{BAD_ARGUMENT, INVALID, are_sized, fill, wide};
+pub use buffers::{BAD_ARGUMENT, INVALID, are_sized, fill, refused, wide};
 pub use conversations::{
     CONVERSATION_SIZE, decode_conversation, is_conversation, is_encoded_conversation,
     put_conversation,
@@ -38,6 +38,6 @@ use verify::ChangeFault;
 pub struct StepResult {
     pub repeated: bool,
     pub reason: u16,
-    pub fault: ChangeFault,
+    pub fault: Option<ChangeFault>,
     pub updated: EntryLookup,
 }

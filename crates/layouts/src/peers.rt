@@ -6,7 +6,9 @@ ghost use Rattle.layouts.specs.Peers.{encode_peer, decode_peer, is_encoded_peer,
 ghost use Rattle.layouts.specs.Inner.{in_room};
 
 use crate::records::is_flag;
-use crate::room::{Room, TAG_SIZE, empty_room, is_value, put_byte, put_eight, put_flag, put_value};
+use crate::room::{
+    Room, TAG_SIZE, empty_room, is_value, put_byte, put_flag, put_octets, put_value,
+};
 use peer::{Peer, Sent, Turn};
 
 const TURNS_SIZE: usize = 19;
@@ -35,9 +37,9 @@ fn encode_turns(peer: Peer) -> Room
     let challenge = turn.challenge;
     let mut room = put_flag(empty_room(), SENT_AT, sent.present);
     room = put_byte(room, SENT_IDENTIFIER_AT, sent.id);
-    room = put_eight(room, SENT_CHALLENGE_AT, answered);
+    room = put_octets(room, SENT_CHALLENGE_AT, answered);
     room = put_byte(room, NEXT_IDENTIFIER_AT, turn.id);
-    put_eight(room, NEXT_CHALLENGE_AT, challenge)
+    put_octets(room, NEXT_CHALLENGE_AT, challenge)
 }
 
 fn decode_turns(bytes: &[u8]) -> Peer

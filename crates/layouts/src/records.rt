@@ -14,7 +14,7 @@ ghost use Rattle.layouts.specs.Inner.{room_size};
 use crate::buffers::{BAD_ARGUMENT, wide};
 use crate::keys::{BOTH_KEYS_SIZE, encode_schedules};
 use crate::room::{
-    Room, TAG_SIZE, empty_room, is_value, lay_value, put_byte, put_flag, put_sixteen,
+    Room, TAG_SIZE, empty_room, is_value, lay_value, put_byte, put_flag, put_octets,
 };
 use accounts::{Entry, EntryLookup, Hash, Lookup, entry_failures, entry_lookup_of, entry_with};
 use refusals::both;
@@ -72,7 +72,7 @@ fn encode_hash(mut room: Room, at: usize, hash: Hash) -> Room
 {
     let octets = hash.octets;
     room = put_flag(room, at, hash.present);
-    put_sixteen(room, at + 1, octets)
+    put_octets(room, at + 1, octets)
 }
 
 fn decode_hash(bytes: &[u8]) -> Hash

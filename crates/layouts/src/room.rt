@@ -52,24 +52,8 @@ pub(crate) fn put_flag(room: Room, at: usize, b: bool) -> Room
     put_byte(room, at, flag(b))
 }
 
-pub(crate) fn put_eight(room: Room, at: usize, octets: [u8; 8]) -> Room
-    ensures { result.bytes ≡ over_at at octets room.bytes }
-{
-    let mut bytes = room.bytes;
-    octets::copy_at(&mut bytes, at, &octets);
-    Room { bytes }
-}
-
-pub(crate) fn put_sixteen(room: Room, at: usize, octets: [u8; 16]) -> Room
-    ensures { result.bytes ≡ over_at at octets room.bytes }
-{
-    let mut bytes = room.bytes;
-    octets::copy_at(&mut bytes, at, &octets);
-    Room { bytes }
-}
-
-pub(crate) fn put_two(room: Room, at: usize, octets: [u8; 2]) -> Room
-    ensures { result.bytes ≡ over_at at octets room.bytes }
+pub(crate) fn put_octets<const N: usize>(room: Room, at: usize, octets: [u8; N]) -> Room
+    ensures { result.bytes ≡ over_at at octets.entry room.bytes }
 {
     let mut bytes = room.bytes;
     octets::copy_at(&mut bytes, at, &octets);

@@ -7,7 +7,5 @@ mod results;
 mod terms;
 
 pub use flags::{are_record_arguments, flags_of, record_from};
-pub use results::{
-    call_in, failure_reason, no_record_refusal, number_of, result_of, verdict_number,
-};
+pub use results::{call_in, failure_reason, has_record, result_of};
 pub use terms::{change_in, is_terms, limit_in, lm_in, retries_in};

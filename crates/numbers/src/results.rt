@@ -1,85 +1,58 @@
 // What a step and a reply say, as C gets it.
 ghost use Rattle.std.specs.Prelude.{◌≡◌};
-ghost use Rattle.authenticator.specs.Step.{refusal_in, reason_in, is_repeated};
-ghost use Rattle.message.specs.Message.{verdict_refusal};
+ghost use Rattle.refusals.specs.Refusal.{told};
+ghost use Rattle.authenticator.specs.Step.{reason_in, is_repeated, kind_of, taken_as};
 ghost use Rattle.numbers.specs.Results.{result_of, no_record_refusal, call_number, call_in};
 ghost use Rattle.numbers.specs.Results.{failure_reason};
 
 use accounts::EntryLookup;
-use authenticator::{Kind, Stepped};
+use authenticator::{Drawn, EntryStep};
 use layouts::StepResult;
 use message::{Call, Verdict};
-use refusals::refuse_if;
+use refusals::Refusal;
 
 // ---- a step
 
-// The refusal; 0 is none.
-pub fn number_of(kind: Kind) -> u8
-    ensures { result ≡ refusal_in kind }
+fn reason_of(drawn: Drawn) -> u16
+    ensures { result ≡ reason_in (kind_of drawn) }
 {
-    match kind {
-        Kind::Refused(n) => n,
-        Kind::Repeated(_) => 0,
-        Kind::Judged(_) => 0,
+    match drawn {
+        Drawn::Repeated(e) | Drawn::Judged(e) => e,
     }
 }
 
-fn reason_of(kind: Kind) -> u16
-    ensures { result ≡ reason_in kind }
+fn is_repeated(drawn: Drawn) -> bool
+    ensures { result ≡ is_repeated (kind_of drawn) }
 {
-    match kind {
-        Kind::Refused(_) => 0,
-        Kind::Repeated(e) => e,
-        Kind::Judged(e) => e,
+    match drawn {
+        Drawn::Repeated(_) => true,
+        Drawn::Judged(_) => false,
     }
 }
 
-fn is_repeated(kind: Kind) -> bool
-    ensures { result ≡ is_repeated kind }
+// What C keeps of a step, but for the round keys of its record.
+pub fn result_of(step: EntryStep) -> StepResult
+    ensures { result ≡ result_of (taken_as step) }
 {
-    match kind {
-        Kind::Refused(_) => false,
-        Kind::Repeated(_) => true,
-        Kind::Judged(_) => false,
-    }
-}
-
-// What C keeps of an answer, but for the round keys of its record.
-pub fn result_of(answer: Stepped) -> StepResult
-    ensures { result ≡ result_of answer }
-{
-    let kind = answer.kind;
-    let fault = answer.fault;
-    let updated = answer.updated;
-    let repeated = is_repeated(kind);
-    let reason = reason_of(kind);
     StepResult {
-        repeated,
-        reason,
-        fault,
-        updated,
+        repeated: is_repeated(step.drawn),
+        reason: reason_of(step.drawn),
+        fault: step.fault,
+        updated: step.updated,
     }
 }
 
-// 102: there is no record to be stored.
-pub fn no_record_refusal(lookup: EntryLookup) -> u8
-    ensures { result ≡ no_record_refusal lookup }
+// Whether there is a record to be stored. Refusal 102: there is none.
+pub fn has_record(lookup: EntryLookup) -> Result<(), Refusal>
+    ensures { told result ≡ no_record_refusal lookup }
 {
-    refuse_if(!lookup.found, 102, 0)
+    if lookup.found {
+        return Ok(());
+    }
+    Err(Refusal::Record)
 }
 
 // ---- a reply
-
-// The refusal number of a verdict; 0 is none.
-pub fn verdict_number(verdict: Verdict) -> u8
-    ensures { result ≡ verdict_refusal verdict }
-{
-    match verdict {
-        Verdict::Success => 0,
-        Verdict::Failure(_) => 0,
-        Verdict::Refused(n) => n,
-    }
-}
 
 fn call_number(call: Call) -> u32
     ensures { result ≡ call_number call }
@@ -97,11 +70,7 @@ pub fn call_in(verdict: Verdict) -> u32
 {
     match verdict {
         Verdict::Success => 0,
-        Verdict::Failure(failed) => {
-            let call = failed.call;
-            call_number(call)
-        }
-        Verdict::Refused(_) => 0,
+        Verdict::Failure(failed) => call_number(failed.call),
     }
 }
 
@@ -111,6 +80,5 @@ pub fn failure_reason(verdict: Verdict) -> u64
     match verdict {
         Verdict::Success => 0,
         Verdict::Failure(failed) => failed.e,
-        Verdict::Refused(_) => 0,
     }
 }

@@ -4,8 +4,12 @@ use mathlib.Core.Path.{◌≡◌, refl, sym, ap, ◌∙◌, subst}
 use mathlib.Core.Bool.{Bool, true, false}
 use mathlib.Core.List.{List}
 use Prim.Native.Nat.{ℕ}
+use borrow.Author.Tests.{ne_eqb}
 use lib.Dec.{eqb}
-use Rattle.message.specs.Message.{verdict_refusal}
+use Rattle.std.specs.Prelude.{Result, Ok, Err, IfOk}
+use Rattle.refusals.specs.Refusal.{number, told}
+use Rattle.refusals.specs.declared.Refusal.{Refusal}
+use Rattle.refusals.proofs.Numbers.{number_some}
 use Rattle.message.specs.declared.Verdict.{Verdict}
 use Rattle.peer.specs.Peer as peers
 use Rattle.peer.specs.Write.{Wrote, wrote_by, write_response, write_response_refusal, response_for}
@@ -19,56 +23,64 @@ use Rattle.layouts.specs.Call.{Fills, sized, numbered, after_call}
 use Rattle.layouts.specs.Peers.{peer_size, encode_peer, decode_peer, is_encoded_peer}
 use Rattle.layouts.proofs.Filling.{both, fills_number}
 use Rattle.layouts.proofs.PeerLaws.{length_encoded_peer}
-use Rattle.numbers.specs.Results.{call_in, failure_reason}
+use Rattle.numbers.specs.Results.{call_in, failure_reason, number_in}
 use Rattle.peer_calls.specs.Calls.{ReplyCall, change_arguments, WriteCall}
 
 -- ---- a reply
 
-module _ (peer packet : List ℕ) (valid : is_encoded_peer peer ≡ true) {q : Peer} {answer : ReplyRead}
-    {n : ℕ} (decoded : q ≡ decode_peer peer) (read : peers.Reads q packet answer)
-    (number : n ≡ verdict_refusal answer.reading.verdict) where
-  abbrev verdict : Verdict
-  verdict = (peers.peer_reads (decode_peer peer) packet).verdict
+-- what was read has the number and, where it is not refused, the verdict and the next peer
+read_told : (q : Peer) (p : List ℕ) (v : Result Verdict Refusal) → told (peers.read_as q p v) ≡ told v
+read_told q p (Ok v) = refl
+read_told q p (Err r) = refl
 
-  same : answer ≡ record {
-    reading = peers.peer_reads (decode_peer peer) packet;
-    peer = peers.after_reply (decode_peer peer) packet;
-  }
+read_taken : (q : Peer) (p : List ℕ) (s : ReplyRead) (v : Result Verdict Refusal)
+    → Ok s ≡ peers.read_as q p v → (v ≡ Ok s.verdict) × (s.peer ≡ peers.after_reply q p)
+read_taken q p s (Ok v) e = let f : s ≡ record { verdict = v; peer = peers.after_reply q p } = cc in
+    (ap (λ (x : ReplyRead). Ok x.verdict) (sym f), ap (λ (x : ReplyRead). x.peer) f)
+read_taken q p s (Err r) e = absurd (cc)
+
+module _ (peer packet : List ℕ) (valid : is_encoded_peer peer ≡ true) {q : Peer}
+    {answer : Result ReplyRead Refusal} (decoded : q ≡ decode_peer peer)
+    (read : peers.Reads q packet answer) where
+  abbrev said : Result Verdict Refusal
+  said = peers.peer_reads (decode_peer peer) packet
+
+  same : answer ≡ peers.read_as (decode_peer peer) packet said
   same = (subst (λ (v : Peer). peers.Reads v packet answer) decoded read).answer
 
-  numbers : n ≡ verdict_refusal verdict
-  numbers = number ∙ ap (λ (v : ReplyRead). verdict_refusal v.reading.verdict) same
+  numbers : told answer ≡ told said
+  numbers = ap told same ∙ read_told (decode_peer peer) packet said
 
   -- it is refused: nothing changes
-  pub reply_refused : {call reason r : ℕ} → eqb n 0 ≡ false → r ≡ n
+  pub reply_refused : (e : Refusal) {call reason r : ℕ} → answer ≡ Err e → r ≡ number e
       → ReplyCall peer packet call reason r peer call reason
-  reply_refused {call} {reason} {r} refused e =
-      let nonzero : eqb r 0 ≡ false = ap (λ (i : ℕ). eqb i 0) e ∙ refused in
+  reply_refused e {call} {reason} {r} refused f =
+      let nonzero : eqb r 0 ≡ false = ne_eqb r 0 (λ z. number_some e (sym f ∙ z)) in
       record {
-        number = e ∙ numbers ∙ sym (ap (λ (t : Bool). numbered t (verdict_refusal verdict)) valid);
+        number =
+            f ∙ sym (ap told refused) ∙ numbers
+            ∙ sym (ap (λ (t : Bool). numbered t (told said)) valid);
         next = sym (simp nonzero);
         calls = sym (simp nonzero);
         says = sym (simp nonzero);
       }
 
   -- it is read: the next peer was put into the caller's buffer
-  pub reply_called : {call reason r c e : ℕ} {after : List ℕ} → n ≡ 0
-      → c ≡ call_in answer.reading.verdict → e ≡ failure_reason answer.reading.verdict
-      → Fills (sized peer_size peer) 0 (encode_peer answer.peer) peer r after
+  pub reply_called : (s : ReplyRead) {call reason r c e : ℕ} {after : List ℕ} → answer ≡ Ok s
+      → c ≡ call_in s.verdict → e ≡ failure_reason s.verdict
+      → Fills (sized peer_size peer) 0 (encode_peer s.peer) peer r after
       → ReplyCall peer packet call reason r after c e
-  reply_called {call} {reason} {r} {c} {e} accepted calls says put =
+  reply_called s {call} {reason} {r} {c} {e} accepted calls says put =
+      let t = read_taken (decode_peer peer) packet s said (sym accepted ∙ same) in
       let done : r ≡ 0 = fills_number (length_encoded_peer peer valid) put in
       let zero : eqb r 0 ≡ true = ap (λ (i : ℕ). eqb i 0) done in
       record {
         number =
-            done ∙ sym accepted ∙ numbers
-            ∙ sym (ap (λ (t : Bool). numbered t (verdict_refusal verdict)) valid);
-        next = put.bytes ∙ ap (λ (v : ReplyRead). after_call r (encode_peer v.peer) peer) same;
-        calls =
-            calls ∙ ap (λ (v : ReplyRead). call_in v.reading.verdict) same ∙ sym (simp zero);
-        says =
-            says ∙ ap (λ (v : ReplyRead). failure_reason v.reading.verdict) same
-            ∙ sym (simp zero);
+            done ∙ sym (ap told t.0)
+            ∙ sym (ap (λ (b : Bool). numbered b (told said)) valid);
+        next = put.bytes ∙ ap (λ (v : Peer). after_call r (encode_peer v) peer) t.1;
+        calls = calls ∙ sym (ap (number_in call_in) t.0) ∙ sym (simp zero);
+        says = says ∙ sym (ap (number_in failure_reason) t.0) ∙ sym (simp zero);
       }
 
 -- ---- the writers
@@ -114,26 +126,51 @@ module _ (writes : Turn → Wrote) (peer out : List ℕ) (valid : Bool) (good : 
   abbrev wrote : Wrote
   wrote = writes (decode_peer peer).turn
 
-  -- the packet was written, and the next peer was put into the caller's buffer
-  pub wrote_called : {q : Peer} {w : Wrote} {answer : PacketWritten} {r : ℕ}
-      {peer_after out_after : List ℕ}
-      → q ≡ decode_peer peer → w ≡ writes q.turn → peers.Writes q w answer out_after
-      → Fills (sized peer_size peer) answer.written.refusal (encode_peer answer.peer) peer
-      r peer_after
-      → WriteCall valid wrote peer out r peer_after out_after
-  wrote_called {q} {w} {answer} {r} {peer_after} {out_after} e same given put =
-      let g =
-      subst (λ (v : Peer). peers.Writes v (writes v.turn) answer out_after) e
-      (subst (λ (x : Wrote). peers.Writes q x answer out_after) same given) in
-      let number : r ≡ wrote.answer.refusal =
-      fills_number (length_encoded_peer peer encoded) put
-      ∙ ap (λ (v : PacketWritten). v.written.refusal) g.answer in
-      record {
-        number = number ∙ sym (ap (λ (t : Bool). numbered t wrote.answer.refusal) good);
-        next =
-            put.bytes
-            ∙ ap (λ (v : PacketWritten). after_call r (encode_peer v.peer) peer) g.answer;
-        packet =
-            g.out ∙ kept (decode_peer peer).turn
-            ∙ ap (λ (i : ℕ). after_call i wrote.out out) (sym number);
-      }
+  module _ {q : Peer} {w : Wrote} {answer : Result PacketWritten Refusal}
+      {out_after : List ℕ} (e : q ≡ decode_peer peer) (same : w ≡ writes q.turn)
+      (given : peers.Writes q w answer out_after) where
+    told_by : peers.Writes (decode_peer peer) wrote answer out_after
+    told_by =
+        subst (λ (v : Peer). peers.Writes v (writes v.turn) answer out_after) e
+        (subst (λ (x : Wrote). peers.Writes q x answer out_after) same given)
+
+    left : {r : ℕ} → r ≡ wrote.answer.refusal → out_after ≡ after_call r wrote.out out
+    left {r} n =
+        told_by.out ∙ kept (decode_peer peer).turn
+        ∙ ap (λ (i : ℕ). after_call i wrote.out out) (sym n)
+
+    -- it is refused: nothing changes
+    pub wrote_refused : (f : Refusal) {r : ℕ} → answer ≡ Err f → r ≡ number f
+        → WriteCall valid wrote peer out r peer out_after
+    wrote_refused f {r} refused n =
+        let nonzero : eqb r 0 ≡ false = ne_eqb r 0 (λ z. number_some f (sym n ∙ z)) in
+        let told-number : r ≡ wrote.answer.refusal = n ∙ sym (ap told refused) ∙ told_by.number in
+        record {
+          number = told-number ∙ sym (ap (λ (t : Bool). numbered t wrote.answer.refusal) good);
+          next = sym (simp nonzero);
+          packet = left told-number;
+        }
+
+    -- the packet was written, and the next peer was put into the caller's buffer
+    pub wrote_called : (s : PacketWritten) {r : ℕ} {peer_after : List ℕ} → answer ≡ Ok s
+        → Fills (sized peer_size peer) 0 (encode_peer s.peer) peer r peer_after
+        → WriteCall valid wrote peer out r peer_after out_after
+    wrote_called s {r} accepted put =
+        let done : r ≡ 0 = fills_number (length_encoded_peer peer encoded) put in
+        let told-number : r ≡ wrote.answer.refusal =
+        done ∙ sym (ap told accepted) ∙ told_by.number in
+        let next : s ≡ record {
+          length = wrote.answer.length;
+          peer = peers.after_writing (decode_peer peer) wrote.answer;
+        } =
+        subst (λ (x : Result PacketWritten Refusal). IfOk x (λ p. p ≡ record {
+          length = wrote.answer.length;
+          peer = peers.after_writing (decode_peer peer) wrote.answer;
+        })) accepted told_by.answer in
+        record {
+          number = told-number ∙ sym (ap (λ (t : Bool). numbered t wrote.answer.refusal) good);
+          next =
+              put.bytes
+              ∙ ap (λ (v : PacketWritten). after_call r (encode_peer v.peer) peer) next;
+          packet = left told-number;
+        }

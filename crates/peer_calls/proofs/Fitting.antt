@@ -3,7 +3,9 @@
 -- Assumes nothing.
 use mathlib.Core.Bool.{Bool, true, false, cond}
 use mathlib.Core.List.{List, [], ◌∷◌}
-use mathlib.Core.Option.{Option, none, some}
+use Rattle.std.specs.Prelude.{Option, Some, None, Result, Ok, Err, unwrap_or}
+use Rattle.refusals.specs.declared.Refusal.{Refusal}
+use Rattle.refusals.specs.declared.Refusal.TheVariants.{Kind}
 use mathlib.Core.Path.{◌≡◌, refl, ap}
 use Prim.Native.Nat.{ℕ, zero, suc, ◌+◌}
 use native.Mathlib.Omega.{arith}
@@ -17,18 +19,14 @@ use Rattle.message.specs.Message.{read_fields, read_message}
 use Rattle.message.specs.Inner.{IfSome, Eight}
 use Rattle.message.specs.declared.Call.{Call}
 use Rattle.message.specs.declared.Call.TheVariants.{Retry, ChangeTwo, ChangeOne, End}
-use Rattle.message.specs.declared.NewChallenge.{NewChallenge}
-use Rattle.message.specs.declared.Reading.{Reading}
 use Rattle.message.specs.declared.Verdict.{Verdict}
-use Rattle.message.specs.declared.Verdict.TheVariants.{Success, Failure, Refused}
+use Rattle.message.specs.declared.Verdict.TheVariants.{Success, Failure}
 use Rattle.message.proofs.Formed.{first_eight}
-use Rattle.packets.specs.Frame.{octet, bad_frame, bad_id, data_of}
+use Rattle.packets.specs.Frame.{octet, bad_frame, bad_id, data_of, Written}
 use Rattle.challenges.specs.Challenges.{incremented}
-use Rattle.packets.specs.Reply.{refused_challenge, bad_challenge, read_challenge, read_reply}
-use Rattle.packets.specs.declared.ChallengeFields.{ChallengeFields}
-use Rattle.packets.specs.declared.Written.{Written}
+use Rattle.packets.specs.Reply.{failure_in, ChallengeFields, refused_challenge, bad_challenge, read_challenge, read_reply}
 use Rattle.authenticator.proofs.Spends.{length_incremented}
-use Rattle.peer.specs.Turn.{sent_for, turn_for, turn_after, next_turn}
+use Rattle.peer.specs.Turn.{sent_for, turn_for, turn_read, next_turn}
 use Rattle.peer.specs.Peer.{after_challenge, after_writing, peer_reads, after_reply}
 use Rattle.peer.specs.declared.Peer.{Peer}
 use Rattle.peer.specs.declared.Sent.{Sent}
@@ -45,56 +43,75 @@ half (suc n) [] h = absurd (omega arith)
 half (suc n) (x ∷ []) h = absurd (omega arith)
 half (suc n) (x ∷ y ∷ ds) h = ap suc (half n ds (omega arith))
 
--- a challenge C, given or not, has eight bytes
-given_eight : (o : Option (List ℕ)) → IfSome Eight o → length (new_challenge_from o).octets ≡ 8
-given_eight none h = refl
-given_eight (some ds) h = half 8 ds h.long
+-- a challenge C has eight bytes, where it is given
+abbrev pub IfEight : Option (List ℕ) → Type 0
+IfEight None = Unit {0}
+IfEight (Some c) = length c ≡ 8
 
-record EightGiven (r : Reading) : Type 0 where
-  eight : length r.c.octets ≡ 8
+given_eight : (o : Option (List ℕ)) → IfSome Eight o → IfEight (new_challenge_from o)
+given_eight None h = tt
+given_eight (Some ds) h = half 8 ds h.long
 
-choice_given : (b : Bool) {x y : Reading} → EightGiven x → EightGiven y → EightGiven (cond b x y)
+-- and so it has in whatever was read
+abbrev GivenIn : Result Verdict Refusal → Type 0
+GivenIn (Ok Success) = Unit {0}
+GivenIn (Ok (Failure f)) = IfEight f.c
+GivenIn (Err r) = Unit {0}
+
+record EightGiven (r : Result Verdict Refusal) : Type 0 where
+  eight : GivenIn r
+
+choice_given : (b : Bool) {x y : Result Verdict Refusal} → EightGiven x → EightGiven y
+    → EightGiven (cond b x y)
 choice_given true s t = s
 choice_given false s t = t
 
-fields_given : (ws : List (List ℕ)) (e : Option (List ℕ)) → EightGiven (read_fields ws e)
-fields_given ws none = record { eight = refl }
-fields_given ws (some e) = record { eight = given_eight (first_field field_c ws) (first_eight ws) }
+fields_given : (ws : List (List ℕ)) (e : Option (List ℕ))
+    → EightGiven (failure_in (read_fields ws e))
+fields_given ws None = record { eight = tt }
+fields_given ws (Some e) =
+    record { eight = given_eight (first_field field_c ws) (first_eight ws) }
+
+message_given : (over : Bool) (ws : List (List ℕ))
+    → EightGiven (failure_in (cond over (Err Kind) (read_fields ws (first_field field_e ws))))
+message_given true ws = record { eight = tt }
+message_given false ws = fields_given ws (first_field field_e ws)
 
 reply_given : (last : ℕ) (p : List ℕ) → EightGiven (read_reply last p)
 unfolding read_reply read_message
 reply_given last p =
-    let ws = words (data_of p) in
-    choice_given (bad_frame p) (record { eight = refl })
-    (choice_given (bad_id last p) (record { eight = refl })
-    (choice_given (eqb (octet 0 p) 3) (record { eight = refl })
+    choice_given (bad_frame p) (record { eight = tt })
+    (choice_given (bad_id last p) (record { eight = tt })
+    (choice_given (eqb (octet 0 p) 3) (record { eight = tt })
     (choice_given (eqb (octet 0 p) 4)
-    (choice_given (ltb 256 (length (data_of p))) (record { eight = refl })
-    (fields_given ws (first_field field_e ws)))
-    (record { eight = refl }))))
+    (message_given (ltb 256 (length (data_of p))) (words (data_of p)))
+    (record { eight = tt }))))
 
 -- before the first packet none is given
 peer_reads_given : (q : Peer) (p : List ℕ) → EightGiven (peer_reads q p)
 peer_reads_given q p =
-    choice_given q.sent.present (reply_given q.sent.id p) (record { eight = refl })
+    choice_given q.sent.present (reply_given q.sent.id p)
+    (choice_given (bad_frame p) (record { eight = tt }) (record { eight = tt }))
 
 -- ---- the peer's next turn
 
-module _ (q : Peer) (s : SizedPeer q) (c : NewChallenge) (e : length c.octets ≡ 8) where
-  retry_eight : (b : Bool) → length (cond b c.octets (incremented q.sent.challenge)) ≡ 8
-  retry_eight true = e
-  retry_eight false = rw length_incremented s.sent
+module _ (q : Peer) (s : SizedPeer q) where
+  retry_eight : (c : Option (List ℕ)) → IfEight c
+      → length (unwrap_or c (incremented q.sent.challenge)) ≡ 8
+  retry_eight (Some c) e = e
+  retry_eight None e = rw length_incremented s.sent
 
-  call_eight : (k : Call) → length (turn_for k q.sent c).challenge ≡ 8
-  call_eight Retry = retry_eight c.given
-  call_eight ChangeTwo = s.sent
-  call_eight ChangeOne = s.sent
-  call_eight End = s.sent
+  call_eight : (k : Call) (c : Option (List ℕ)) → IfEight c
+      → length (turn_for k q.sent c).challenge ≡ 8
+  call_eight Retry c e = retry_eight c e
+  call_eight ChangeTwo c e = s.sent
+  call_eight ChangeOne c e = s.sent
+  call_eight End c e = s.sent
 
-  turn_eight : (v : Verdict) → length (turn_after v q c).challenge ≡ 8
-  turn_eight Success = s.sent
-  turn_eight (Failure f) = call_eight f.call
-  turn_eight (Refused n) = s.turn
+  turn_eight : (v : Result Verdict Refusal) → GivenIn v → length (turn_read v q).challenge ≡ 8
+  turn_eight (Ok Success) e = s.sent
+  turn_eight (Ok (Failure f)) e = call_eight f.call f.c e
+  turn_eight (Err r) e = s.turn
 
 -- ---- the peer after each call
 
@@ -123,9 +140,10 @@ after_writing_sized q w s = record { sent = by (eqb w.refusal 0); turn = s.turn 
 after_reply_sized : (q : Peer) (packet : List ℕ) → SizedPeer q → SizedPeer (after_reply q packet)
 unfolding next_turn
 after_reply_sized q packet s =
-    let r = peer_reads q packet in
-    let c = (peer_reads_given q packet).eight in
-    record { sent = s.sent; turn = turn_eight q s r.c c r.verdict }
+    record {
+      sent = s.sent;
+      turn = turn_eight q s (peer_reads q packet) (peer_reads_given q packet).eight;
+    }
 
 -- the encoding of a peer is valid for the next call
 abbrev pub Fits : Peer → Type 0

@@ -1,14 +1,14 @@
 -- The peer from C: what it reads and writes, over encodings.
 -- Assumes nothing: these are definitions.
 use Rattle.std.specs.Prelude.{Bool, ◌&&◌, List, ◌≡◌, ℕ}
-use Rattle.message.specs.Message.{verdict_refusal}
+use Rattle.refusals.specs.Refusal.{told}
 use Rattle.packets.specs.Reply.{read_challenge}
 use Rattle.peer.specs.Peer.{after_challenge, after_writing, peer_reads, after_reply}
 use Rattle.peer.specs.Write.{Wrote, write_response, write_change, write_change_one}
 use Rattle.layouts.specs.Call.{Fills, sized, numbered, after_call}
 use Rattle.layouts.specs.Passwords.{decode_password, is_encoded_password}
 use Rattle.layouts.specs.Peers.{peer_size, encode_peer, decode_peer, is_encoded_peer}
-use Rattle.numbers.specs.Results.{call_in, failure_reason}
+use Rattle.numbers.specs.Results.{call_in, failure_reason, number_in}
 
 -- ---- the Challenge
 
@@ -25,11 +25,12 @@ pub record ReplyCall (peer packet : List ℕ) (call reason r : ℕ) (peer_after 
     (call_after reason_after : ℕ) : Type 0 where
   pub number : r
       ≡ numbered (is_encoded_peer peer)
-      (verdict_refusal (peer_reads (decode_peer peer) packet).verdict)
+      (told (peer_reads (decode_peer peer) packet))
   pub next : peer_after ≡ after_call r (encode_peer (after_reply (decode_peer peer) packet)) peer
-  pub calls : call_after ≡ after_call r (call_in (peer_reads (decode_peer peer) packet).verdict) call
+  pub calls : call_after
+      ≡ after_call r (number_in call_in (peer_reads (decode_peer peer) packet)) call
   pub says : reason_after
-      ≡ after_call r (failure_reason (peer_reads (decode_peer peer) packet).verdict) reason
+      ≡ after_call r (number_in failure_reason (peer_reads (decode_peer peer) packet)) reason
 
 -- ---- the packets of the peer that is encoded, by passwords that are encoded
 

@@ -10,10 +10,10 @@ ghost use Rattle.peer_calls.specs.Calls.{response_from, change_from, change_one_
 ghost use Rattle.peer_calls.specs.Calls.{WriteCall};
 
 use layouts::{
-    BAD_ARGUMENT, decode_password, decode_peer, is_encoded_password, is_encoded_peer, put_peer,
-    wide,
+    BAD_ARGUMENT, PEER_SIZE, decode_password, decode_peer, is_encoded_password, is_encoded_peer,
+    put_peer, refused,
 };
-use numbers::{call_in, failure_reason, verdict_number};
+use numbers::{call_in, failure_reason};
 use peer::Peer;
 use refusals::both;
 
@@ -23,9 +23,13 @@ pub fn read_challenge(packet: &[u8], peer: &mut [u8]) -> u32
     ensures { ChallengeCall packet.now peer.old
         result peer.new }
 {
-    let read = Peer::read_challenge(packet);
-    let first = read.peer;
-    put_peer(read.refusal, first, peer)
+    if peer.len() != PEER_SIZE {
+        return BAD_ARGUMENT;
+    }
+    match Peer::read_challenge(packet) {
+        Ok(first) => put_peer(0, first, peer),
+        Err(refusal) => refused(refusal),
+    }
 }
 
 // ---- a reply
@@ -39,18 +43,14 @@ pub fn read_reply(peer: &mut [u8], packet: &[u8], call: &mut u32, reason: &mut u
     if !is_encoded_peer(peer) {
         return BAD_ARGUMENT;
     }
-    let before = decode_peer(peer);
-    let read = before.read_reply(packet);
-    let reading = read.reading;
-    let verdict = reading.verdict;
-    let next = read.peer;
-    let number = verdict_number(verdict);
-    if number != 0 {
-        return wide(number);
+    match decode_peer(peer).read_reply(packet) {
+        Ok(read) => {
+            *call = call_in(read.verdict);
+            *reason = failure_reason(read.verdict);
+            put_peer(0, read.peer, peer)
+        }
+        Err(refusal) => refused(refusal),
     }
-    *call = call_in(verdict);
-    *reason = failure_reason(verdict);
-    put_peer(0, next, peer)
 }
 
 // ---- the packets
@@ -73,10 +73,10 @@ pub fn write_response(peer: &mut [u8], password: &[u8], name: &[u8], out: &mut [
         return BAD_ARGUMENT;
     }
     let before = decode_peer(peer);
-    let wrote = before.write_response(decode_password(password), name, out);
-    let written = wrote.written;
-    let next = wrote.peer;
-    put_peer(written.refusal, next, peer)
+    match before.write_response(decode_password(password), name, out) {
+        Ok(written) => put_peer(0, written.peer, peer),
+        Err(refusal) => refused(refusal),
+    }
 }
 
 fn are_change_arguments(peer: &[u8], old: &[u8], new: &[u8]) -> bool
@@ -102,10 +102,10 @@ pub fn write_change(peer: &mut [u8], old: &[u8], new: &[u8], filler: &[u8], out:
         return BAD_ARGUMENT;
     }
     let before = decode_peer(peer);
-    let wrote = before.write_change(decode_password(old), decode_password(new), filler, out);
-    let written = wrote.written;
-    let next = wrote.peer;
-    put_peer(written.refusal, next, peer)
+    match before.write_change(decode_password(old), decode_password(new), filler, out) {
+        Ok(written) => put_peer(0, written.peer, peer),
+        Err(refusal) => refused(refusal),
+    }
 }
 
 // Writes the version 1 change of the turn at the front of out; the peer has then sent it. 9: too
@@ -120,8 +120,8 @@ pub fn write_change_one(peer: &mut [u8], old: &[u8], new: &[u8], out: &mut [u8])
         return BAD_ARGUMENT;
     }
     let before = decode_peer(peer);
-    let wrote = before.write_change_one(decode_password(old), decode_password(new), out);
-    let written = wrote.written;
-    let next = wrote.peer;
-    put_peer(written.refusal, next, peer)
+    match before.write_change_one(decode_password(old), decode_password(new), out) {
+        Ok(written) => put_peer(0, written.peer, peer),
+        Err(refusal) => refused(refusal),
+    }
 }

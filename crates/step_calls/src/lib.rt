@@ -5,6 +5,7 @@
 
 ghost use Rattle.std.specs.Prelude.{◌≡◌, cond, length};
 ghost use Rattle.accounts.specs.Account.{account_of};
+ghost use Rattle.authenticator.specs.Step.{taken_as};
 ghost use Rattle.layouts.specs.Answers.{answer_size};
 ghost use Rattle.layouts.specs.Conversations.{conversation_size};
 ghost use Rattle.layouts.specs.Keys.{encode_schedules};
@@ -14,14 +15,14 @@ ghost use Rattle.step_calls.specs.Calls.{StepCall, answer_record_arguments, Answ
 ghost use Rattle.step_calls.specs.Inner.{AnswerPut, step_arguments_as};
 
 use accounts::{Entry, EntryLookup, Hash, account_of};
-use authenticator::{Conversation, Phase, Stepped, hands_back};
+use authenticator::{Conversation, EntryStep, Phase, hands_back};
 use layouts::{
     ANSWER_HEAD_SIZE, ANSWER_SIZE, BAD_ARGUMENT, BOTH_KEYS_SIZE, KEYS_SIZE, RECORD_HEAD_SIZE,
     RECORD_SIZE, decode_answer, decode_conversation, decode_head, encode_schedules,
     is_conversation, is_encoded_answer, is_record, put_answer, put_conversation, put_record_head,
-    wide,
+    refused,
 };
-use numbers::{no_record_refusal, number_of, result_of};
+use numbers::{has_record, result_of};
 use refusals::both;
 
 // Whether what was decoded encodes to what was passed. It is decoded once, for this and for the
@@ -62,37 +63,28 @@ fn made_keys(entry: Entry) -> [u8; BOTH_KEYS_SIZE]
     encode_schedules(account_of(entry))
 }
 
-// Writes the next conversation and the answer, unless the packet was refused. The round keys of a
-// record that is handed back are copied as they are.
+// Writes the next conversation and the answer. The round keys of a record that is handed back are
+// copied as they are.
 fn put_stepped(
     phase: Phase,
-    stepped: Stepped,
+    stepped: EntryStep,
     account: &[u8],
     conversation: &mut [u8],
     out: &mut [u8],
 ) -> u32
     requires { (length account.now ≡ record_size)
         × (length conversation.old ≡ conversation_size) × (length out.old ≡ answer_size) }
-    ensures { AnswerPut phase stepped account.now conversation.old
+    ensures { AnswerPut phase (taken_as stepped) account.now conversation.old
         out.old result conversation.new out.new }
 {
-    let kind = stepped.kind;
-    let number = number_of(kind);
-    if number != 0 {
-        return wide(number);
-    }
-    let next = stepped.next;
-    let result = result_of(stepped);
-    put_conversation(0, next, conversation);
-    if hands_back(phase, kind) {
+    put_conversation(0, stepped.next, conversation);
+    if hands_back(phase, stepped.drawn) {
         let keys = octets::part_of(account, RECORD_HEAD_SIZE, BOTH_KEYS_SIZE);
-        put_answer(result, keys, out);
+        put_answer(result_of(stepped), keys, out);
         return 0;
     }
-    let updated = stepped.updated;
-    let entry = updated.entry;
-    let made = made_keys(entry);
-    put_answer(result, &made, out);
+    let made = made_keys(stepped.updated.entry);
+    put_answer(result_of(stepped), &made, out);
     0
 }
 
@@ -117,16 +109,18 @@ pub fn step(
     if !are_step_arguments(before, lookup, conversation, account, answer) {
         return BAD_ARGUMENT;
     }
-    let refusal = before.refusal_of(packet, reply);
-    if refusal != 0 {
-        return wide(refusal);
+    if let Err(refusal) = before.admits(packet, reply) {
+        return refused(refusal);
     }
-    let phase = before.phase;
-    let nt = lookup.entry.nt;
-    let at = judging_at(packets::octet(packet, packets::FLAG_OFFSET), nt);
+    let at = judging_at(
+        packets::octet(packet, packets::FLAG_OFFSET),
+        lookup.entry.nt,
+    );
     let keys = octets::part_of(account, at, KEYS_SIZE);
-    let stepped = before.step_by(packet, lookup, keys, reply);
-    put_stepped(phase, stepped, account, conversation, answer)
+    match before.step_by(packet, lookup, keys, reply) {
+        Ok(stepped) => put_stepped(before.phase, stepped, account, conversation, answer),
+        Err(refusal) => refused(refusal),
+    }
 }
 
 // ---- the record of its answer
@@ -147,9 +141,8 @@ pub fn answer_record(answer: &[u8], out: &mut [u8]) -> u32
         return BAD_ARGUMENT;
     }
     let lookup = decode_answer(answer).updated;
-    let refusal = no_record_refusal(lookup);
-    if refusal != 0 {
-        return wide(refusal);
+    if let Err(refusal) = has_record(lookup) {
+        return refused(refusal);
     }
     put_record_head(lookup, out);
     octets::copy_at(

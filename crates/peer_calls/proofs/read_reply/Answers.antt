@@ -1,8 +1,7 @@
 -- `peer_calls::read_reply` meets its contract.
 -- Assumes nothing.
-use mathlib.Core.Path.{◌≡◌, refl, sym, ◌∙◌}
 use mathlib.Core.Bool.{true}
-use borrow.Author.Tests.{ne_eqb}
+use mathlib.Core.Path.{◌≡◌, refl, sym, ◌∙◌}
 use Rattle.layouts.specs.Peers.{is_encoded_peer}
 use Rattle.peer_calls.proofs.Calling.{reply_refused, reply_called}
 use Rattle.peer_calls.proofs.read_reply.Goals as goal
@@ -20,21 +19,20 @@ returns-then-not-is_encoded_peer c =
     }
 
 -- the reply is refused
-pub returns-then-number-ne0 : goal.returns-then-number-ne0
-returns-then-number-ne0 c =
+pub returns-in-Err : goal.returns-in-Err
+returns-in-Err c =
     let a = c.args in
     let valid : is_encoded_peer a.peer.now ≡ true =
     sym c.is_encoded_peer.ensures ∙ c.if-not-is_encoded_peer.false in
-    reply_refused a.peer.now a.packet.now valid c.decode_peer-before.ensures
-    c.read_reply-read.ensures c.verdict_number-number.ensures
-    (ne_eqb _ _ c.if-number-ne0.true) c.wide.ensures
+    reply_refused a.peer.now a.packet.now valid c.decode_peer.ensures
+    c.read_reply.ensures c.in-Err.refusal c.in-Err.is c.refused.ensures
 
 -- it is not
-pub returns : goal.returns
-returns c =
+pub returns-in-Ok : goal.returns-in-Ok
+returns-in-Ok c =
     let a = c.args in
     let valid : is_encoded_peer a.peer.now ≡ true =
     sym c.is_encoded_peer.ensures ∙ c.if-not-is_encoded_peer.false in
-    reply_called a.peer.now a.packet.now valid c.decode_peer-before.ensures
-    c.read_reply-read.ensures c.verdict_number-number.ensures c.if-number-ne0.false
+    reply_called a.peer.now a.packet.now valid c.decode_peer.ensures
+    c.read_reply.ensures c.in-Ok.read c.in-Ok.is
     c.call_in.ensures c.failure_reason.ensures c.put_peer.ensures

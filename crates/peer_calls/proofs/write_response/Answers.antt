@@ -10,7 +10,7 @@ use Rattle.layouts.specs.Passwords.{decode_password, is_encoded_password}
 use Rattle.layouts.specs.Peers.{is_encoded_peer}
 use Rattle.layouts.proofs.Filling.{both}
 use Rattle.peer_calls.specs.Calls.{response_arguments}
-use Rattle.peer_calls.proofs.Calling.{wrote_called, response_kept}
+use Rattle.peer_calls.proofs.Calling.{wrote_refused, wrote_called, response_kept}
 use Rattle.peer_calls.proofs.write_response.Goals as goal
 
 encoded : (peer password : List ℕ) → response_arguments peer password ≡ true
@@ -29,24 +29,38 @@ returns-then-not-are_response_arguments c =
       packet = refl;
     }
 
--- they are valid
-pub returns : goal.returns
-returns c =
-    let put = c in
-    let wrote = put in
-    let password = wrote in
-    let decoded = password in
-    let passed = decoded in
-    let a = passed.args in
+-- they are valid, and the packet is refused
+pub returns-in-Err : goal.returns-in-Err
+returns-in-Err c =
+    let a = c.args in
+    let peer = a.peer.now in
     let out = a.out.now in
     let name = a.name.now in
-    let p = decode_password a.password.now in
-    let turn = decoded.decode_peer-before.result.turn in
+    let password = decode_password a.password.now in
+    let turn = c.decode_peer-before.result.turn in
     let valid =
-    sym passed.are_response_arguments.ensures ∙ passed.if-not-are_response_arguments.false in
-    wrote_called (λ (t : Turn). write_response t p name out) a.peer.now out
-    (response_arguments a.peer.now a.password.now) valid
-    (encoded a.peer.now a.password.now valid) (response_kept p name out)
-    decoded.decode_peer-before.ensures
-    (ap (λ (l : List ℕ). write_response turn l name out) password.decode_password.ensures)
-    wrote.write_response-wrote.ensures put.put_peer.ensures
+    sym c.are_response_arguments.ensures ∙ c.if-not-are_response_arguments.false in
+    wrote_refused (λ (t : Turn). write_response t password name out) peer out
+    (response_arguments peer a.password.now) valid
+    (encoded peer a.password.now valid) (response_kept password name out)
+    c.decode_peer-before.ensures
+    (ap (λ (k : List ℕ). write_response turn k name out) c.decode_password.ensures)
+    c.write_response.ensures c.in-Err.refusal c.in-Err.is c.refused.ensures
+
+-- it is written
+pub returns-in-Ok : goal.returns-in-Ok
+returns-in-Ok c =
+    let a = c.args in
+    let peer = a.peer.now in
+    let out = a.out.now in
+    let name = a.name.now in
+    let password = decode_password a.password.now in
+    let turn = c.decode_peer-before.result.turn in
+    let valid =
+    sym c.are_response_arguments.ensures ∙ c.if-not-are_response_arguments.false in
+    wrote_called (λ (t : Turn). write_response t password name out) peer out
+    (response_arguments peer a.password.now) valid
+    (encoded peer a.password.now valid) (response_kept password name out)
+    c.decode_peer-before.ensures
+    (ap (λ (k : List ℕ). write_response turn k name out) c.decode_password.ensures)
+    c.write_response.ensures c.in-Ok.written c.in-Ok.is c.put_peer.ensures

@@ -21,7 +21,7 @@ returns c =
     let room = empty.empty_room.result.bytes in
     let two = number.u16_to_be.ensures in
     let s₁ = first 0 room (flag v.repeated ∷ []) 1 refl repeated.put_flag-room.ensures in
-    let s₂ = next s₁ number.u16_to_be.result 2 (ap length two) reason.put_two-room.ensures in
+    let s₂ = next s₁ number.u16_to_be.result 2 (ap length two) reason.put_octets-room.ensures in
     let s₃ = next s₂ (fault-number.fault_number.result ∷ []) 1 refl fault.put_byte-room.ensures in
     last s₃ (encode_entry_lookup v.updated) c.encode_entry_lookup.ensures
     ∙ ap₂ over (result_pieces v two fault-number.fault_number.ensures)

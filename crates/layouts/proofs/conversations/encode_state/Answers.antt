@@ -27,7 +27,7 @@ returns c =
     let s₄ = next s₃ (c.version.result ∷ []) 1 refl c.put_byte-room-3.ensures in
     let s₅ = next s₄ (v.id ∷ []) 1 refl c.put_byte-room-4.ensures in
     let s₆ = next s₅ (v.retries ∷ []) 1 refl c.put_byte-room-5.ensures in
-    let s₇ = next s₆ v.challenge 8 long c.put_eight-room.ensures in
+    let s₇ = next s₆ v.challenge 8 long c.put_octets-room.ensures in
     let s₈ =
     next s₇ (encode_entry v.kept) 39 (length_entry v.kept kept-sized)
     c.encode_entry-room.ensures in

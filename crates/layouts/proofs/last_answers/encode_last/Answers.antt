@@ -29,7 +29,7 @@ returns c =
     let s₂ = next s₁ (v.code ∷ []) 1 refl code.put_byte-room.ensures in
     let s₃ = next s₂ (v.id ∷ []) 1 refl id.put_byte-room-2.ensures in
     let s₄ = next s₃ (number.reply_number.result ∷ []) 1 refl reply.put_byte-room-3.ensures in
-    last s₄ two.u16_to_be.result c.put_two.ensures
+    last s₄ two.u16_to_be.result c.put_octets.ensures
     ∙ ap₂
     (λ (n : ℕ) (l : List ℕ).
     over_at a.at (flag v.present ∷ v.code ∷ v.id ∷ n ∷ l) room)

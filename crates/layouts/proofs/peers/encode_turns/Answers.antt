@@ -18,7 +18,7 @@ returns c =
     let room = c.empty_room.result.bytes in
     let s₁ = first 0 room (flag q.sent.present ∷ []) 1 refl c.put_flag-room.ensures in
     let s₂ = next s₁ (q.sent.id ∷ []) 1 refl c.put_byte-room.ensures in
-    let s₃ = next s₂ q.sent.challenge 8 sized.sent c.put_eight-room.ensures in
+    let s₃ = next s₂ q.sent.challenge 8 sized.sent c.put_octets-room.ensures in
     let s₄ = next s₃ (q.turn.id ∷ []) 1 refl c.put_byte-room-2.ensures in
-    last s₄ q.turn.challenge c.put_eight.ensures
+    last s₄ q.turn.challenge c.put_octets.ensures
     ∙ ap₂ over (turns_pieces q) c.empty_room.ensures

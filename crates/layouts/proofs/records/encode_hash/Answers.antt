@@ -12,4 +12,4 @@ returns c =
     let a = present.args in
     let piece = flag a.hash.present ∷ [] in
     let s₁ = first a.at a.room.bytes piece 1 refl present.put_flag-room.ensures in
-    last s₁ a.hash.octets c.put_sixteen.ensures
+    last s₁ a.hash.octets c.put_octets.ensures
