@@ -15,14 +15,16 @@ use Rattle.des.specs.Des.{permute, rotate, keys_from, round_keys, expand_key, sc
 use Rattle.des.specs.Inner.{shifts_of, rotated_by, keys_of}
 use Rattle.des.proofs.Permute.{permute_lt}
 
--- the C and D of PC-1: 56 bits, and the round keys from them
-pub choice_lt : (cd key : ℕ) → cd ≡ permute 64 pc1 key → cd < 2 ^ 56
+-- the C and D of PC-1: the first has 28 bits, as any remainder of the other has, and the round keys
+-- are from them
+pub choice_lt : (cd key : ℕ) → cd ≡ permute 64 pc1 key → cd / 2 ^ 28 < 2 ^ 28
 unfolding pc1
-choice_lt cd key e = rw e (permute_lt 64 key pc1)
+choice_lt cd key e = shr_lt 28 28 (rw e (permute_lt 64 key pc1))
 
-pub choice_keys : (cd : ℕ) (key : List ℕ) → cd ≡ permute 64 pc1 (from_be (expand_key key)) → keys_of cd ≡ schedule_of key
+pub choice_keys : (cd : ℕ) (key : List ℕ) → cd ≡ permute 64 pc1 (from_be (expand_key key))
+    → keys_of (cd / 2 ^ 28) (cd % 2 ^ 28) ≡ schedule_of key
 unfolding schedule_of round_keys
-choice_keys cd key e = ap keys_of e
+choice_keys cd key e = ap (λ (v : ℕ). keys_of (v / 2 ^ 28) (v % 2 ^ 28)) e
 
 -- ---- rotations
 
@@ -131,13 +133,9 @@ abbrev pub twice : ℕ → ℕ
 twice c = c * 2 ^ 28 + c
 
 -- the key of the round i, as PC-2 finds its bits in C and D written twice
-pub key_at_place : (cd i m : ℕ) → cd < 2 ^ 56 → i < 16 → m ≡ rotated_by i → m ≤ 28
-    → permute 56 pc2 (twice (cd / 2 ^ 28) / 2 ^ (28 - m) % 2 ^ 28 * 2 ^ 28 + twice (cd % 2 ^ 28) / 2 ^ (28 - m) % 2 ^ 28) ≡ get_or (keys_of cd) i 0
-key_at_place cd i m h hi e hm =
-    let c = cd / 2 ^ 28 in
-    let d = cd % 2 ^ 28 in
-    let hc : c < 2 ^ 28 = omega arith in
-    let hd : d < 2 ^ 28 = omega arith in
+pub key_at_place : (c d i m : ℕ) → c < 2 ^ 28 → d < 2 ^ 28 → i < 16 → m ≡ rotated_by i → m ≤ 28
+    → permute 56 pc2 (twice c / 2 ^ (28 - m) % 2 ^ 28 * 2 ^ 28 + twice d / 2 ^ (28 - m) % 2 ^ 28) ≡ get_or (keys_of c d) i 0
+key_at_place c d i m hc hd hi e hm =
     ap₂ (λ (u v : ℕ). permute 56 pc2 (u * 2 ^ 28 + v)) (rotate_twice c hc m hm) (rotate_twice d hd m hm)
     ∙ ap (key_by c d hc hd) e
     ∙ sym (key_at c d hc hd i hi)

@@ -14,8 +14,8 @@ use lib.Bits.{bit_xor, xor_shr, xor_mod}
 use Rattle.octets.specs.Numbers.{to_digits, from_be, to_be}
 use Rattle.octets.specs.Parts.{part}
 use Rattle.octets.proofs.Numbers.{Below, Octets}
-use Rattle.des.specs.Tables.{pc1, pc2, shifts}
-use Rattle.des.specs.Des.{permute, cipher_f, rotate, crypt, keys_from, round_keys, expand_key, schedule_of, des_encrypt, des_three}
+use Rattle.des.specs.Tables.{pc2, shifts}
+use Rattle.des.specs.Des.{cipher_f, rotate, crypt, keys_from, round_keys, schedule_of, des_encrypt, des_three}
 use Rattle.des.specs.Inner.{spread, folded_at, length_made, keys_of}
 use Rattle.des.specs.Stored.{pack_key, unpack_key, stored_schedule, three_schedules, des_under, three_under}
 use Rattle.des.proofs.Permute.{permute_lt}
@@ -32,8 +32,8 @@ keys_below (s ∷ ss) c d zero = permute_lt 56 (rotate s c * 2 ^ 28 + rotate s d
 keys_below (s ∷ ss) c d (suc i) = keys_below ss (rotate s c) (rotate s d) i
 
 -- a stored round key stands for the round key that it was made of
-pub unpack_made : (cd i : ℕ) → unpack_key (pack_key (get_or (keys_of cd) i 0)) ≡ get_or (keys_of cd) i 0
-unpack_made cd i = unpack_pack (get_or (keys_of cd) i 0) (keys_below shifts _ _ i)
+pub unpack_made : (c d i : ℕ) → unpack_key (pack_key (get_or (keys_of c d) i 0)) ≡ get_or (keys_of c d) i 0
+unpack_made c d i = unpack_pack (get_or (keys_of c d) i 0) (keys_below shifts c d i)
 
 -- round keys have 48 bits
 pub round_keys_below : (key : List ℕ) → Below (2 ^ 48) (schedule_of key)
@@ -42,7 +42,7 @@ round_keys_below key = keys_below shifts _ _
 
 pub length_schedule : (key : List ℕ) → length (stored_schedule key) ≡ 16
 unfolding stored_schedule schedule_of round_keys
-length_schedule key = length-map (schedule_of key) pack_key ∙ length_made (permute 64 pc1 (from_be (expand_key key)))
+length_schedule key = length-map (schedule_of key) pack_key ∙ length_made _ _
 
 pub length_schedules : (keys : List ℕ) → length (three_schedules keys) ≡ 48
 unfolding three_schedules

@@ -69,9 +69,9 @@ shifts_of (suc n) (s ∷ ss) = s + shifts_of n ss
 unfoldable pub rotated_by : ℕ → ℕ
 rotated_by i = shifts_of (suc i) shifts
 
--- the round keys from the C and D of PC-1, which are one number of 56 bits ("Key schedule")
-abbrev pub keys_of : ℕ → List ℕ
-keys_of cd = keys_from shifts (cd / 2 ^ 28) (cd % 2 ^ 28)
+-- the round keys from the C and D of PC-1 ("Key schedule")
+abbrev pub keys_of : ℕ → ℕ → List ℕ
+keys_of c d = keys_from shifts c d
 
 -- the round keys that the numbers of a stored schedule stand for
 abbrev pub kept_keys : List ℕ → List ℕ
@@ -79,9 +79,9 @@ kept_keys octets = map unpack_key (decode_keys 16 octets)
 
 -- ---- lengths: laws of the code's `RoundKeys`, which are proved where they are stated
 
-pub length_made : (cd : ℕ) → length (keys_of cd) ≡ 16
+pub length_made : (c d : ℕ) → length (keys_of c d) ≡ 16
 unfolding shifts
-length_made cd = refl
+length_made c d = refl
 
 pub length_kept : (octets : List ℕ) → length (kept_keys octets) ≡ 16
 unfolding decode_keys

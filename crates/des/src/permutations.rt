@@ -26,8 +26,8 @@ pub(crate) fn initial_permutation(x: u64) -> u64
     swap_bits(d, 36, 0x0000_0000_0f0f_0f0f)
 }
 
-// The inverse of IP: the same exchanges in the opposite order. A loop over a table of the five, from
-// either end, would be no plainer.
+// The inverse of IP: the same exchanges in the opposite order. A loop over a table of the five,
+// from either end, would be no plainer.
 #[tactic(auto, using(crate::proofs::Swaps::fp_swaps_lem))]
 pub(crate) fn final_permutation(x: u64) -> u64
     ensures { result ≡ permute 64 fp x }

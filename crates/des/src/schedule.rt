@@ -77,22 +77,26 @@ fn second_choice(c: u64, d: u64) -> u64
 
 // ---- the round keys
 
-// The C and D that PC-1 gives for a key, one number of 56 bits: each round key is made of them in
-// its round.
+// The C and D that PC-1 gives for a key, of 28 bits each: each round key is made of them in its
+// round.
 #[derive(Drop)]
 pub(crate) struct MadeKeys {
-    cd: u64,
-    ghost in_range: { cd < 0x0100_0000_0000_0000 },
+    c: u64,
+    d: u64,
+    ghost c_in_range: { c < 0x1000_0000 },
+    ghost d_in_range: { d < 0x1000_0000 },
 }
 
 impl MadeKeys {
     // For a key of seven octets.
     #[tactic(auto, using(crate::proofs::Keys::choice_lt, crate::proofs::Keys::choice_keys))]
     pub(crate) fn of_key(key: [u8; 7]) -> MadeKeys
-        ensures { keys_of result.cd ≡ schedule_of key }
+        ensures { keys_of result.c result.d ≡ schedule_of key }
     {
+        let cd = first_choice(key_number(key));
         MadeKeys {
-            cd: first_choice(key_number(key)),
+            c: cd / 0x1000_0000,
+            d: cd % 0x1000_0000,
         }
     }
 
@@ -101,24 +105,24 @@ impl MadeKeys {
     #[tactic(auto, using(crate::proofs::Keys::key_at_place))]
     fn stored_key(&self, i: usize) -> u64
         requires { i < 16 }
-        ensures { result ≡ pack_key (get_or (keys_of self.now.cd) i 0) }
+        ensures { result ≡ pack_key (get_or (keys_of self.now.c self.now.d) i 0) }
     {
-        let c = self.cd / 0x1000_0000;
-        let d = self.cd % 0x1000_0000;
         let s = 28 - rotated_by(i);
-        second_choice((c * 0x1000_0000 + c) >> s, (d * 0x1000_0000 + d) >> s)
+        let c = (self.c * 0x1000_0000 + self.c) >> s;
+        let d = (self.d * 0x1000_0000 + self.d) >> s;
+        second_choice(c, d)
     }
 }
 
 impl RoundKeys for MadeKeys {
-    ghost keys = { λ s. keys_of s.cd };
+    ghost keys = { λ s. keys_of s.c s.d };
 
     #[tactic(auto, using(crate::proofs::Stored::unpack_made))]
     fn key(&self, i: usize) -> u64 {
         self.stored_key(i)
     }
 
-    ghost sixteen = { λ s. length_made s.cd };
+    ghost sixteen = { λ s. length_made s.c s.d };
 }
 
 // Writes the stored schedule of a key of seven octets.

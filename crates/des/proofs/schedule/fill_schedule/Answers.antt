@@ -9,15 +9,16 @@ use Rattle.des.specs.Inner.{keys_of, length_made}
 use Rattle.des.specs.Stored.{pack_key, stored_schedule}
 use Rattle.des.proofs.schedule.fill_schedule.Goals as goal
 
-length_stored : (cd : ℕ) → length (map pack_key (keys_of cd)) ≡ 16
-length_stored cd = length-map (keys_of cd) pack_key ∙ length_made cd
+length_stored : (c d : ℕ) → length (map pack_key (keys_of c d)) ≡ 16
+length_stored c d = length-map (keys_of c d) pack_key ∙ length_made c d
 
 pub loop-i-preserved : goal.loop-i-preserved
 unfolding pack_key
 loop-i-preserved c =
     let i = c.loop-i.i in
-    let ks = keys_of c.of_key-keys.result.cd in
-    let n = length_stored c.of_key-keys.result.cd in
+    let k = c.of_key-keys.result in
+    let ks = keys_of k.c k.d in
+    let n = length_stored k.c k.d in
     let m = c.loop-i.invariant.0 in
     let h = c.requires in (
       simp length-set m,
@@ -32,8 +33,9 @@ pub returns : goal.returns
 unfolding stored_schedule
 returns c =
     let i = c.loop-i.i in
-    let ks = keys_of c.of_key-keys.result.cd in
-    let n = length_stored c.of_key-keys.result.cd in
+    let k = c.of_key-keys.result in
+    let ks = keys_of k.c k.d in
+    let n = length_stored k.c k.d in
     let m = c.loop-i.invariant.0 in
     let h = c.requires in
     sym (take_all i c.loop-i.schedule (omega arith)) ∙ c.loop-i.invariant.1 ∙ take_all i (map pack_key ks) (omega arith)
