@@ -39,6 +39,9 @@ use Rattle.authenticator.specs.Step.{
   step_fault,
   step,
 }
+use Rattle.authenticator.specs.Step.{kind_of}
+use Rattle.authenticator.specs.declared.Drawn.{Drawn}
+use Rattle.authenticator.specs.declared.Drawn.TheVariants as drawn
 use Rattle.authenticator.specs.Steps.{StepInput, step_on, drew_reply, refusal_at}
 use Rattle.authenticator.specs.Steps.{reply_of}
 use Rattle.authenticator.specs.Step.{Answer}
@@ -253,3 +256,9 @@ module _ (c : Conversation) (s : StepInput) where
           eq-eqb _ 0 (number ∙ passes c s.packet s.buffer h)
           ∙ sym (ap (λ (o : Outcome). drew_reply o s.buffer) e
           ∙ drew_judged (judge c s.packet s.account))
+
+-- ---- what a packet draws that is not refused
+
+pub drawn_told : (d : Drawn) → refusal_in (kind_of d) ≡ 0
+drawn_told (drawn.Repeated e) = refl
+drawn_told (drawn.Judged e) = refl

@@ -18,6 +18,8 @@ use Rattle.layouts.specs.declared.StepResult.{StepResult}
 use Rattle.layouts.proofs.AnswerLaws.{decoded_answer_sized, length_encoded_answer}
 use Rattle.layouts.proofs.Filling.{both, refused_argument}
 use Rattle.layouts.proofs.RecordLaws.{length_head}
+use Rattle.refusals.specs.Refusal.{number, told}
+use Rattle.refusals.proofs.Numbers.{number_some}
 use Rattle.numbers.specs.Results.{no_record_refusal}
 use Rattle.step_calls.specs.Calls.{answer_record_arguments}
 use Rattle.account_records.proofs.Laying.{both_laid}
@@ -37,21 +39,22 @@ returns-then-not-are_answer_record_arguments c =
     (sym c.are_answer_record_arguments.ensures ∙ c.if-not-are_answer_record_arguments.true)
 
 -- none: nothing is written
-pub returns-then-refusal-ne0 : goal.returns-then-refusal-ne0
-returns-then-refusal-ne0 c =
+pub returns-in-Err : goal.returns-in-Err
+returns-in-Err c =
     let answer = c.args.answer.now in
     let out = c.args.out.now in
     let valid : answer_record_arguments answer out ≡ true =
     sym c.are_answer_record_arguments.ensures ∙ c.if-not-are_answer_record_arguments.false in
     -- what the answer says of the record
-    let told : c.decode_answer.result.updated ≡ (decode_answer answer).updated =
+    let updated : c.decode_answer.result.updated ≡ (decode_answer answer).updated =
     ap (λ (v : StepResult). v.updated) c.decode_answer.ensures in
-    let refusal = c.no_record_refusal-refusal.ensures ∙ ap no_record_refusal told in
-    let number = c.wide.ensures ∙ refusal in
+    let refusal : number c.in-Err.refusal ≡ no_record_refusal (decode_answer answer).updated =
+    sym (ap told c.in-Err.is) ∙ c.has_record.ensures ∙ ap no_record_refusal updated in
+    let some = number_some c.in-Err.refusal in
     record {
-      number = number ∙ sym (ap (λ (t : Bool). numbered t
+      number = c.refused.ensures ∙ refusal ∙ sym (ap (λ (t : Bool). numbered t
           (no_record_refusal (decode_answer answer).updated)) valid);
-      bytes = simp (c.wide.ensures, ne_eqb _ 0 c.if-refusal-ne0.true);
+      bytes = simp (c.refused.ensures, ne_eqb _ 0 some);
     }
 
 pub returns : goal.returns
@@ -61,13 +64,13 @@ returns c =
     let valid : answer_record_arguments answer out ≡ true =
     sym c.are_answer_record_arguments.ensures ∙ c.if-not-are_answer_record_arguments.false in
     -- what the answer says of the record
-    let told : c.decode_answer.result.updated ≡ (decode_answer answer).updated =
+    let updated : c.decode_answer.result.updated ≡ (decode_answer answer).updated =
     ap (λ (v : StepResult). v.updated) c.decode_answer.ensures in
-    let refusal = c.no_record_refusal-refusal.ensures ∙ ap no_record_refusal told in
     let size = sizes answer out valid in
     let l = (decode_answer answer).updated in
     let keys = c.part_of.ensures in
-    let none = sym refusal ∙ c.if-refusal-ne0.false in
+    let none : no_record_refusal l ≡ 0 =
+    sym (sym (ap told c.in_default.is) ∙ c.has_record.ensures ∙ ap no_record_refusal updated) in
     record {
       number = sym (ap₂ numbered valid none);
       bytes =
@@ -76,7 +79,7 @@ returns c =
           (ap length keys
           ∙ length_part answer_head_size both_keys_size answer (omega (arith, size.0))) size.1
           (c.put_record_head.ensures
-          ∙ ap (λ (x : EntryLookup). over (record_head x) out) told)
+          ∙ ap (λ (x : EntryLookup). over (record_head x) out) updated)
           c.copy_at.ensures
           ∙ ap (λ (x : List ℕ). record_head l ++ x) keys;
     }

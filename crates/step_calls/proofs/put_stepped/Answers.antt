@@ -19,7 +19,8 @@ use Rattle.layouts.specs.declared.StepResult.{StepResult}
 use Rattle.layouts.proofs.Filling.{fills_number}
 use Rattle.numbers.specs.Results.{result_of}
 use Rattle.numbers.proofs.FlagLaws.{made_keys}
-use Rattle.authenticator.specs.Step.{refusal_in}
+use Rattle.authenticator.specs.Step.{taken_as}
+use Rattle.authenticator.proofs.Steps.{drawn_told}
 use Rattle.account_records.proofs.Laying.{both_laid, length_record_keys}
 use Rattle.step_calls.proofs.put_stepped.Goals as goal
 
@@ -46,29 +47,16 @@ laid result s keys out told size n (e, long) =
 abbrev keys-by : Stepped → List ℕ → Bool → List ℕ
 keys-by s account t = cond t (record_keys account) (encode_schedules (account_of s.updated.entry))
 
--- refused: nothing is written
-pub returns-then-number-ne0 : goal.returns-then-number-ne0
-returns-then-number-ne0 c =
-    let some = ne_eqb _ 0 c.if-number-ne0.true in
-    let number = c.wide.ensures in
-    record {
-      number = number ∙ c.number_of-number.ensures;
-      next = simp (number, some);
-      found = simp (number, some);
-    }
-
 pub returns-then-hands_back : goal.returns-then-hands_back
 returns-then-hands_back c =
     let account = c.args.account.now in
-    let s = c.args.stepped in
+    let s = taken_as c.args.stepped in
     let same = c.part_of-keys.ensures in
-    let none : 0 ≡ refusal_in s.kind =
-    sym c.if-number-ne0.false ∙ c.number_of-number.ensures in
     record {
-      number = none;
+      number = sym (drawn_told c.args.stepped.drawn);
       next = written s.next c.args.conversation.now c.requires.1 c.put_conversation.ensures;
       found =
-          laid c.result_of-result.result s _ c.args.out.now c.result_of-result.ensures c.requires.2
+          laid c.result_of.result s _ c.args.out.now c.result_of.ensures c.requires.2
           (ap length same ∙ length_record_keys account c.requires.0) c.put_answer.ensures
           ∙ ap (encode_answer (result_of s))
           (same ∙ ap (keys-by s account) (sym c.if-hands_back.true ∙ c.hands_back.ensures));
@@ -77,15 +65,13 @@ returns-then-hands_back c =
 pub returns : goal.returns
 returns c =
     let account = c.args.account.now in
-    let s = c.args.stepped in
+    let s = taken_as c.args.stepped in
     let same = c.made_keys-made.ensures in
-    let none : 0 ≡ refusal_in s.kind =
-    sym c.if-number-ne0.false ∙ c.number_of-number.ensures in
     record {
-      number = none;
+      number = sym (drawn_told c.args.stepped.drawn);
       next = written s.next c.args.conversation.now c.requires.1 c.put_conversation.ensures;
       found =
-          laid c.result_of-result.result s _ c.args.out.now c.result_of-result.ensures c.requires.2
+          laid c.result_of-2.result s _ c.args.out.now c.result_of-2.ensures c.requires.2
           (ap length same ∙ made_keys s.updated.entry) c.put_answer-2.ensures
           ∙ ap (encode_answer (result_of s))
           (same ∙ ap (keys-by s account) (sym c.if-hands_back.false ∙ c.hands_back.ensures));

@@ -11,7 +11,12 @@ use Rattle.accounts.specs.declared.Schedules.{Schedules}
 use Rattle.packets.specs.Response.{read_response}
 use Rattle.verify.specs.Response.{uses_nt, judging_keys, carrying_lookup}
 use Rattle.authenticator.specs.Admit.{step_refusal}
-use Rattle.authenticator.specs.Step.{Outcome, step, refusal_in}
+use Rattle.std.specs.Prelude.{Err}
+use Rattle.refusals.specs.Refusal.{number, told}
+use Rattle.refusals.specs.declared.Refusal.{Refusal}
+use Rattle.refusals.proofs.Numbers.{number_some}
+use Rattle.authenticator.specs.Step.{Outcome, step, refusal_in, stepped_as}
+use Rattle.authenticator.specs.declared.Phase.{Phase}
 use Rattle.authenticator.specs.declared.Conversation.{Conversation}
 use Rattle.authenticator.specs.Step.{Stepped}
 use Rattle.authenticator.proofs.Carried.{Seen, seen_of}
@@ -62,8 +67,8 @@ returns-then-not-are_step_arguments c =
     }
 
 -- they are valid, and the packet is refused
-pub returns-then-refusal-ne0 : goal.returns-then-refusal-ne0
-returns-then-refusal-ne0 c =
+pub returns-in-Err : goal.returns-in-Err
+returns-in-Err c =
     let a = c.args in
     let tested : c.are_step_arguments.result
     ≡ step_arguments a.conversation.now a.account.now a.answer.now =
@@ -73,18 +78,21 @@ returns-then-refusal-ne0 c =
     c.decode_conversation-before.ensures c.decode_head-lookup.ensures
     ∙ step_arguments_lem a.conversation.now a.account.now a.answer.now in
     let valid = sym tested ∙ c.if-not-are_step_arguments.false in
+    let packet = a.packet.now in
+    let account = a.account.now in
+    let reply = a.reply.now in
     let before = c.decode_conversation-before.ensures in
-    let some = ne_eqb _ 0 c.if-refusal-ne0.true in
-    let refusal = c.wide.ensures ∙ c.refusal_of-refusal.ensures
-    ∙ ap (λ (v : Conversation). step_refusal v a.packet.now a.reply.now) before
-    ∙ sym (number_step (decode_conversation a.conversation.now) a.packet.now
-    (decode_record a.account.now) a.reply.now) in
+    let some = ne_eqb _ 0 (number_some c.in-Err.refusal) in
+    let refusal = c.refused.ensures ∙ sym (ap told c.in-Err.is) ∙ c.admits.ensures
+    ∙ ap (λ (v : Conversation). step_refusal v packet reply) before
+    ∙ sym (number_step (decode_conversation a.conversation.now) packet (decode_record account)
+    reply) in
     record {
       number = refusal ∙ sym (ap (λ (t : Bool). numbered t (refusal_in (step_of
-          a.conversation.now a.packet.now a.account.now a.reply.now).answer.kind)) valid);
-      next = simp (c.wide.ensures, some);
-      sent = simp (c.wide.ensures, some);
-      found = simp (c.wide.ensures, some);
+          a.conversation.now packet account reply).answer.kind)) valid);
+      next = simp (c.refused.ensures, some);
+      sent = simp (c.refused.ensures, some);
+      found = simp (c.refused.ensures, some);
     }
 
 ap_put : {v w : Conversation} {s : Stepped} {account conversation out : List ℕ} {r : ℕ}
@@ -95,9 +103,17 @@ ap_put {s = s} {account = m} {conversation = c} {out = o} {r = r} {conversation_
     {out_after = u} e p =
     subst (λ (x : Conversation). AnswerPut x.phase s m c o r d u) e p
 
+-- an answer that is refused leaves the caller's buffers alone
+put_none : (ph : Phase) (v : Conversation) (f : Refusal) {account conversation out : List ℕ} {r : ℕ}
+    → r ≡ number f
+    → AnswerPut ph (stepped_as v (Err f)) account conversation out r conversation out
+put_none ph v f e =
+    let some = ne_eqb _ 0 (number_some f) in
+    record { number = e; next = simp (e, some); found = simp (e, some) }
+
 -- it is not refused
-pub returns : goal.returns
-returns c =
+pub returns-in-Ok : goal.returns-in-Ok
+returns-in-Ok c =
     let a = c.args in
     let tested : c.are_step_arguments.result
     ≡ step_arguments a.conversation.now a.account.now a.answer.now =
@@ -125,8 +141,50 @@ returns c =
     seen_of (done v l (stored_in c.part_of-keys.result.now))) before lookup
     ∙ ap (λ (s : Schedules). seen_of (done (decode_conversation a.conversation.now)
     (decode_head account) s)) read in
-    let e = c.step_by-stepped.ensures in
+    let e = c.step_by.ensures in
+    let s = c.in-Ok.stepped in
+    let v = c.decode_conversation-before.result in
     step_called a.conversation.now packet account reply a.answer.now valid
     (sym seen ∙ sym (ap₂ (λ (s : Stepped) (b : List ℕ).
-    let x : Seen = record { stepped = s; buffer = b } in x) e.0 e.1))
+    let x : Seen = record { stepped = s; buffer = b } in x)
+    (sym (ap (stepped_as v) c.in-Ok.is) ∙ e.0) e.1))
     (ap_put before c.put_stepped.ensures)
+
+-- (The step does not refuse what was admitted; if it did, all would be left as it was.)
+pub returns-in-Err-step_by : goal.returns-in-Err-step_by
+returns-in-Err-step_by c =
+    let a = c.args in
+    let tested : c.are_step_arguments.result
+    ≡ step_arguments a.conversation.now a.account.now a.answer.now =
+    c.are_step_arguments.ensures
+    ∙ ap₂ (λ (v : Conversation) (l : EntryLookup). step_arguments_as v l a.conversation.now
+    a.account.now a.answer.now)
+    c.decode_conversation-before.ensures c.decode_head-lookup.ensures
+    ∙ step_arguments_lem a.conversation.now a.account.now a.answer.now in
+    let valid = sym tested ∙ c.if-not-are_step_arguments.false in
+    let packet = a.packet.now in
+    let account = a.account.now in
+    let reply = a.reply.now in
+    let before = c.decode_conversation-before.ensures in
+    let lookup = c.decode_head-lookup.ensures in
+    let read : stored_in c.part_of-keys.result.now ≡ judging_keys (decode_record account).account
+    (read_response packet) =
+    ap stored_in c.part_of-keys.ensures
+    ∙ ap (λ (n : ℕ). keys_at n account) (c.judging_at-at.ensures
+    ∙ ap₂ (λ (n : ℕ) (l : EntryLookup). cond (uses_nt n l.entry.nt) nt_keys_at lm_keys_at)
+    c.octet.ensures lookup)
+    ∙ keys_read packet account in
+    let done : Conversation → EntryLookup → Schedules → Outcome =
+    λ v l s. step v packet (carrying_lookup l s) reply in
+    let seen = ap₂ (λ (v : Conversation) (l : EntryLookup).
+    seen_of (done v l (stored_in c.part_of-keys.result.now))) before lookup
+    ∙ ap (λ (s : Schedules). seen_of (done (decode_conversation a.conversation.now)
+    (decode_head account) s)) read in
+    let e = c.step_by.ensures in
+    let f = c.in-Err-step_by.refusal in
+    let v = c.decode_conversation-before.result in
+    step_called a.conversation.now packet account reply a.answer.now valid
+    (sym seen ∙ sym (ap₂ (λ (s : Stepped) (b : List ℕ).
+    let x : Seen = record { stepped = s; buffer = b } in x)
+    (sym (ap (stepped_as v) c.in-Err-step_by.is) ∙ e.0) e.1))
+    (put_none (decode_conversation a.conversation.now).phase v f c.refused-in-Err-step_by.ensures)

@@ -27,7 +27,7 @@ use Rattle.authenticator.specs.declared.Conversation.{Conversation}
 use Rattle.authenticator.specs.declared.Phase.{Phase}
 use Rattle.authenticator.specs.Step.{Stepped}
 use Rattle.authenticator.proofs.Carried.{Seen, seen_of, same_read, handed_back}
-use Rattle.authenticator.proofs.Steps.{told}
+use Rattle.authenticator.proofs.Steps.{told, drawn_told}
 use Rattle.authenticator.proofs.Conversation.step.Goals as goal
 
 -- an answer with a record
@@ -51,10 +51,6 @@ read-same c p b l keys e f =
 refused-same : (c : Conversation) (ph : Phase) (a : Account) (n : ℕ)
     → unjudged (Refused n) c 0 ≡ rebuilt ph a (stepped_of (unjudged (Refused n) c 0))
 refused-same c ph a n = refl
-
-drawn-told : (d : Drawn) → refusal_in (kind_of d) ≡ 0
-drawn-told (drawn.Repeated e) = refl
-drawn-told (drawn.Judged e) = refl
 
 pub returns-in_err-stepped : goal.returns-in_err-stepped
 returns-in_err-stepped c =
@@ -113,7 +109,7 @@ returns c =
     let facts = told a.self p a.lookup b same in (
       same,
       c.step_by.ensures.1 ∙ ap (λ (x : Seen). x.buffer) read,
-      sym (drawn-told s.drawn) ∙ facts.0,
+      sym (drawn_told s.drawn) ∙ facts.0,
       facts.1,
       facts.2,
       facts.3,
