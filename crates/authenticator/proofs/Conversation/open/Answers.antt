@@ -12,8 +12,9 @@ use borrow.Author.Tests.{ltb-false}
 use lib.Dec.{eqb, ltb}
 use lib.ListN.{length}
 use Rattle.refusals.specs.Refusal.{number}
+use Rattle.refusals.proofs.Laws.{some_number}
 use Rattle.issued.specs.Issued.{Issued, spend_refusal, spent}
-use Rattle.issued.proofs.Spending.{numbered, spent_refused}
+use Rattle.issued.proofs.Spending.{spent_refused}
 use Rattle.challenges.specs.Challenges.{challenges_from}
 use Rattle.packets.specs.Reply.{challenge_packet, longest_reply, bad_reply_buffer}
 use Rattle.authenticator.specs.Opening.{Opening, most_retries, retries_of, spends}
@@ -97,7 +98,7 @@ returns-in-Err c =
     let refusal-told = list_refusal o good ∙ sym list-told in
     let after-told = c.in-Err.ensures.list
     ∙ ap (λ (es : List (List ℕ)). spent 8 es o.issued) entries in
-    let some = λ (e : number c.in-Err.refusal ≡ 0). numbered c.in-Err.refusal e in
+    let some = λ (e : number c.in-Err.refusal ≡ 0). some_number c.in-Err.refusal e in
     let after = after-told
     ∙ spent_refused 8 (spends o) o.issued (λ e. some (list-told ∙ e)) in
     refused_promise o c.number.result (refusal-told ∙ sym c.number.ensures)
