@@ -8,7 +8,8 @@ use Rattle.packets.specs.Sizes.{hash_size}
 use Rattle.credentials.specs.Credentials.{bad_nt_password, nt_hashed}
 use Rattle.unicode_text.specs.Password.{octets_of, password_of, text_of}
 use Rattle.layouts.specs.Call.{Fills, sized, numbered, after_call}
-use Rattle.layouts.specs.Passwords.{password_size, encode_password, decode_password, is_encoded_password}
+use Rattle.layouts.specs.Passwords.{password_size, encode_password, decode_password}
+use Rattle.layouts.specs.Passwords.{is_encoded_password}
 
 -- ---- made
 
@@ -22,8 +23,8 @@ characters_refusal characters = cond (bad_nt_password characters) 8 0
 
 abbrev pub MakeCharactersCall : List ℕ → List ℕ → ℕ → List ℕ → Type 0
 MakeCharactersCall characters out r out_after =
-    Fills (sized password_size out) (characters_refusal characters) (encode_password characters) out r
-    out_after
+    Fills (sized password_size out) (characters_refusal characters) (encode_password characters)
+    out r out_after
 
 -- ---- read
 

@@ -1,6 +1,6 @@
 -- `mschap::passwords::mschap_make_password` meets its contract.
 -- Assumes nothing.
-use mathlib.Core.Path.{◌≡◌, refl, sym, ap, ◌∙◌}
+use mathlib.Core.Path.{refl, sym, ap, ◌∙◌}
 use Rattle.refusals.specs.Refusal.{told}
 use Rattle.unicode_text.specs.Password.{octets_of}
 use Rattle.layouts.specs.Passwords.{encode_password}
