@@ -14,9 +14,7 @@ use lib.ListN.{length, replicate}
 use lib.Pointwise.{pointwise}
 use Rattle.std.specs.Prelude.{Result, Ok, Err, IsErr}
 use Rattle.octets.specs.Parts.{agrees}
-use Rattle.refusals.specs.Refusal.{number}
 use Rattle.refusals.specs.declared.Refusal.{Refusal}
-use Rattle.refusals.specs.declared.Refusal.TheVariants as refusal
 use Rattle.octets.proofs.Parts.{length_over_at, agrees_refl, agrees_equal}
 use Rattle.issued.specs.Issued.{Issued, entries, places, listed, contains, contains_any, counts_of, bad_buffer, bad_counts, full, spend_refusal, added, spent}
 use Rattle.issued.specs.Issued.{used_after}
@@ -132,32 +130,6 @@ module _ (w : ℕ) (cs : List (List ℕ)) (i : Issued) where
         pub none_refused : full w cs i ≡ false → 0 ≡ spend_refusal w cs i
         unfolding spend_refusal
         none_refused f = rw (g, k, m, f)
-
--- no refusal has the number 0, which is none
-pub numbered : (r : Refusal) → number r ≢ 0
-numbered refusal.Ended e = omega arith
-numbered refusal.ReplyBuffer e = omega arith
-numbered refusal.Frame e = omega arith
-numbered refusal.Code e = omega arith
-numbered refusal.Identifier e = omega arith
-numbered refusal.Size e = omega arith
-numbered refusal.Flags e = omega arith
-numbered refusal.Input e = omega arith
-numbered refusal.Room e = omega arith
-numbered refusal.Name e = omega arith
-numbered refusal.Kind e = omega arith
-numbered refusal.Filler e = omega arith
-numbered refusal.Retries e = omega arith
-numbered refusal.Line e = omega arith
-numbered refusal.Doubled e = omega arith
-numbered refusal.Issued e = omega arith
-numbered refusal.Full e = omega arith
-numbered refusal.Limit e = omega arith
-numbered refusal.List e = omega arith
-numbered refusal.Argument e = omega arith
-numbered refusal.Text e = omega arith
-numbered refusal.Record e = omega arith
-numbered refusal.Nowhere e = omega arith
 
 -- where an answer is a refusal, as many places are used as before
 pub used_still : (used : ℕ) (r : Result ℕ Refusal) → IsErr r → used_after used r ≡ used

@@ -10,7 +10,8 @@ use lib.ListN.{length}
 use Rattle.credentials.specs.Credentials.{bad_nt_password}
 use Rattle.layouts.specs.Passwords.{encode_password, decode_password, is_encoded_password}
 use Rattle.layouts.proofs.PasswordLaws as layouts
-use Rattle.unicode_text.specs.Password.{password_of, password_octets, text_of, text_octets}
+use Rattle.std.specs.Prelude.{Ok}
+use Rattle.unicode_text.specs.Password.{password_of, text_of}
 use Rattle.unicode_text.proofs.Laws.{text_back, password_size_lem}
 use Rattle.mschap.specs.Passwords.{text_from}
 use Rattle.mschap.proofs.ListCalls.{neither}
@@ -22,19 +23,12 @@ good p fits e =
     ap₂ ◌||◌ (le-ltb 512 (length p) fits) even
 
 -- a password that was made of a text is valid, and is read as the text that it was made of
-pub password_made : (text : List ℕ) → (password_of text).refusal ≡ 0
-    → (is_encoded_password (encode_password (password_octets (password_of text))) ≡ true)
-    × ((text_from (encode_password (password_octets (password_of text)))).refusal ≡ 0)
-    × (text_octets (text_from (encode_password (password_octets (password_of text)))) ≡ text)
-password_made text e =
-    let p = password_octets (password_of text) in
-    let size = password_size_lem text e in
-    let fits = size.0 in
-    let same = layouts.password_back p fits in
-    let back = text_back text e in (
-      layouts.password_fits p fits (good p fits size.1),
-      ap (λ (x : List ℕ). (text_of x).refusal) same ∙ back.0,
-      ap (λ (x : List ℕ). text_octets (text_of x)) same ∙ back.1,
+pub password_made : (text p : List ℕ) → password_of text ≡ Ok p
+    → (is_encoded_password (encode_password p) ≡ true) × (text_from (encode_password p) ≡ Ok text)
+password_made text p e =
+    let size = password_size_lem text p e in (
+      layouts.password_fits p size.0 (good p size.0 size.1),
+      ap text_of (layouts.password_back p size.0) ∙ text_back text p e,
     )
 
 -- one that was made of characters is valid, and holds them

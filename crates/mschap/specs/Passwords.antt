@@ -1,43 +1,46 @@
 -- Passwords from C: made of a text or of 16-bit characters, read as a text, and hashed.
 -- Assumes nothing: these are definitions.
-use Rattle.std.specs.Prelude.{Bool, cond, ◌&&◌, List, ◌≡◌, ℕ, eqb, ltb, length}
+use Rattle.std.specs.Prelude.{Bool, cond, ◌&&◌, List, ◌≡◌, ℕ, ltb, length, Result, Ok, Err}
+use Rattle.refusals.specs.Refusal.{number, told}
+use Rattle.refusals.specs.declared.Refusal.{Refusal}
 use Rattle.octets.specs.Parts.{over}
 use Rattle.packets.specs.Sizes.{hash_size}
 use Rattle.credentials.specs.Credentials.{bad_nt_password, nt_hashed}
-use Rattle.unicode_text.specs.Password.{password_of, password_octets, text_of, text_octets}
-use Rattle.unicode_text.specs.declared.Text.{Text}
+use Rattle.unicode_text.specs.Password.{octets_of, password_of, text_of}
 use Rattle.layouts.specs.Call.{Fills, sized, numbered, after_call}
-use Rattle.layouts.specs.Passwords.{password_size, encode_password, decode_password, is_encoded_password}
+use Rattle.layouts.specs.Passwords.{password_size, encode_password, decode_password}
+use Rattle.layouts.specs.Passwords.{is_encoded_password}
 
 -- ---- made
 
 abbrev pub MakePasswordCall : List ℕ → List ℕ → ℕ → List ℕ → Type 0
 MakePasswordCall text out r out_after =
-    Fills (sized password_size out) (password_of text).refusal
-    (encode_password (password_octets (password_of text))) out r out_after
+    Fills (sized password_size out) (told (password_of text))
+    (encode_password (octets_of (password_of text))) out r out_after
 
 unfoldable pub characters_refusal : List ℕ → ℕ
 characters_refusal characters = cond (bad_nt_password characters) 8 0
 
 abbrev pub MakeCharactersCall : List ℕ → List ℕ → ℕ → List ℕ → Type 0
 MakeCharactersCall characters out r out_after =
-    Fills (sized password_size out) (characters_refusal characters) (encode_password characters) out r
-    out_after
+    Fills (sized password_size out) (characters_refusal characters) (encode_password characters)
+    out r out_after
 
 -- ---- read
 
-abbrev pub text_from : List ℕ → Text
+abbrev pub text_from : List ℕ → Result (List ℕ) Refusal
 text_from password = text_of (decode_password password)
 
 -- 101 (a valid password is never too long), then 9: the buffer is too small
-unfoldable pub read_refusal : Text → List ℕ → ℕ
-read_refusal t out = cond (eqb t.refusal 0) (cond (ltb (length out) t.size) 9 0) t.refusal
+unfoldable pub read_refusal : Result (List ℕ) Refusal → List ℕ → ℕ
+read_refusal (Ok text) out = cond (ltb (length out) (length text)) 9 0
+read_refusal (Err r) out = number r
 
 pub record ReadPasswordCall (password out : List ℕ) (size r : ℕ) (out_after : List ℕ)
     (size_after : ℕ) : Type 0 where
   pub number : r ≡ numbered (is_encoded_password password) (read_refusal (text_from password) out)
-  pub text : out_after ≡ after_call r (over (text_octets (text_from password)) out) out
-  pub long : size_after ≡ after_call r (text_from password).size size
+  pub text : out_after ≡ after_call r (over (octets_of (text_from password)) out) out
+  pub long : size_after ≡ after_call r (length (octets_of (text_from password))) size
 
 -- ---- hashed
 

@@ -4,13 +4,12 @@ ghost use Rattle.layouts.specs.Call.{Fills, sized};
 ghost use Rattle.packets.specs.Sizes.{hash_size};
 ghost use Rattle.credentials.specs.Credentials.{lm_hashed};
 ghost use Rattle.mschap.specs.Passwords.{MakePasswordCall, characters_refusal};
-ghost use Rattle.mschap.specs.Passwords.{MakeCharactersCall, read_refusal};
+ghost use Rattle.mschap.specs.Passwords.{MakeCharactersCall};
 ghost use Rattle.mschap.specs.Passwords.{ReadPasswordCall, hash_arguments, HashCall};
 
 use layouts::{BAD_ARGUMENT, decode_password, fill, is_encoded_password, put_password, wide};
 use packets::HASH_SIZE;
-use refusals::{both, refuse_if};
-use unicode_text::Text;
+use refusals::{Refusal, both, refuse_if};
 
 // Makes a password of a text in UTF-8. 101: malformed. 8: too long.
 #[unsafe(no_mangle)]
@@ -18,13 +17,10 @@ pub extern "C" fn mschap_make_password(text: &[u8], password: &mut [u8]) -> u32
     ensures { MakePasswordCall text.now password.old result
         password.new }
 {
-    let made = unicode_text::password_of(text);
-    let octets = made.octets;
-    put_password(
-        made.refusal,
-        octets::part_of(&octets, 0, made.size),
-        password,
-    )
+    match unicode_text::password_of(text) {
+        Ok(made) => put_password(0, made.as_slice(), password),
+        Err(refusal) => put_password(refusal.number(), &[], password),
+    }
 }
 
 fn characters_refusal(characters: &[u8]) -> u8
@@ -44,15 +40,6 @@ pub extern "C" fn mschap_make_password_utf16(characters: &[u8], password: &mut [
 
 // ---- read
 
-fn read_refusal(text: Text, out: &[u8]) -> u8
-    ensures { result ≡ read_refusal text out.now }
-{
-    if text.refusal != 0 {
-        return text.refusal;
-    }
-    refuse_if(out.len() < text.size, 9, 0)
-}
-
 // The password as a text in UTF-8, at the front of text, and its length. 101: it is malformed. 9:
 // too little room.
 #[unsafe(no_mangle)]
@@ -63,14 +50,15 @@ pub extern "C" fn mschap_read_password(password: &[u8], text: &mut [u8], length:
     if !is_encoded_password(password) {
         return BAD_ARGUMENT;
     }
-    let read = unicode_text::text_of(decode_password(password));
-    let refusal = read_refusal(read, text);
-    if refusal != 0 {
-        return wide(refusal);
+    let read = match unicode_text::text_of(decode_password(password)) {
+        Ok(read) => read,
+        Err(refusal) => return wide(refusal.number()),
+    };
+    if text.len() < read.len() {
+        return wide(Refusal::Room.number());
     }
-    let octets = read.octets;
-    octets::copy(text, octets::part_of(&octets, 0, read.size));
-    *length = read.size;
+    octets::copy(text, read.as_slice());
+    *length = read.len();
     0
 }
 

@@ -20,9 +20,9 @@ use Rattle.smbpasswd.specs.Line.{letter_d, letter_x, field}
 use Rattle.smbpasswd.specs.Record.{has_flag, is_expired, account_in}
 use Rattle.smbpasswd.specs.File.{place_of, line_at, lookup_at, find_in}
 use Rattle.smbpasswd.specs.Write.{written_in}
-use Rattle.smbpasswd.specs.declared.Found.{Found}
-use Rattle.smbpasswd.specs.declared.Place.{Place}
-use Rattle.smbpasswd.specs.declared.Place.TheVariants.{Nowhere, Line, Doubled, Malformed}
+use Rattle.smbpasswd.specs.File.{Found}
+use Rattle.smbpasswd.specs.File.{Place}
+use Rattle.smbpasswd.specs.File.{Nowhere, Line, Doubled, Malformed}
 use Rattle.smbpasswd.proofs.ChangedLine.{IsHash}
 use Rattle.smbpasswd.proofs.ReadBack.{read_back, others_same}
 use Rattle.verify.specs.declared.Terms.{Terms}

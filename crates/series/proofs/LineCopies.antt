@@ -5,9 +5,8 @@
 use mathlib.Core.Bool.{Bool, true, false, cond, not, ◌&&◌, and-false, false≢true}
 use mathlib.Core.List.{List, [], ◌∷◌, ◌++◌}
 use mathlib.Core.Logic.{◌⊎◌, inl, inr}
-use mathlib.Core.Path.{◌≡◌, refl, sym, ap, ap₂, ◌∙◌}
+use mathlib.Core.Path.{◌≡◌, sym, ap, ◌∙◌}
 use Prim.Native.Nat.{ℕ, ◌≤◌}
-use native.Mathlib.Omega.{arith}
 use borrow.Author.Tests.{eq-eqb}
 use lib.Dec.{eqb}
 use lib.ListN.{length}
@@ -23,7 +22,7 @@ use Rattle.authenticator.specs.Conversation.{change_code_of}
 use Rattle.authenticator.specs.Encode.{reply_packet}
 use Rattle.authenticator.specs.Repeats.{Again, Drawn}
 use Rattle.authenticator.specs.Step.{Outcome, is_repeated}
-use Rattle.authenticator.specs.Steps.{StepInput, step_on, reply_of, drew_reply, BoxState, is_repeat_at}
+use Rattle.authenticator.specs.Steps.{StepInput, step_on, reply_of, drew_reply, BoxState}
 use Rattle.authenticator.specs.Steps.{judged, NotJudged}
 use Rattle.authenticator.specs.declared.Conversation.{Conversation}
 use Rattle.authenticator.proofs.Admitted.{passes, readable_by}
@@ -47,17 +46,7 @@ use Rattle.series.specs.Series.{
 }
 use Rattle.series.specs.Writers.{our_writer}
 use Rattle.series.specs.LinePeers.{Copy, wrote_of, after_sending, our_line_peer}
-use Rattle.series.specs.Line.{
-  Delivery,
-  passing,
-  roomy,
-  LineState,
-  place_of,
-  exchange_of,
-  reply_due,
-  reading_due,
-  LaterClaim,
-}
+use Rattle.series.specs.Line.{Delivery, passing, roomy, LineState, exchange_of, reply_due, LaterClaim}
 use Rattle.series.proofs.Demand3.{our_change_written}
 use Rattle.series.proofs.LineReplies.{due_read}
 use Rattle.series.proofs.RoundTrips.{response_round_trip, change_round_trip}

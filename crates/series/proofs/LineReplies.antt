@@ -6,7 +6,7 @@ use mathlib.Core.Bool.{Bool, true, false, cond, not, false≢true}
 use mathlib.Core.List.{List, [], ◌∷◌, ◌++◌}
 use mathlib.Core.Logic.{◌≢◌}
 use mathlib.Core.Option.{none, some}
-use mathlib.Core.Path.{◌≡◌, refl, sym, ap, ap₂, ◌∙◌, subst}
+use mathlib.Core.Path.{◌≡◌, refl, sym, ap, ap₂, ◌∙◌}
 use Prim.Native.Nat.{ℕ, suc, ◌<◌}
 use native.Mathlib.Omega.{arith}
 use borrow.Author.Tests.{eqb-true, ne_eqb, not-false}
@@ -15,7 +15,7 @@ use Rattle.message.specs.Reasons.{authentication_failure, password_expired}
 use Rattle.message.specs.Message.{text_of, refused_with}
 use Rattle.message.specs.declared.Reading.{Reading}
 use Rattle.packets.specs.Frame.{octet, bad_frame, bad_id}
-use Rattle.packets.specs.Reply.{success_packet, failure_packet, body_read, read_reply}
+use Rattle.packets.specs.Reply.{body_read, read_reply}
 use Rattle.accounts.specs.declared.Account.{Account}
 use Rattle.verify.specs.declared.ChangeVersion.{ChangeVersion}
 use Rattle.verify.specs.declared.Terms.{Terms}

@@ -10,15 +10,7 @@ use native.Mathlib.Omega.{arith}
 use lib.ListN.{length, replicate}
 use Rattle.issued.specs.Issued.{empty_list, bad_buffer}
 use Rattle.credentials.specs.Credentials.{nt_hash_of, bad_nt_password}
-use Rattle.accounts.specs.Account.{
-  no_hash,
-  not_found,
-  found,
-  Rightful,
-  Agree,
-  hash_of,
-  account_with,
-}
+use Rattle.accounts.specs.Account.{no_hash, not_found, Rightful, Agree, hash_of, account_with}
 use Rattle.accounts.proofs.Agreeing.{made_agrees}
 use Rattle.authenticator.specs.Opening.{Opening, opened}
 use Rattle.authenticator.specs.Steps.{Box}
@@ -26,23 +18,7 @@ use Rattle.accounts.specs.declared.Account.{Account}
 use Rattle.verify.specs.declared.ChangeVersion.{ChangeVersion}
 use Rattle.verify.specs.declared.ChangeVersion.TheVariants.{One, Two}
 use Rattle.authenticator.proofs.Openings.{may_open_empty}
-use Rattle.series.specs.Series.{
-  Packet,
-  invalid,
-  right,
-  password_change,
-  Passed,
-  own,
-  another,
-  ExchangeInput,
-  Step,
-  ours,
-  SeriesState,
-  exchange,
-  TryWithin,
-  ChangeWithin,
-  Allowed,
-}
+use Rattle.series.specs.Series.{Packet, invalid, right, password_change, Passed, own, another, ExchangeInput, Step, ours, SeriesState, TryWithin, ChangeWithin, Allowed}
 use Rattle.series.specs.Writers.{Writer}
 
 -- ---- openings, passwords, records

@@ -24,8 +24,8 @@ use Rattle.smbpasswd.specs.Line.{colon, is_account}
 use Rattle.smbpasswd.specs.Record.{is_expired, account_in}
 use Rattle.smbpasswd.specs.File.{lines, place_of, find_in}
 use Rattle.smbpasswd.specs.Write.{hash_text, time_text, changed_line, written_in}
-use Rattle.smbpasswd.specs.declared.Found.{Found}
-use Rattle.smbpasswd.specs.declared.Place.TheVariants.{Line}
+use Rattle.smbpasswd.specs.File.{Found}
+use Rattle.smbpasswd.specs.File.{Line}
 use Rattle.series.specs.Course.{Along}
 use Rattle.verify.specs.declared.ChangeVersion.TheVariants.{Two}
 use Rattle.series.specs.Series.{own, another, right, Step, ours, PasswordChange, SeriesState, start, exchange, next, Allowed}

@@ -14,8 +14,8 @@ use Rattle.smbpasswd.specs.Line.{colon, letter_x, field, from_field}
 use Rattle.smbpasswd.specs.Record.{has_flag, is_expired}
 use Rattle.smbpasswd.specs.File.{place_of, line_at, find_in}
 use Rattle.smbpasswd.specs.Write.{hash_text, time_text, changed_line, with_line, written_in}
-use Rattle.smbpasswd.specs.declared.Place.{Place}
-use Rattle.smbpasswd.specs.declared.Place.TheVariants.{Nowhere, Line, Doubled, Malformed}
+use Rattle.smbpasswd.specs.File.{Place}
+use Rattle.smbpasswd.specs.File.{Nowhere, Line, Doubled, Malformed}
 use Rattle.series.specs.Course.{collect, Along}
 use Rattle.series.specs.Series.{invalid, right, password_change, Step, ours, other}
 use Rattle.series.specs.Series.{packet_kinds, plan, SeriesState, start, Exchange, exchange}

@@ -9,7 +9,6 @@ use Rattle.accounts.specs.Account.{not_found, found}
 use Rattle.accounts.specs.declared.Lookup.{Lookup}
 use Rattle.smbpasswd.specs.declared.AccountLine.{AccountLine}
 use Rattle.smbpasswd.specs.declared.Misplaced.{Misplaced}
-use Rattle.smbpasswd.specs.declared.Misplaced.TheVariants as misplaced
 use Rattle.smbpasswd.specs.File.{Place, Nowhere, Line, Doubled, Malformed, place_refusal, place_offset, lookup_at, found_at, misplaced_refusal, misplaced_offset}
 
 -- a place, by its number, its offset and its record

@@ -1,17 +1,18 @@
 -- `mschap::passwords::mschap_make_password` meets its contract.
 -- Assumes nothing.
-use mathlib.Core.Path.{refl, ap, ◌∙◌}
-use Rattle.unicode_text.specs.Password.{password_octets}
-use Rattle.unicode_text.specs.declared.Password.{Password}
+use mathlib.Core.Path.{refl, sym, ap, ◌∙◌}
+use Rattle.refusals.specs.Refusal.{told}
+use Rattle.unicode_text.specs.Password.{octets_of}
 use Rattle.layouts.specs.Passwords.{encode_password}
 use Rattle.layouts.proofs.Filling.{fills_as}
 use Rattle.mschap.proofs.passwords.mschap_make_password.Goals as goal
 
-pub returns : goal.returns
-returns c =
-    let put = c in
-    let taken = put in
-    let made = taken in
-    let e = made.password_of-made.ensures in
-    fills_as refl (ap (λ (p : Password). p.refusal) e)
-    (ap encode_password (taken.part_of.ensures ∙ ap password_octets e)) put.put_password.ensures
+pub returns-in-Ok : goal.returns-in-Ok
+returns-in-Ok c =
+    let e = sym c.in-Ok.is ∙ c.password_of.ensures in
+    fills_as refl (ap told e) (ap encode_password (c.as_slice.ensures ∙ ap octets_of e)) c.put_password.ensures
+
+pub returns-in-Err : goal.returns-in-Err
+returns-in-Err c =
+    let e = sym c.in-Err.is ∙ c.password_of.ensures in
+    fills_as refl (c.number.ensures ∙ ap told e) (ap (λ r. encode_password (octets_of r)) e) c.put_password-in-Err.ensures

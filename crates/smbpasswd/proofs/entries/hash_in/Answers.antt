@@ -10,9 +10,6 @@ returns-then-is_absent c = c.no_hash.ensures ∙ rw (sym c.is_absent.ensures ∙
 
 pub returns : goal.returns
 returns c =
-    let out = c in
-    let p = out in
-    let s = p in
-    let absent = sym p.is_absent.ensures ∙ p.if-is_absent.false in
-    let d = hash_digits s.args.s.now s.requires absent in
-    c.hash_of.ensures ∙ ap hash_of (out.decode_hex.ensures ∙ decoded 16 s.args.s.now d.long d.digits) ∙ rw absent
+    let absent = sym c.is_absent.ensures ∙ c.if-is_absent.false in
+    let d = hash_digits c.args.s.now c.requires absent in
+    c.hash_of.ensures ∙ ap hash_of (c.decode_hex.ensures ∙ decoded 16 c.args.s.now d.long d.digits) ∙ rw absent

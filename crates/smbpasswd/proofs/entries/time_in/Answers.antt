@@ -18,11 +18,10 @@ use Rattle.smbpasswd.proofs.entries.time_in.Goals as goal
 pub returns : goal.returns
 returns c =
     let octets : c.decode_hex.new.out ≡ pairs (map digit_of (drop 4 c.args.s.now)) =
-    let s = c in
-    let d = time_digits s.args.s.now s.requires in
-    let whole = c.part_of.ensures ∙ part_rest 4 s.args.s.now in
+    let d = time_digits c.args.s.now c.requires in
+    let whole = c.part_of.ensures ∙ part_rest 4 c.args.s.now in
     c.decode_hex.ensures
     ∙ ap (λ (f : List ℕ). cond (all_below 16 (map digit_of f)) (over (pairs (map digit_of f)) (replicate 4 0)) (replicate 4 0)) whole
-    ∙ decoded 4 (drop 4 s.args.s.now) (omega (arith, length-drop 4 s.args.s.now, d.long)) d.digits in
+    ∙ decoded 4 (drop 4 c.args.s.now) (omega (arith, length-drop 4 c.args.s.now, d.long)) d.digits in
     let out = c.decode_hex.new.out in
     c.u32_from_be.ensures ∙ ap from_be (sym (written 4 out (search rules))) ∙ ap from_be octets

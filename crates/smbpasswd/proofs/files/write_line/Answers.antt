@@ -18,67 +18,50 @@ use Rattle.smbpasswd.proofs.LineLaws.{line_le}
 use Rattle.smbpasswd.proofs.Writing.{written_line}
 use Rattle.smbpasswd.proofs.files.write_line.Goals as goal
 
--- an offset within the line, or a little beyond, fits: a file is shorter than 2 ^ 63
-near : (n : ℕ) (f : List ℕ) (at : ℕ) {k : ℕ} → n ≤ 5 → IsLine at f → length f < 2 ^ 63 → k ≡ column n (line_at at f) → at + k + 4 < 2 ^ 64
-near n f at h i b e = omega (arith, i.within, column_le n (line_at at f), line_le f at)
+-- where the fields of a line are that starts at an offset: a file is shorter than 2 ^ 63
+module _ (f : List ℕ) (at : ℕ) (i : IsLine at f) (b : length f < 2 ^ 63) {x : Columns} {l : List ℕ}
+    (e : x ≡ columns_of l) (g : l ≡ line_at at f) where
+  there : x ≡ columns_of (line_at at f)
+  there = e ∙ ap columns_of g
+
+  near : (n : ℕ) {k : ℕ} → n ≤ 5 → k ≡ column n (line_at at f) → at + k + 4 < 2 ^ 64
+  near n h k = omega (arith, i.within, column_le n (line_at at f), line_le f at)
+
+  lm_near : at + x.lm + 4 < 2 ^ 64
+  lm_near = near 2 (omega arith) (ap (λ (y : Columns). y.lm) there)
+
+  nt_near : at + x.nt + 4 < 2 ^ 64
+  nt_near = near 3 (omega arith) (ap (λ (y : Columns). y.nt) there)
+
+  time_near : at + x.time + 4 < 2 ^ 64
+  time_near = near 5 (omega arith) (ap (λ (y : Columns). y.time) there)
 
 pub overflow_add-lm : goal.overflow_add-lm
 overflow_add-lm c =
-    let at-line : let a = c.args in c.columns_of-c.result ≡ columns_of (line_at a.at a.file.now) =
-    c.columns_of-c.ensures ∙ ap columns_of c.line_at.ensures in
-    let k = c in
-    let s = k in
-    record {
-      fits = omega (
-        arith,
-        near 2 s.args.file.now s.args.at (omega arith) s.requires (omega (arith, s.well_formed.0.1)) (ap (λ (x : Columns). x.lm) at-line),
-      );
-    }
+    let a = c.args in
+    omega (arith, lm_near a.file.now a.at c.requires (omega (arith, c.well_formed.0.1)) c.columns_of-c.ensures c.line_at.ensures)
 
 pub overflow_add-nt : goal.overflow_add-nt
 overflow_add-nt c =
-    let at-line : let a = c.args in c.columns_of-c.result ≡ columns_of (line_at a.at a.file.now) =
-    c.columns_of-c.ensures ∙ ap columns_of c.line_at.ensures in
-    let k = c in
-    let s = k in
-    record {
-      fits = omega (
-        arith,
-        near 3 s.args.file.now s.args.at (omega arith) s.requires (omega (arith, s.well_formed.0.1)) (ap (λ (x : Columns). x.nt) at-line),
-      );
-    }
-
-pub returns : goal.returns
-returns c =
-    let at-line : let a = c.args in c.columns_of-c.result ≡ columns_of (line_at a.at a.file.now) =
-    c.columns_of-c.ensures ∙ ap columns_of c.line_at.ensures in
-    let sixteen : (length c.args.account.lm.octets ≡ 16) × (length c.args.account.nt.octets ≡ 16) =
-    (search rules, search rules) in
-    let w = c in
-    let k = w in
-    let s = k in
-    let a = s.args in
-    w.write_fields.ensures
-    ∙ ap (λ (x : Columns). over_at (a.at + x.time + 4) (hex_text (to_be 4 a.present))
-    (over_at (a.at + x.nt) (hash_text a.account.nt) (over_at (a.at + x.lm) (hash_text a.account.lm) a.file.now))) at-line
-    ∙ written_line a.file.now a.at s.requires a.account a.present sixteen.0 sixteen.1
+    let a = c.args in
+    omega (arith, nt_near a.file.now a.at c.requires (omega (arith, c.well_formed.0.1)) c.columns_of-c.ensures c.line_at.ensures)
 
 pub overflow_add-time : goal.overflow_add-time
 overflow_add-time c =
-    let at-line : let a = c.args in c.columns_of-c.result ≡ columns_of (line_at a.at a.file.now) =
-    c.columns_of-c.ensures ∙ ap columns_of c.line_at.ensures in
-    let time-near : c.args.at + c.columns_of-c.result.time + 4 < 2 ^ 64 =
-    let k = c in
-    let s = k in
-    near 5 s.args.file.now s.args.at (omega arith) s.requires (omega (arith, s.well_formed.0.1)) (ap (λ (x : Columns). x.time) at-line) in
-    record { fits = omega (arith, time-near) }
+    let a = c.args in
+    omega (arith, time_near a.file.now a.at c.requires (omega (arith, c.well_formed.0.1)) c.columns_of-c.ensures c.line_at.ensures)
 
 pub overflow_add-time-2 : goal.overflow_add-time-2
 overflow_add-time-2 c =
-    let at-line : let a = c.args in c.columns_of-c.result ≡ columns_of (line_at a.at a.file.now) =
-    c.columns_of-c.ensures ∙ ap columns_of c.line_at.ensures in
-    let time-near : c.args.at + c.columns_of-c.result.time + 4 < 2 ^ 64 =
-    let k = c in
-    let s = k in
-    near 5 s.args.file.now s.args.at (omega arith) s.requires (omega (arith, s.well_formed.0.1)) (ap (λ (x : Columns). x.time) at-line) in
-    record { fits = time-near }
+    let a = c.args in
+    omega (arith, time_near a.file.now a.at c.requires (omega (arith, c.well_formed.0.1)) c.columns_of-c.ensures c.line_at.ensures)
+
+pub returns : goal.returns
+returns c =
+    let a = c.args in
+    let sixteen : (length a.account.lm.octets ≡ 16) × (length a.account.nt.octets ≡ 16) = (search rules, search rules) in
+    c.write_fields.ensures
+    ∙ ap (λ (x : Columns). over_at (a.at + x.time + 4) (hex_text (to_be 4 a.present))
+    (over_at (a.at + x.nt) (hash_text a.account.nt) (over_at (a.at + x.lm) (hash_text a.account.lm) a.file.now)))
+    (c.columns_of-c.ensures ∙ ap columns_of c.line_at.ensures)
+    ∙ written_line a.file.now a.at c.requires a.account a.present sixteen.0 sixteen.1

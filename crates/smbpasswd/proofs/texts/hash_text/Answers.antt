@@ -14,10 +14,6 @@ pub returns-then-hash : goal.returns-then-hash
 returns-then-hash c =
     let sixteen : length c.args.hash.octets ≡ 16 =
     search rules in
-    let p = c in
-    let h = p.args.hash.octets in
+    let h = c.args.hash.octets in
     let long : length (hex_text h) ≡ 32 = omega (arith, length_hex h, sixteen) in
-    c.encode_hex.ensures ∙ filled (hex_text h) (replicate 32 letter_x) (sym long) ∙ rw p.if-hash.true
-
-pub returns-else-hash : goal.returns-else-hash
-returns-else-hash c = rw c.if-hash.false
+    c.encode_hex.ensures ∙ filled (hex_text h) (replicate 32 letter_x) (sym long) ∙ rw c.if-hash.true
