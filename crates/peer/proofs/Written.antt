@@ -8,10 +8,7 @@ use mathlib.Core.Logic.{◌≢◌}
 use Prim.Native.Nat.{ℕ}
 use native.Mathlib.Omega.{arith}
 use Rattle.refusals.proofs.Answers.{refused_two, passed_two, both_passed}
-use Rattle.credentials.specs.Credentials.{nt_hash_of, bad_nt_password, bad_filler, hash_answer, nt_hashed, sealed_block, sealed_as}
-use Rattle.credentials.specs.declared.Hashed.{Hashed}
-use Rattle.credentials.specs.declared.Sealed.{Sealed}
-use Rattle.credentials.proofs.Laws.{sealed_good}
+use Rattle.credentials.specs.Credentials.{bad_nt_password, bad_filler}
 use Rattle.packets.specs.Frame.{answer_by, out_by}
 use Rattle.packets.specs.Response.{response_written, response_out, response_write_refusal}
 use Rattle.packets.specs.Change.{change_write_refusal, change_written, change_out}
@@ -23,15 +20,6 @@ use Rattle.packets.specs.declared.Written.{Written}
 use Rattle.packets.proofs.Writing.{nothing_written}
 use Rattle.peer.specs.declared.Turn.{Turn}
 use Rattle.peer.specs.Write.{response_fields, change_fields, change_one_fields, response_for, change_for, change_one_for, bad_passwords, write_response_refusal, write_change_refusal, write_change_one_refusal, refused_by, Wrote, write_response, write_change, write_change_one}
-
--- ---- what a hash and a seal give where they are not refused
-
-pub hash_given : (password : List ℕ) {r : Hashed} → bad_nt_password password ≡ false → r ≡ nt_hashed password → r.hash ≡ nt_hash_of password
-hash_given password good e = ap (λ (x : Hashed). x.hash) e ∙ ap (λ (b : Bool). (hash_answer b (nt_hash_of password)).hash) good
-
-pub block_given : (old new filler : List ℕ) {r : Sealed} → bad_nt_password new ≡ false → bad_filler filler ≡ false → r ≡ sealed_as old new filler
-    → r.block ≡ sealed_block old filler new
-block_given old new filler p q e = ap (λ (x : Sealed). x.block) (e ∙ sealed_good old new filler p q)
 
 -- ---- what a writer answers and leaves
 

@@ -35,7 +35,7 @@ fn response_from(challenge: [u8; CHALLENGE_SIZE], password: &[u8]) -> Response
     requires { bad_nt_password password.now ≡ false }
     ensures { result ≡ response_fields challenge password.now }
 {
-    let hash = credentials::nt_hash(password).hash;
+    let hash = credentials::nt_hash(password).unwrap();
     response_fields(hash, challenge)
 }
 
@@ -84,9 +84,9 @@ fn change_from(challenge: [u8; CHALLENGE_SIZE], old: &[u8], new: &[u8], filler: 
     ensures { result ≡ change_fields challenge old.now new.now
         filler.now }
 {
-    let before = credentials::nt_hash(old).hash;
-    let after = credentials::nt_hash(new).hash;
-    let block = credentials::seal(before, new, filler).block;
+    let before = credentials::nt_hash(old).unwrap();
+    let after = credentials::nt_hash(new).unwrap();
+    let block = credentials::seal(before, new, filler).unwrap();
     change_fields(before, after, block, challenge)
 }
 
@@ -147,8 +147,8 @@ fn change_one_from(challenge: [u8; CHALLENGE_SIZE], old: &[u8], new: &[u8]) -> C
     requires { bad_passwords old.now new.now ≡ false }
     ensures { result ≡ change_one_fields challenge old.now new.now }
 {
-    let before = credentials::nt_hash(old).hash;
-    let after = credentials::nt_hash(new).hash;
+    let before = credentials::nt_hash(old).unwrap();
+    let after = credentials::nt_hash(new).unwrap();
     change_one_fields(before, after, challenge)
 }
 

@@ -50,7 +50,7 @@ fn hash_of_last(octets: &[u8], n: usize) -> [u8; HASH_SIZE]
     requires { (length octets.now ≡ longest_nt) × (n ≤ longest_nt) × (n % 2 ≡ 0) }
     ensures { result ≡ nt_hash_of (part (longest_nt - n) n octets.now) }
 {
-    credentials::nt_hash(octets::part_of(octets, LONGEST_NT - n, n)).hash
+    credentials::nt_hash(octets::part_of(octets, LONGEST_NT - n, n)).unwrap()
 }
 
 // The fault of an unsealed block's length.
