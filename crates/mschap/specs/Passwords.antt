@@ -3,7 +3,9 @@
 use Rattle.std.specs.Prelude.{Bool, cond, ◌&&◌, List, ◌≡◌, ℕ, eqb, ltb, length}
 use Rattle.octets.specs.Parts.{over}
 use Rattle.packets.specs.Sizes.{hash_size}
+use Rattle.refusals.specs.Refusal.{told}
 use Rattle.credentials.specs.Credentials.{bad_nt_password, nt_hashed}
+use Rattle.mschap.specs.Answers.{octets_or_zeros}
 use Rattle.unicode_text.specs.Password.{password_of, password_octets, text_of, text_octets}
 use Rattle.unicode_text.specs.declared.Text.{Text}
 use Rattle.layouts.specs.Call.{Fills, sized, numbered, after_call}
@@ -46,5 +48,5 @@ hash_arguments password hash = is_encoded_password password && sized hash_size h
 
 abbrev pub HashCall : List ℕ → List ℕ → ℕ → List ℕ → Type 0
 HashCall password hash r hash_after =
-    Fills (hash_arguments password hash) (nt_hashed (decode_password password)).refusal
-    (nt_hashed (decode_password password)).hash hash r hash_after
+    Fills (hash_arguments password hash) (told (nt_hashed (decode_password password)))
+    (octets_or_zeros hash_size (nt_hashed (decode_password password))) hash r hash_after
