@@ -23,7 +23,7 @@ pub(crate) fn fill_answer<const N: usize>(
     answer: Result<[u8; N], Refusal>,
     out: &mut [u8],
 ) -> u32
-    ensures { Fills (sized N out.old) (told answer) (octets_or_zeros N answer)
+    ensures { Fills (sized N out.old) (told answer.entry) (octets_or_zeros N answer.entry)
         out.old result out.new }
 {
     match answer {
