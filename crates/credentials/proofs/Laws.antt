@@ -1,7 +1,7 @@
 -- The laws of hashes, responses and sealed passwords for other crates to cite: lengths, and that
 -- opening what was sealed gives the password back.
 -- Assumes nothing.
-use mathlib.Core.Path.{◌≡◌, refl, sym, ap, ap₂, ◌∙◌}
+use mathlib.Core.Path.{◌≡◌, refl, sym, ap, ap₂, ◌∙◌, subst}
 use mathlib.Core.Bool.{Bool, true, false, cond, ◌&&◌, ◌||◌, true≢false}
 use mathlib.Core.List.{List, ◌++◌, map}
 use mathlib.Core.Option.{none, some}
@@ -12,7 +12,8 @@ use borrow.Author.Tests.{le-leb, le-ltb, ne_eqb, ltb-false, eqb-false}
 use lib.Dec.{eqb, ltb}
 use lib.ListN.{length, take, drop, replicate, length-append}
 use lib.Seq.{take_all, drop_at, take_at}
-use Rattle.std.specs.Prelude.{Ok, Err}
+use Rattle.std.specs.Prelude.{Result, Ok, Err, IsOk}
+use Rattle.refusals.specs.declared.Refusal.{Refusal}
 use Rattle.refusals.specs.declared.Refusal.TheVariants.{Input, Filler}
 use Rattle.octets.specs.Parts.{part, fixed}
 use Rattle.octets.specs.Numbers.{from_le, to_le}
@@ -183,6 +184,22 @@ pub sealed_good : (old password filler : List ℕ) → bad_nt_password password 
 unfolding sealed_as
 sealed_good old password filler e f =
     ap₂ (λ (a b : Bool). cond a (Err Input) (cond b (Err Filler) (Ok (sealed_block old filler password)))) e f
+
+-- what a hash and a seal give where they are not refused
+pub hash_is_ok : (password : List ℕ) {r : Result (List ℕ) Refusal} → bad_nt_password password ≡ false → r ≡ nt_hashed password → IsOk r
+hash_is_ok password good e = subst IsOk (sym (e ∙ hash_good password good)) refl
+
+pub hash_given : (password : List ℕ) {r : Result (List ℕ) Refusal} {hash : List ℕ} → bad_nt_password password ≡ false → r ≡ nt_hashed password
+    → r ≡ Ok hash → hash ≡ nt_hash_of password
+hash_given password good e f = let same = hash_good password good in cc
+
+pub block_is_ok : (old new filler : List ℕ) {r : Result (List ℕ) Refusal} → bad_nt_password new ≡ false → bad_filler filler ≡ false
+    → r ≡ sealed_as old new filler → IsOk r
+block_is_ok old new filler p q e = subst IsOk (sym (e ∙ sealed_good old new filler p q)) refl
+
+pub block_given : (old new filler : List ℕ) {r : Result (List ℕ) Refusal} {block : List ℕ} → bad_nt_password new ≡ false → bad_filler filler ≡ false
+    → r ≡ sealed_as old new filler → r ≡ Ok block → block ≡ sealed_block old filler new
+block_given old new filler p q e f = let same = sealed_good old new filler p q in cc
 
 -- a hash is a key that RC4 takes
 pub hash_taken : (hash : List ℕ) → length hash ≡ 16 → key_answer hash ≡ Ok tt

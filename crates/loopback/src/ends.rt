@@ -53,7 +53,7 @@ pub fn another_challenge() -> [u8; 8] {
 // The NT hash of the right password.
 pub fn old_hash() -> [u8; 16] {
     let password = right();
-    credentials::nt_hash(&password).hash
+    credentials::nt_hash(&password).unwrap()
 }
 
 // The record of the account: its NT hash, no LM hash, and whether the password has expired.

@@ -3,3 +3,4 @@ pub mod Lists
 pub mod Opening
 pub mod Sizes
 pub mod Inner
+pub mod Answers

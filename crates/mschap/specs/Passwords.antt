@@ -6,6 +6,7 @@ use Rattle.refusals.specs.declared.Refusal.{Refusal}
 use Rattle.octets.specs.Parts.{over}
 use Rattle.packets.specs.Sizes.{hash_size}
 use Rattle.credentials.specs.Credentials.{bad_nt_password, nt_hashed}
+use Rattle.mschap.specs.Answers.{octets_or_zeros}
 use Rattle.unicode_text.specs.Password.{octets_of, password_of, text_of}
 use Rattle.layouts.specs.Call.{Fills, sized, numbered, after_call}
 use Rattle.layouts.specs.Passwords.{password_size, encode_password, decode_password}
@@ -49,5 +50,5 @@ hash_arguments password hash = is_encoded_password password && sized hash_size h
 
 abbrev pub HashCall : List ℕ → List ℕ → ℕ → List ℕ → Type 0
 HashCall password hash r hash_after =
-    Fills (hash_arguments password hash) (nt_hashed (decode_password password)).refusal
-    (nt_hashed (decode_password password)).hash hash r hash_after
+    Fills (hash_arguments password hash) (told (nt_hashed (decode_password password)))
+    (octets_or_zeros hash_size (nt_hashed (decode_password password))) hash r hash_after

@@ -1,30 +1,45 @@
 // The ciphers, MD4 and the challenge response.
 ghost use Rattle.std.specs.Prelude.{◌≡◌, ◌&&◌};
+ghost use Rattle.refusals.specs.Refusal.{told};
 ghost use Rattle.md4.specs.Md4.{md4_answer};
 ghost use Rattle.rc4.specs.Rc4.{key_refusal, crypted};
 ghost use Rattle.des.specs.Des.{des_encrypt, des_decrypt};
 ghost use Rattle.credentials.specs.Credentials.{response_of};
 ghost use Rattle.layouts.specs.Call.{Fills, sized, both_sized};
+ghost use Rattle.mschap.specs.Answers.{octets_or_zeros};
 ghost use Rattle.mschap.specs.Sizes.{digest_size, key_size, des_block_size};
 ghost use Rattle.packets.specs.Sizes.{hash_size, challenge_size, answer_size};
 
 use layouts::{BAD_ARGUMENT, are_sized, fill, wide};
 use packets::{CHALLENGE_SIZE, HASH_SIZE};
+use refusals::Refusal;
 
 const KEY_SIZE: usize = 7;
 
 const DES_BLOCK_SIZE: usize = 8;
 
+// Fills a buffer with the bytes of an answer, or leaves it. Returns the number of the call.
+pub(crate) fn fill_answer<const N: usize>(
+    answer: Result<[u8; N], Refusal>,
+    out: &mut [u8],
+) -> u32
+    ensures { Fills (sized N out.old) (told answer.entry) (octets_or_zeros N answer.entry)
+        out.old result out.new }
+{
+    match answer {
+        Ok(octets) => fill(0, &octets, out),
+        Err(refusal) => fill(refusal.number(), &[0; N], out),
+    }
+}
+
 // The MD4 digest of at most 4,096 bytes. 8: more bytes.
 #[unsafe(no_mangle)]
 pub extern "C" fn mschap_md4(input: &[u8], digest: &mut [u8]) -> u32
     ensures { Fills (sized digest_size digest.old)
-        (md4_answer input.now).refusal (md4_answer input.now).digest
+        (told (md4_answer input.now)) (octets_or_zeros digest_size (md4_answer input.now))
         digest.old result digest.new }
 {
-    let done = md4::md4(input);
-    let result = done.digest;
-    fill(done.refusal, &result, digest)
+    fill_answer(md4::md4(input), digest)
 }
 
 // RC4 in place, with a key of 1 to 256 bytes. 8: another key.
@@ -33,7 +48,10 @@ pub extern "C" fn mschap_rc4(key: &[u8], octets: &mut [u8]) -> u32
     ensures { (result ≡ key_refusal key.now)
         × (octets.new ≡ crypted key.now octets.old) }
 {
-    wide(rc4::rc4(key, octets))
+    match rc4::rc4(key, octets) {
+        Ok(()) => 0,
+        Err(refusal) => wide(refusal.number()),
+    }
 }
 
 // DES of a block in place, with a key of seven bytes.

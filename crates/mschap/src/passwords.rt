@@ -2,12 +2,15 @@
 ghost use Rattle.std.specs.Prelude.{◌≡◌};
 ghost use Rattle.layouts.specs.Call.{Fills, sized};
 ghost use Rattle.packets.specs.Sizes.{hash_size};
+ghost use Rattle.refusals.specs.Refusal.{told};
 ghost use Rattle.credentials.specs.Credentials.{lm_hashed};
+ghost use Rattle.mschap.specs.Answers.{octets_or_zeros};
 ghost use Rattle.mschap.specs.Passwords.{MakePasswordCall, characters_refusal};
 ghost use Rattle.mschap.specs.Passwords.{MakeCharactersCall};
 ghost use Rattle.mschap.specs.Passwords.{ReadPasswordCall, hash_arguments, HashCall};
 
-use layouts::{BAD_ARGUMENT, decode_password, fill, is_encoded_password, put_password, wide};
+use crate::ciphers::fill_answer;
+use layouts::{BAD_ARGUMENT, decode_password, is_encoded_password, put_password, wide};
 use packets::HASH_SIZE;
 use refusals::{Refusal, both, refuse_if};
 
@@ -78,19 +81,15 @@ pub extern "C" fn mschap_nt_hash(password: &[u8], hash: &mut [u8]) -> u32
     if !are_hash_arguments(password, hash) {
         return BAD_ARGUMENT;
     }
-    let done = credentials::nt_hash(decode_password(password));
-    let result = done.hash;
-    fill(done.refusal, &result, hash)
+    fill_answer(credentials::nt_hash(decode_password(password)), hash)
 }
 
 // The LM hash of a password of at most 14 bytes. 8: a longer password.
 #[unsafe(no_mangle)]
 pub extern "C" fn mschap_lm_hash(password: &[u8], hash: &mut [u8]) -> u32
     ensures { Fills (sized hash_size hash.old)
-        (lm_hashed password.now).refusal (lm_hashed password.now).hash
+        (told (lm_hashed password.now)) (octets_or_zeros hash_size (lm_hashed password.now))
         hash.old result hash.new }
 {
-    let done = credentials::lm_hash(password);
-    let result = done.hash;
-    fill(done.refusal, &result, hash)
+    fill_answer(credentials::lm_hash(password), hash)
 }

@@ -284,3 +284,17 @@ agrees_fold (x ∷ a) (y ∷ b) d e =
     agrees_fold a b (bit_or d (bit_xor x y)) (omega (arith, e))
     ∙ ap (λ (t : Bool). t && agrees a b) (none_more d x y)
     ∙ and_assoc (eqb d 0) (eqb x y) (agrees a b)
+
+-- one turn of the loop: what is left agrees where nothing differed yet
+pub agrees_turn : (a b : List ℕ) (d i : ℕ) → i < length a → i < length b
+    → (eqb (bit_or d (bit_xor (get_or a i 0) (get_or b i 0))) 0 && agrees (drop (suc i) a) (drop (suc i) b)) ≡ (eqb d 0 && agrees (drop i a) (drop i b))
+unfolding agrees
+agrees_turn a b d i h k =
+    ap (λ (t : Bool). t && agrees (drop (suc i) a) (drop (suc i) b)) (none_more d (get_or a i 0) (get_or b i 0))
+    ∙ and_assoc (eqb d 0) (eqb (get_or a i 0) (get_or b i 0)) (agrees (drop (suc i) a) (drop (suc i) b))
+    ∙ ap₂ (λ (x y : List ℕ). eqb d 0 && agrees x y) (sym (drop-cons a i 0 h)) (sym (drop-cons b i 0 k))
+
+pub agrees_end : (a b : List ℕ) (d i : ℕ) → length a ≤ i → length b ≤ i → (eqb d 0 && agrees (drop i a) (drop i b)) ≡ eqb d 0
+unfolding agrees
+agrees_end a b d i h k =
+    ap₂ (λ (x y : List ℕ). eqb d 0 && agrees x y) (drop_of_length-le a h) (drop_of_length-le b k) ∙ and-true (eqb d 0)

@@ -1,24 +1,34 @@
 // The commands of MD4, RC4 and DES. Each writes its result.
+use refusals::Refusal;
 use std::io;
 use std::io::Write;
+
+// The octets of an answer, or the number of its refusal.
+pub(crate) fn put_answer<const N: usize>(
+    output: &mut impl Write,
+    answer: Result<[u8; N], Refusal>,
+) -> io::Result<()> {
+    match answer {
+        Ok(octets) => script::put_result(output, 0, &octets),
+        Err(refusal) => script::put_result(output, refusal.number(), b""),
+    }
+}
 
 // md4 INPUT
 fn digest(output: &mut impl Write, line: &[u8]) -> io::Result<()> {
     let mut input = [0u8; 8192];
     let n = script::octets(line, 1, &mut input);
-    let answer = md4::md4(&input[..n]);
-    let digest = answer.digest;
-    script::put_result(output, answer.refusal, &digest)
+    put_answer(output, md4::md4(&input[..n]))
 }
 
 // Runs RC4 over data, and writes what it then holds.
 fn put_crypted(output: &mut impl Write, key: &[u8], data: &mut [u8]) -> io::Result<()> {
-    let refusal = rc4::rc4(key, data);
-    if refusal == 0 {
-        script::put_equals(output)?;
-    } else {
-        script::put_refused(output, refusal)?;
-        script::put_space(output)?;
+    match rc4::rc4(key, data) {
+        Ok(()) => script::put_equals(output)?,
+        Err(refusal) => {
+            script::put_refused(output, refusal.number())?;
+            script::put_space(output)?;
+        }
     }
     script::put_hex(output, data)
 }

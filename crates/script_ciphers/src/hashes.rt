@@ -1,5 +1,6 @@
 // The commands of the password hashes, the challenge response, the sealed password, and a hash
 // under another or under the challenge. Each writes its result.
+use crate::ciphers::put_answer;
 use credentials::Content;
 use std::io;
 use std::io::Write;
@@ -8,18 +9,14 @@ use std::io::Write;
 fn nt_hash(output: &mut impl Write, line: &[u8]) -> io::Result<()> {
     let mut password = [0u8; 8192];
     let n = script::octets(line, 1, &mut password);
-    let answer = credentials::nt_hash(&password[..n]);
-    let hash = answer.hash;
-    script::put_result(output, answer.refusal, &hash)
+    put_answer(output, credentials::nt_hash(&password[..n]))
 }
 
 // lmhash PASSWORD
 fn lm_hash(output: &mut impl Write, line: &[u8]) -> io::Result<()> {
     let mut password = [0u8; 8192];
     let n = script::octets(line, 1, &mut password);
-    let answer = credentials::lm_hash(&password[..n]);
-    let hash = answer.hash;
-    script::put_result(output, answer.refusal, &hash)
+    put_answer(output, credentials::lm_hash(&password[..n]))
 }
 
 // response HASH16 CHALLENGE8
@@ -38,8 +35,7 @@ fn seal(output: &mut impl Write, line: &[u8]) -> io::Result<()> {
     let mut filler = [0u8; 1024];
     let k = script::octets(line, 3, &mut filler);
     let answer = credentials::seal(script::sixteen(line, 1), &password[..n], &filler[..k]);
-    let block = answer.block;
-    script::put_result(output, answer.refusal, &block)
+    put_answer(output, answer)
 }
 
 // The length of a password, and the password: the last octets of those that were opened.

@@ -13,9 +13,10 @@ pub fn md4_line(output: &mut impl Write, line: &[u8]) -> io::Result<()> {
     put_given(output, line, 0)?;
     let mut input = [0u8; 8192];
     let n = script::octets(line, 0, &mut input);
-    let answer = md4::md4(&input[..n]);
-    let digest = answer.digest;
-    script::put_outcome(output, answer.refusal, &digest)
+    match md4::md4(&input[..n]) {
+        Ok(digest) => script::put_outcome(output, 0, &digest),
+        Err(refusal) => script::put_outcome(output, refusal.number(), b""),
+    }
 }
 
 // KEY OFFSET STREAM16: of the first 8,192 octets of the keystream, 16 from the offset on.
@@ -25,7 +26,10 @@ pub fn rc4_line(output: &mut impl Write, line: &[u8]) -> io::Result<()> {
     let mut key = [0u8; 1024];
     let k = script::octets(line, 0, &mut key);
     let mut stream = [0u8; 8192];
-    let refusal = rc4::rc4(&key[..k], &mut stream);
+    let refusal = match rc4::rc4(&key[..k], &mut stream) {
+        Ok(()) => 0,
+        Err(refusal) => refusal.number(),
+    };
     let offset = script::number(script::word(line, 1));
     script::put_outcome(output, refusal, octets::part_of(&stream, offset, 16))
 }

@@ -180,7 +180,7 @@ fn unknown(output: &mut impl Write) -> io::Result<()> {
 
 // The LM hash of the right password, and its response to the usual challenge.
 fn lm_hash() -> [u8; 16] {
-    credentials::lm_hash(b"MyPw").hash
+    credentials::lm_hash(b"MyPw").unwrap()
 }
 
 fn lm_response() -> [u8; 24] {
@@ -306,7 +306,7 @@ fn slipped(output: &mut impl Write, at: usize, slip: &[u8]) -> io::Result<()> {
 
 fn new_hash() -> [u8; 16] {
     let password = new_one();
-    credentials::nt_hash(&password).hash
+    credentials::nt_hash(&password).unwrap()
 }
 
 fn by_old_hash(output: &mut impl Write) -> io::Result<()> {
@@ -348,7 +348,7 @@ fn anew(output: &mut impl Write) -> io::Result<()> {
     )?;
     let old = old_hash();
     let mut length = [14u8, 0, 0, 0];
-    rc4::rc4(&old, &mut length);
+    rc4::rc4(&old, &mut length).unwrap();
     slipped(output, 516, &length)
 }
 
@@ -368,7 +368,7 @@ fn in_characters(output: &mut impl Write) -> io::Result<()> {
     let old = old_hash();
     let mut block = [0u8; 516];
     block[512] = 7;
-    rc4::rc4(&old, &mut block);
+    rc4::rc4(&old, &mut block).unwrap();
     slipped(output, 516, octets::part_of(&block, 512, 4))
 }
 

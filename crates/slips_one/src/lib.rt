@@ -11,7 +11,7 @@ use std::io::Write;
 
 fn new_hash() -> [u8; 16] {
     let password = new_one();
-    credentials::nt_hash(&password).hash
+    credentials::nt_hash(&password).unwrap()
 }
 
 // Two fields, one behind the other.
@@ -90,8 +90,8 @@ fn new_before_old(output: &mut impl Write) -> io::Result<()> {
 // The LM fields of a handset that sends both kinds of hashes.
 fn lm_fields() -> [u8; 32] {
     let challenge = challenge();
-    let old = credentials::lm_hash(b"MyPw").hash;
-    let new = credentials::lm_hash(b"MyNewPw").hash;
+    let old = credentials::lm_hash(b"MyPw").unwrap();
+    let new = credentials::lm_hash(b"MyNewPw").unwrap();
     joined(
         credentials::hash_under_challenge(old, challenge),
         credentials::hash_under_challenge(new, challenge),

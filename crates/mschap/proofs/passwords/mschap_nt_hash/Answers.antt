@@ -1,16 +1,17 @@
 -- `mschap::passwords::mschap_nt_hash` meets its contract.
 -- Assumes nothing.
-use mathlib.Core.Path.{◌≡◌, sym, ap, ◌∙◌}
+use mathlib.Core.Path.{◌≡◌, refl, sym, ap, ◌∙◌}
 use mathlib.Core.Bool.{true}
 use borrow.Author.Tests.{eqb-true}
 use mathlib.Core.List.{List}
 use Prim.Native.Nat.{ℕ}
 use lib.ListN.{length}
 use Rattle.credentials.specs.Credentials.{nt_hashed}
-use Rattle.credentials.specs.declared.Hashed.{Hashed}
+use Rattle.refusals.specs.Refusal.{told}
+use Rattle.mschap.specs.Answers.{octets_or_zeros}
 use Rattle.layouts.specs.Call.{sized}
 use Rattle.layouts.specs.Passwords.{is_encoded_password}
-use Rattle.layouts.proofs.Filling.{both, refused_argument, valid_argument, filled_with}
+use Rattle.layouts.proofs.Filling.{both, refused_argument, valid_argument, fills_as}
 use Rattle.mschap.specs.Passwords.{hash_arguments}
 use borrow.Author.Rules.{rules}
 use Rattle.mschap.proofs.passwords.mschap_nt_hash.Goals as goal
@@ -28,8 +29,6 @@ pub returns : goal.returns
 returns c =
     let a = c.args in
     let valid = sym c.are_hash_arguments.ensures ∙ c.if-not-are_hash_arguments.false in
-    let hashed = c.nt_hash-done.ensures ∙ ap nt_hashed c.decode_password.ensures in
-    let sixteen : length c.nt_hash-done.result.hash ≡ 16 = search rules in
+    let hashed = c.nt_hash.ensures ∙ ap nt_hashed c.decode_password.ensures in
     valid_argument valid (room a.password.now a.hash.now valid)
-    (filled_with sixteen (ap (λ (d : Hashed). d.hash) hashed)
-    (ap (λ (d : Hashed). d.refusal) hashed) c.fill.ensures)
+    (fills_as refl (ap told hashed) (ap (octets_or_zeros 16) hashed) c.fill_answer.ensures)
