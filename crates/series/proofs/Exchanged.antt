@@ -6,7 +6,6 @@ use mathlib.Core.List.{List, ◌++◌}
 use mathlib.Core.Path.{◌≡◌, sym, ap, ap₂, ◌∙◌}
 use Prim.Native.Nat.{ℕ, ◌≤◌, ◌<◌}
 use lib.ListN.{length}
-use Rattle.message.specs.declared.Reading.{Reading}
 use Rattle.packets.specs.Reply.{longest_reply, read_reply}
 use Rattle.authenticator.specs.Conversation.{answer_with, with_last}
 use Rattle.authenticator.specs.Judge.{reason_of}
@@ -23,7 +22,7 @@ use Rattle.peer.specs.Write.{Wrote}
 use Rattle.peer.specs.Peer.{after_writing, peer_reads, after_reply}
 use Rattle.peer.specs.declared.Peer.{Peer}
 use Rattle.peer.specs.declared.Turn.{Turn}
-use Rattle.series.specs.Series.{ExchangeInput, SeriesState, reaching, carried, Draws}
+use Rattle.series.specs.Series.{Reading, ExchangeInput, SeriesState, reaching, carried, Draws}
 
 -- our peer once the packet of a turn was sent
 abbrev pub sent_by : Turn → Peer

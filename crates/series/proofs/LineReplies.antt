@@ -12,8 +12,9 @@ use native.Mathlib.Omega.{arith}
 use borrow.Author.Tests.{eqb-true, ne_eqb, not-false}
 use lib.Dec.{eqb}
 use Rattle.message.specs.Reasons.{authentication_failure, password_expired}
-use Rattle.message.specs.Message.{text_of, refused_with}
-use Rattle.message.specs.declared.Reading.{Reading}
+use Rattle.std.specs.Prelude.{Err}
+use Rattle.refusals.specs.declared.Refusal.TheVariants.{Frame, Identifier}
+use Rattle.message.specs.Message.{text_of}
 use Rattle.packets.specs.Frame.{octet, bad_frame, bad_id}
 use Rattle.packets.specs.Reply.{body_read, read_reply}
 use Rattle.accounts.specs.declared.Account.{Account}
@@ -45,12 +46,12 @@ module _ (a : Account) (v : ChangeVersion) where
       which false e = rw e (read_reply_lem terms id Success padding (omega arith))
   due_read id (password_change u o n f) padding = read_reply_lem terms id Success padding (omega arith)
 
-  pub due_taken : (t : Packet) → is_taken (reading_due a v t).verdict ≡ true
+  pub due_taken : (t : Packet) → is_taken (reading_due a v t) ≡ true
   due_taken (invalid w n) = refl
   due_taken (right w n) = which a.expired refl
     where
       which : (x : Bool) → a.expired ≡ x
-          → is_taken (reading_due a v (right w n)).verdict ≡ true
+          → is_taken (reading_due a v (right w n)) ≡ true
       which true e = rw e
       which false e = rw e
   due_taken (password_change u o n f) = refl
@@ -76,17 +77,17 @@ due_there a v id t = coded_there (reply_due a v id t) (due_code a v id t)
 -- ---- another identifier
 
 -- what is taken as a reply to one identifier is refused with 5 as one to another
-pub other_refused : (id other : ℕ) (p : List ℕ) → is_taken (read_reply id p).verdict ≡ true
-    → other ≢ id → read_reply other p ≡ refused_with 5
+pub other_refused : (id other : ℕ) (p : List ℕ) → is_taken (read_reply id p) ≡ true
+    → other ≢ id → read_reply other p ≡ Err Identifier
 unfolding read_reply
 other_refused id other p taken differs =
     let h = which (bad_frame p) (bad_id id p) taken in
     let same = eqb-true (octet 1 p) id (not-false (eqb (octet 1 p) id) h.1) in
-    ap₂ (λ (x y : Bool). cond x (refused_with 3) (cond y (refused_with 5) (body_read p))) h.0
+    ap₂ (λ (x y : Bool). cond x (Err Frame) (cond y (Err Identifier) (body_read p))) h.0
     (ap not (ne_eqb (octet 1 p) other (λ e. differs (sym e ∙ same))))
   where
     which : (x y : Bool)
-        → is_taken (cond x (refused_with 3) (cond y (refused_with 5) (body_read p))).verdict ≡ true
+        → is_taken (cond x (Err Frame) (cond y (Err Identifier) (body_read p))) ≡ true
         → (x ≡ false) × (y ≡ false)
     which true y e = absurd (false≢true e)
     which false true e = absurd (false≢true e)
@@ -99,7 +100,7 @@ other_refused id other p taken differs =
 pub data Stale (id n : ℕ) (r : LineReply) : Type 0 where
   stale_blank : r.octets ≡ [] → r.answers ≡ none → Stale id n r
   stale : is_empty r.octets ≡ false
-      → ((padding : List ℕ) → read_reply id (r.octets ++ padding) ≡ refused_with 5)
+      → ((padding : List ℕ) → read_reply id (r.octets ++ padding) ≡ Err Identifier)
       → ((m : ℕ) → r.answers ≡ some m → m < n) → Stale id n r
 
 -- one that is due is nothing, or what is due to that packet
@@ -116,8 +117,8 @@ pub stale_by : (a : Account) (v : ChangeVersion) (id other n : ℕ) (t : Packet)
 stale_by a v id other n t r e differs less =
     stale (ap is_empty e ∙ due_there a v id t)
     (λ padding. other_refused id other (r.octets ++ padding)
-    (ap (λ (x : List ℕ). is_taken (read_reply id (x ++ padding)).verdict) e
-    ∙ ap (λ (x : Reading). is_taken x.verdict) (due_read a v id t padding) ∙ due_taken a v t)
+    (ap (λ (x : List ℕ). is_taken (read_reply id (x ++ padding))) e
+    ∙ ap is_taken (due_read a v id t padding) ∙ due_taken a v t)
     differs)
     less
 

@@ -9,10 +9,12 @@ use mathlib.Core.Path.{◌≡◌, refl, sym, ap, ◌∙◌, subst}
 use Prim.Native.Nat.{ℕ, zero, suc, ◌+◌, ◌-◌, ◌≤◌, ◌<◌}
 use native.Mathlib.Omega.{arith}
 use lib.ListN.{length}
-use Rattle.message.specs.Message.{called_for, no_challenge, succeeded}
+use Rattle.packets.specs.Reply.{ChallengeFields}
+use Rattle.std.specs.Prelude.{None, Ok}
+use Rattle.message.specs.Message.{called_for}
+use Rattle.message.specs.declared.Verdict.TheVariants.{Success}
 use Rattle.message.specs.Reasons.{password_expired}
 use Rattle.challenges.specs.Challenges.{next_id, incremented}
-use Rattle.packets.specs.declared.ChallengeFields.{ChallengeFields}
 use Rattle.accounts.specs.Account.{blank_entry, entry_of, with_failures}
 use Rattle.authenticator.specs.Conversation.{ended, retried, awaiting_change}
 use Rattle.authenticator.specs.Opening.{Opening, opened}
@@ -180,12 +182,12 @@ module _ (c : Conversation) (t : Turn) (h : InStep c t) where
       (record { id = ap next_id h.id; challenge = h.challenge })
     where
       called : (v : ChangeVersion)
-          → turn_for (called_for password_expired 0 (version v)) (sent_by t).sent no_challenge
+          → turn_for (called_for password_expired 0 (version v)) (sent_by t).sent None
           ≡ change_turn (sent_by t).sent
       called One = refl
       called Two = refl
 
-  pub ended_in_step : InStep (ended c) (next_turn (sent_by t) succeeded)
+  pub ended_in_step : InStep (ended c) (next_turn (sent_by t) (Ok Success))
   unfolding next_turn
   ended_in_step = record { id = h.id; challenge = h.challenge }
 

@@ -11,13 +11,13 @@ use borrow.Author.Tests.{le-ltb, eq-eqb, ne_eqb}
 use lib.Dec.{eqb}
 use lib.ListN.{length}
 use Rattle.challenges.specs.Challenges.{next_id}
-use Rattle.message.specs.Message.{called_for, failed_with, no_challenge}
+use Rattle.std.specs.Prelude.{None, Ok}
+use Rattle.message.specs.Message.{called_for, failed_with}
+use Rattle.message.specs.declared.Verdict.TheVariants.{Failure}
 use Rattle.message.specs.Reasons.{authentication_failure}
-use Rattle.message.specs.declared.Reading.{Reading}
 use Rattle.packets.specs.Codes.{response_code}
 use Rattle.packets.specs.Frame.{octet, bad_frame}
-use Rattle.packets.specs.Reply.{longest_reply, bad_reply_buffer}
-use Rattle.packets.specs.declared.ChallengeFields.{ChallengeFields}
+use Rattle.packets.specs.Reply.{ChallengeFields, longest_reply, bad_reply_buffer}
 use Rattle.authenticator.specs.Admit.{is_repeat, step_refusal}
 use Rattle.verify.specs.declared.ChangeVersion.{ChangeVersion}
 use Rattle.verify.specs.declared.ChangeVersion.TheVariants.{One, Two}
@@ -36,6 +36,7 @@ use Rattle.series.specs.Boxes.{repeats_here}
 use Rattle.accounts.specs.declared.Account.{Account}
 use Rattle.series.specs.Series.{
   Packet,
+  Reading,
   invalid,
   right,
   password_change,
@@ -88,7 +89,7 @@ module _ (box : Box) (p : SeriesState) (l : ExchangeInput) where
 
   pub retry_id : (v : ChangeVersion) (t : Packet) → Written t
       → peer_reads (exchange box our_writer p t l).peer (exchange box our_writer p t l).reply
-      ≡ failed_with authentication_failure 1 (version v) no_challenge
+      ≡ Ok (Failure (failed_with authentication_failure 1 (version v) None))
       → (next box our_writer p (ours t l)).peer.turn.id ≡ next_id p.peer.turn.id
   unfolding next_turn called_for
   retry_id v t ok e =

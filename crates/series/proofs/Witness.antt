@@ -4,6 +4,7 @@
 -- padding, refused steps before, between and behind them, and each of the three packets once more
 -- after its answer, with another record; and a later conversation.
 -- Assumes nothing.
+use Rattle.packets.specs.Reply.{ChallengeFields}
 use Rattle.std.specs.Prelude.{Option, Some, None}
 use mathlib.Core.Bool.{true, false}
 use mathlib.Core.List.{List, [], ◌∷◌}
@@ -27,7 +28,6 @@ use Rattle.authenticator.specs.declared.Phase.TheVariants.{Ended}
 use Rattle.verify.specs.declared.ChangeVersion.{ChangeVersion}
 use Rattle.authenticator.specs.declared.Conversation.{Conversation}
 use Rattle.authenticator.proofs.Openings.{opened_first, may_open_empty}
-use Rattle.packets.specs.declared.ChallengeFields.{ChallengeFields}
 use Rattle.authenticator.proofs.Steps.{drew_answered}
 use Rattle.series.specs.Course.{end, Along, total}
 use Rattle.series.specs.Series.{Passed, own, another, right, Step, other, SeriesState, start, exchange, next}

@@ -3,6 +3,7 @@
 -- and counts as ours does, one that hands a record with other round keys out repaired, and one that
 -- leaves the old round keys beside the new hash of a change.
 -- Assumes nothing.
+use Rattle.packets.specs.Reply.{ChallengeFields}
 use Rattle.std.specs.Prelude.{Some, None}
 use mathlib.Core.Bool.{Bool, true, false, cond, not, ◌&&◌, and-false, true≢false}
 use mathlib.Core.List.{List, [], ◌∷◌}
@@ -19,7 +20,6 @@ use Rattle.message.specs.Message.{text_of}
 use Rattle.packets.specs.Codes.{response_code, change_code}
 use Rattle.packets.specs.Frame.{octet}
 use Rattle.packets.specs.Response.{read_response}
-use Rattle.packets.specs.declared.ChallengeFields.{ChallengeFields}
 use Rattle.packets.specs.declared.Response.{Response}
 use Rattle.accounts.specs.Account.{hash_of, no_hash, schedules_for, no_schedules, entry_of}
 use Rattle.accounts.specs.Account.{with_schedules, account_with, found}

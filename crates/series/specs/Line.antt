@@ -7,10 +7,10 @@ use Rattle.std.specs.Prelude.{Bool, true, false, cond, ◌&&◌, ◌||◌, List,
 use Rattle.std.proofs.Math.Option.{Option, none, some}
 use Rattle.std.proofs.Math.ListN.{get_elem?}
 use Rattle.message.specs.Reasons.{authentication_failure, password_expired}
-use Rattle.message.specs.Message.{text_of, failed_with, refused_with, no_challenge, succeeded}
-use Rattle.message.specs.declared.Reading.{Reading}
-use Rattle.message.specs.declared.Verdict.{Verdict}
-use Rattle.message.specs.declared.Verdict.TheVariants.{Success, Failure, Refused}
+use Rattle.std.specs.Prelude.{None, Ok, Err}
+use Rattle.refusals.specs.declared.Refusal.TheVariants.{Identifier}
+use Rattle.message.specs.Message.{text_of, failed_with}
+use Rattle.message.specs.declared.Verdict.TheVariants.{Success, Failure}
 use Rattle.packets.specs.Reply.{success_packet, failure_packet, longest_reply}
 use Rattle.accounts.specs.Account.{Rightful, Agree}
 use Rattle.accounts.specs.declared.Account.{Account}
@@ -28,6 +28,7 @@ use Rattle.series.specs.LinePeers.{Copy, after_sending, Retransmission, LinePeer
 use Rattle.series.specs.Series as series
 use Rattle.series.specs.Series.{
   Packet,
+  Reading,
   invalid,
   right,
   password_change,
@@ -194,10 +195,9 @@ abbrev pub copy_of : ℕ → Peer → Outgoing → Copy
 copy_of n q o = record { number = n; packet = o.packet; out = o.out; writing = q }
 
 -- a reply is taken by a peer that does not refuse it
-abbrev pub is_taken : Verdict → Bool
-is_taken Success = true
-is_taken (Failure f) = true
-is_taken (Refused n) = false
+abbrev pub is_taken : Reading → Bool
+is_taken (Ok v) = true
+is_taken (Err r) = false
 
 -- our peer once it has read so
 abbrev pub after_reading : Peer → Reading → Peer
@@ -244,10 +244,10 @@ reply_due a v id (right w n) =
 reply_due a v id (password_change u o n f) = success_packet id
 
 abbrev pub reading_due : Account → ChangeVersion → Packet → Reading
-reading_due a v (invalid w n) = failed_with authentication_failure 1 (version v) no_challenge
+reading_due a v (invalid w n) = Ok (Failure (failed_with authentication_failure 1 (version v) None))
 reading_due a v (right w n) =
-    cond a.expired (failed_with password_expired 0 (version v) no_challenge) succeeded
-reading_due a v (password_change u o n f) = succeeded
+    cond a.expired (Ok (Failure (failed_with password_expired 0 (version v) None))) (Ok Success)
+reading_due a v (password_change u o n f) = Ok Success
 
 abbrev pub is_change_packet : Packet → Bool
 is_change_packet (invalid w n) = false
@@ -307,7 +307,7 @@ module _ (box : Box) (us : LinePeer) where
   -- "until a reply comes": one that our peer takes, while it awaits one
   abbrev pub has_read : LineState → Reading → LineState
   has_read s r =
-      cond (s.awaits && is_taken r.verdict) (moves_on s (after_reading s.peer r) s.due)
+      cond (s.awaits && is_taken r) (moves_on s (after_reading s.peer r) s.due)
       (with_peer (after_reading s.peer r) s)
 
   abbrev pub on_reply : LineState → ℕ → Option LineReply → List ℕ → LineState
@@ -434,7 +434,7 @@ module _ (box : Box) (us : LinePeer) where
     pub takes : r.answers ≡ some s.last.number
         → us.reads s.peer (r.octets ++ padding) ≡ reading_due a v s.last.packet
     pub refuses : (n : ℕ) → r.answers ≡ some n → n ≢ s.last.number
-        → (us.reads s.peer (r.octets ++ padding) ≡ refused_with 5)
+        → (us.reads s.peer (r.octets ++ padding) ≡ Err Identifier)
         × (after_reading s.peer (us.reads s.peer (r.octets ++ padding)) ≡ s.peer)
 
   abbrev pub HeardClaim : Account → ChangeVersion → LineState → Option LineReply → List ℕ → Type 0

@@ -2,14 +2,13 @@
 -- The claim of specs/Line is to hold of ours and of none of the others: neither is proved yet.
 -- Assumes nothing: these are definitions.
 use Rattle.std.specs.Prelude.{List, ℕ}
-use Rattle.message.specs.declared.Reading.{Reading}
 use Rattle.challenges.specs.Challenges.{next_id}
 use Rattle.packets.specs.Frame.{octet}
 use Rattle.packets.specs.Reply.{read_reply}
 use Rattle.peer.specs.Write.{Wrote}
 use Rattle.peer.specs.Peer.{after_writing, peer_reads}
 use Rattle.peer.specs.declared.Peer.{Peer}
-use Rattle.series.specs.Series.{Packet, writes}
+use Rattle.series.specs.Series.{Packet, Reading, writes}
 use Rattle.series.specs.Writers.{Writer, our_writer}
 
 -- A copy of a packet of our peer's: which of its packets it is, counted from 0; what it is written

@@ -1,15 +1,17 @@
 -- Demand 3. Words in quotes are document 01's, "The series in demand 3", and document 02's,
 -- requests 2026-01, 2026-07, 2026-09 and 2026-10.
 -- Assumes nothing: these are definitions.
+use Rattle.std.specs.Prelude.{None, Result, Ok}
 use Rattle.std.specs.Prelude.{Bool, true, false, cond, List, [], ◌∷◌, ◌++◌, ◌≡◌, ℕ, ◌+◌, ◌≤◌, ◌<◌, length, take, replicate}
 use Rattle.credentials.specs.Credentials.{nt_hash_of, bad_nt_password, bad_filler}
 use Rattle.message.specs.Reasons.{authentication_failure, password_expired}
-use Rattle.message.specs.Message.{text_of, failed_with, no_challenge, succeeded}
-use Rattle.message.specs.declared.Reading.{Reading}
+use Rattle.refusals.specs.declared.Refusal.{Refusal}
+use Rattle.message.specs.Message.{text_of, failed_with}
+use Rattle.message.specs.declared.Verdict.{Verdict}
+use Rattle.message.specs.declared.Verdict.TheVariants.{Success, Failure}
 use Rattle.packets.specs.Response.{bad_name, read_response}
-use Rattle.packets.specs.Reply.{success_packet, failure_packet, read_challenge, longest_reply}
+use Rattle.packets.specs.Reply.{ChallengeFields, success_packet, failure_packet, read_challenge, longest_reply}
 use Rattle.packets.specs.Sizes.{name_offset, change_size, change_one_size}
-use Rattle.packets.specs.declared.ChallengeFields.{ChallengeFields}
 use Rattle.accounts.specs.Account.{found, Rightful, Agree}
 use Rattle.verify.specs.Response.{found_valid}
 use Rattle.verify.specs.declared.ChangeVersion.{ChangeVersion}
@@ -165,6 +167,10 @@ Within (password_change v o n f) l = ChangeWithin v o n f l
 
 -- ---- the claim
 
+-- what our peer reads in a reply, or the refusal
+abbrev pub Reading : Type 0
+Reading = Result Verdict Refusal
+
 -- what a packet draws, octet for octet, and what our peer reads of it
 abbrev pub Draws : Exchange → List ℕ → Reading → Type 0
 Draws x reply reading = (reply_of x.outcome ≡ reply) × (peer_reads x.peer x.reply ≡ reading)
@@ -172,10 +178,10 @@ Draws x reply reading = (reply_of x.outcome ≡ reply) × (peer_reads x.peer x.r
 -- a Failure that a box writes that was opened for a version's change: V tells it
 abbrev pub DrawsFailure : Exchange → ChangeVersion → ℕ → ℕ → ℕ → Type 0
 DrawsFailure x v id e r = Draws x (failure_packet id (text_of e r (version v)))
-    (failed_with e r (version v) no_challenge)
+    (Ok (Failure (failed_with e r (version v) None)))
 
 abbrev pub DrawsSuccess : Exchange → ℕ → Type 0
-DrawsSuccess x id = Draws x (success_packet id) succeeded
+DrawsSuccess x id = Draws x (success_packet id) (Ok Success)
 
 -- ---- a series with a box and a writer
 

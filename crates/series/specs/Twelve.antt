@@ -1,17 +1,16 @@
 -- Document 01's table of twelve: inputs, outputs, what each input gives by the definitions, and the
 -- rows.
 -- Assumes nothing: these are definitions.
-use Rattle.std.specs.Prelude.{None}
-use Rattle.std.specs.Prelude.{cond, List, [], ◌∷◌, ◌++◌, ℕ, take, replicate}
-use Rattle.std.proofs.Math.Option.{Option, none, some}
+use Rattle.std.specs.Prelude.{Option, None, Result, Ok, Err}
+use Rattle.std.specs.Prelude.{List, [], ◌∷◌, ◌++◌, ℕ, take, replicate}
 use Rattle.des.specs.Des.{expand_key}
 use Rattle.credentials.specs.Credentials.{length_in, content_for}
 use Rattle.credentials.specs.declared.Content.{Content}
 use Rattle.credentials.specs.declared.Content.TheVariants.{Over, Odd}
 use Rattle.message.specs.Message.{read_message}
-use Rattle.message.specs.declared.NewChallenge.{NewChallenge}
-use Rattle.message.specs.declared.Verdict.{Verdict}
-use Rattle.message.specs.declared.Verdict.TheVariants.{Success, Failure, Refused}
+use Rattle.message.specs.declared.Failed.{Failed}
+use Rattle.refusals.specs.Refusal as refusals
+use Rattle.refusals.specs.declared.Refusal.{Refusal}
 use Rattle.issued.specs.Issued.{empty_list}
 use Rattle.challenges.specs.Challenges.{next_id, incremented}
 use Rattle.accounts.specs.Account.{not_found}
@@ -19,7 +18,6 @@ use Rattle.authenticator.specs.Opening.{Opening, first_conversation, opened, ope
 use Rattle.authenticator.specs.Step.{Outcome, step}
 use Rattle.authenticator.specs.Steps.{reply_of}
 use Rattle.authenticator.specs.Step as kinds
-use Rattle.authenticator.specs.Step as kind
 
 -- An identifier or a challenge whose next is asked for; a raw key; an opening with an identifier
 -- and a challenge; a Response to a conversation that awaits an identifier, with no record; an
@@ -57,21 +55,16 @@ opening_of id c =
 
 -- the refusal's number, or the reply
 abbrev drawn_as : kinds.Kind → Outcome → Output
-drawn_as (kind.Refused n) o = refusal n
-drawn_as (kind.Repeated e) o = octets (reply_of o)
-drawn_as (kind.Judged e) o = octets (reply_of o)
+drawn_as (kinds.Refused n) o = refusal n
+drawn_as (kinds.Repeated e) o = octets (reply_of o)
+drawn_as (kinds.Judged e) o = octets (reply_of o)
 
 abbrev answered : Outcome → Output
 answered o = drawn_as o.answer.kind o
 
--- C, where it is given
-abbrev given_in : NewChallenge → Option (List ℕ)
-given_in c = cond c.given (some c.octets) none
-
-abbrev read_as : Verdict → NewChallenge → Output
-read_as Success c = refusal 0
-read_as (Failure f) c = fields f.e f.r (given_in c) f.v
-read_as (Refused n) c = refusal n
+abbrev read_as : Result Failed Refusal → Output
+read_as (Ok f) = fields f.e f.r f.c f.v
+read_as (Err r) = refusal (refusals.number r)
 
 unfoldable pub output_of : Input → Output
 output_of (identifier i) = number (next_id i)
@@ -82,7 +75,7 @@ output_of (opening id c) = octets
 output_of (response id p) = answered
     (step (first_conversation (opening_of id (replicate 8 0))) p not_found (replicate 17 0))
 output_of (block b) = content (content_for (length_in b))
-output_of (message m) = read_as (read_message m).verdict (read_message m).c
+output_of (message m) = read_as (read_message m)
 
 pub record Row : Type 0 where
   pub input : Input
@@ -127,7 +120,7 @@ rows =
     -- (k) E=648 R=0 V=3 extra
     ∷ record {
       input = message (69 ∷ 61 ∷ 54 ∷ 52 ∷ 56 ∷ 32 ∷ 82 ∷ 61 ∷ 48 ∷ 32 ∷ 86 ∷ 61 ∷ 51 ∷ 32 ∷ 101 ∷ 120 ∷ 116 ∷ 114 ∷ 97 ∷ []);
-      output = fields 648 0 none 3;
+      output = fields 648 0 None 3;
     }
     -- (l) R=1 V=2
     ∷ record { input = message (82 ∷ 61 ∷ 49 ∷ 32 ∷ 86 ∷ 61 ∷ 50 ∷ []); output = refusal 11 }
