@@ -4,14 +4,14 @@ ghost use Rattle.layouts.specs.Lists.{list_head_size};
 ghost use Rattle.mschap.specs.Opening.{opening_for, open_arguments, OpenCall};
 ghost use Rattle.mschap.specs.Inner.{OpenedOn};
 
-use authenticator::{Conversation, Opened};
+use authenticator::{Conversation, Settings, Started};
 use layouts::{
     BAD_ARGUMENT, CONVERSATION_SIZE, LIST_HEAD_SIZE, is_list, places_in, put_conversation,
     put_list_head, used_in,
 };
 use numbers::{change_in, is_terms, limit_in, lm_in, retries_in};
 use packets::CHALLENGE_SIZE;
-use refusals::both;
+use refusals::Refusal;
 
 const IDENTIFIERS_END: u32 = 256;
 
@@ -25,44 +25,46 @@ fn are_open_arguments(
     ensures { result ≡ open_arguments id terms challenge.now list.now
         conversation.now }
 {
-    let sizes = both(
-        challenge.len() == CHALLENGE_SIZE,
-        both(is_list(list), conversation.len() == CONVERSATION_SIZE),
-    );
-    both(id < IDENTIFIERS_END, both(is_terms(terms), sizes))
+    id < IDENTIFIERS_END
+        && is_terms(terms)
+        && challenge.len() == CHALLENGE_SIZE
+        && is_list(list)
+        && conversation.len() == CONVERSATION_SIZE
 }
 
 // Opens on the list that is encoded, and writes it back.
-fn open_on(id: u8, terms: u32, challenge: &[u8], list: &mut [u8], reply: &mut [u8]) -> Opened
+fn open_on(
+    id: u8,
+    terms: u32,
+    challenge: &[u8],
+    list: &mut [u8],
+    reply: &mut [u8],
+) -> Result<Started, Refusal>
     requires challenge_len { length challenge.now ≡ 8 }
     requires list_head_size_in_bounds { list_head_size ≤ length list.old }
     ensures { OpenedOn
         (opening_for id terms challenge.now list.old reply.old)
         list.old result list.new reply.new }
 {
-    let sent = octets::array_at(challenge, 0);
-    let tries = retries_in(terms);
-    let choice = lm_in(terms);
-    let change = change_in(terms);
-    let limit = limit_in(terms);
+    let settings = Settings {
+        id,
+        challenge: octets::array_at(challenge, 0),
+        retries: retries_in(terms),
+        lm: lm_in(terms),
+        change: change_in(terms),
+        limit: limit_in(terms),
+    };
     let used = used_in(list) as usize;
     let mut counts = issued::true_counts(places_in(list), used, CHALLENGE_SIZE).counts;
-    let answer = Conversation::open(
-        id,
-        sent,
-        tries,
-        choice,
-        change,
-        limit,
+    let started = Conversation::open(
+        settings,
         &mut list[LIST_HEAD_SIZE..],
         used,
         &mut counts,
         reply,
-    );
-    if answer.refusal == 0 {
-        put_list_head(answer.used, list);
-    }
-    answer
+    )?;
+    put_list_head(started.used, list);
+    Ok(started)
 }
 
 // Opens a conversation with an identifier, terms and a challenge. Adds the challenge and its
@@ -85,7 +87,8 @@ pub extern "C" fn mschap_open(
     if !are_open_arguments(id, terms, challenge, list, conversation) {
         return BAD_ARGUMENT;
     }
-    let answer = open_on(id as u8, terms, challenge, list, reply);
-    let first = answer.conversation;
-    put_conversation(answer.refusal, first, conversation)
+    match open_on(id as u8, terms, challenge, list, reply) {
+        Ok(started) => put_conversation(0, started.conversation, conversation),
+        Err(refusal) => u32::from(refusal.number()),
+    }
 }

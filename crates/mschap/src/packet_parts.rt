@@ -2,7 +2,7 @@
 // the account.
 ghost use Rattle.std.specs.Prelude.{◌≡◌, cond};
 ghost use Rattle.packets.specs.Frame.{bad_frame, length_of};
-ghost use Rattle.packets.specs.Name.{domain_part, account_part};
+ghost use Rattle.packets.specs.Name.{domain_part, account_part, standing};
 
 // The Length field; 0 where it is no packet's.
 #[unsafe(no_mangle)]
@@ -19,31 +19,31 @@ pub extern "C" fn mschap_packet_length(packet: &[u8]) -> usize
 // Where the account begins; 0 where the packet is refused.
 #[unsafe(no_mangle)]
 pub extern "C" fn mschap_account_offset(packet: &[u8]) -> usize
-    ensures { result ≡ (account_part packet.now).offset }
+    ensures { result ≡ (standing (account_part packet.now)).offset }
 {
-    packets::account_part(packet).offset
+    packets::account_part(packet).map_or(0, |part| part.offset)
 }
 
 // How many bytes the account has there.
 #[unsafe(no_mangle)]
 pub extern "C" fn mschap_account_length(packet: &[u8]) -> usize
-    ensures { result ≡ (account_part packet.now).length }
+    ensures { result ≡ (standing (account_part packet.now)).length }
 {
-    packets::account_part(packet).length
+    packets::account_part(packet).map_or(0, |part| part.length)
 }
 
 // Where the domain begins; 0 where the name has no backslash, or the packet is refused.
 #[unsafe(no_mangle)]
 pub extern "C" fn mschap_domain_offset(packet: &[u8]) -> usize
-    ensures { result ≡ (domain_part packet.now).offset }
+    ensures { result ≡ (standing (domain_part packet.now)).offset }
 {
-    packets::domain_part(packet).offset
+    packets::domain_part(packet).map_or(0, |part| part.offset)
 }
 
 // How many bytes the domain has there.
 #[unsafe(no_mangle)]
 pub extern "C" fn mschap_domain_length(packet: &[u8]) -> usize
-    ensures { result ≡ (domain_part packet.now).length }
+    ensures { result ≡ (standing (domain_part packet.now)).length }
 {
-    packets::domain_part(packet).length
+    packets::domain_part(packet).map_or(0, |part| part.length)
 }
