@@ -12,7 +12,7 @@ use lib.ListN.{replicate}
 use Rattle.octets.specs.Digits.{digit_of, hex_of}
 use Rattle.octets.specs.Parts.{agrees}
 use Rattle.blocks.specs.Blocks.{run_blocks, zeros, padded, hash_blocks}
-use Rattle.md4.specs.Md4.{operation, operations, table1, table2, table3, round1, round2, round3, increased, words_of, block, initial_registers, digest_of, md4_of}
+use Rattle.md4.specs.Md4.{operation, operations, increased, words_of, block, initial_registers, digest_of, md4_of}
 use Rattle.credentials.specs.Credentials.{nt_hash_of}
 use Rattle.accounts.specs.Account.{no_hash, hash_of, account_with, found, entry_of, changed, not_found}
 use Rattle.accounts.specs.Account.{Rightful, Agree}
@@ -70,11 +70,11 @@ unfolding place_of lines is_account agrees digit_of hex_of
 on_line = refl
 
 hash_old : nt_hash_of old ≡ old_hash
-unfolding nt_hash_of md4_of digest_of hash_blocks run_blocks padded zeros block increased round1 round2 round3 operations operation table1 table2 table3 words_of initial_registers
+unfolding nt_hash_of md4_of digest_of hash_blocks run_blocks padded zeros block increased operations operation words_of initial_registers
 hash_old = refl
 
 hash_new : nt_hash_of new ≡ new_hash
-unfolding nt_hash_of md4_of digest_of hash_blocks run_blocks padded zeros block increased round1 round2 round3 operations operation table1 table2 table3 words_of initial_registers
+unfolding nt_hash_of md4_of digest_of hash_blocks run_blocks padded zeros block increased operations operation words_of initial_registers
 hash_new = refl
 
 -- ---- a series with it: the right password, and the change

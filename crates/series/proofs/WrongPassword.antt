@@ -9,7 +9,7 @@ use native.Mathlib.Omega.{arith}
 use lib.ListN.{replicate}
 use Rattle.octets.specs.Parts.{over, agrees}
 use Rattle.blocks.specs.Blocks.{run_blocks, zeros, padded, hash_blocks}
-use Rattle.md4.specs.Md4.{operation, operations, table1, table2, table3, round1, round2, round3}
+use Rattle.md4.specs.Md4.{operation, operations}
 use Rattle.md4.specs.Md4.{increased, words_of, block, initial_registers, digest_of, md4_of}
 use Rattle.des.specs.Tables.{ip, fp, expansion, permutation, s1, s2, s3, s4, s5, s6, s7, s8, boxes}
 use Rattle.des.specs.Tables.{pc1, pc2, shifts}
@@ -33,8 +33,8 @@ use Rattle.series.proofs.Sample.{challenge, old, bad, user, account, line, bad_t
 
 pub differs : agrees (response_of (nt_hash_of bad) challenge) (response_of (nt_hash_of old) challenge)
     ≡ false
-unfolding agrees nt_hash_of md4_of digest_of hash_blocks run_blocks padded zeros block increased round1
-    round2 round3 operations operation table1 table2 table3 words_of initial_registers response_of
+unfolding agrees nt_hash_of md4_of digest_of hash_blocks run_blocks padded zeros block increased
+    operations operation words_of initial_registers response_of
     des_three des_encrypt schedule_of expand_key round_keys crypt cipher_f ip fp expansion permutation
     boxes s1 s2 s3 s4 s5 s6 s7 s8 pc1 pc2 shifts over
 differs = refl
