@@ -19,10 +19,7 @@ const KEY_SIZE: usize = 7;
 const DES_BLOCK_SIZE: usize = 8;
 
 // Fills a buffer with the bytes of an answer, or leaves it. Returns the number of the call.
-pub(crate) fn fill_answer<const N: usize>(
-    answer: Result<[u8; N], Refusal>,
-    out: &mut [u8],
-) -> u32
+pub(crate) fn fill_answer<const N: usize>(answer: Result<[u8; N], Refusal>, out: &mut [u8]) -> u32
     ensures { Fills (sized N out.old) (told answer.entry) (octets_or_zeros N answer.entry)
         out.old result out.new }
 {
