@@ -83,7 +83,8 @@ fn may_spend(
 // raises the counts of their last octets. What of run is no whole entry is left out. Answers how
 // many places are used then. Refusals, which leave all as it was: 24 (the buffer, used or the
 // counts), 16 (one of them stands in the list), 17 (too few places are left). Entries of run are
-// not compared with each other.
+// not compared with each other. Buffer, used and counts stay apart: the caller lends each by
+// itself.
 pub fn spend(
     buffer: &mut [u8],
     used: usize,

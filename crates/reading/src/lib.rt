@@ -15,8 +15,8 @@ pub fn read_full<R: Read>(input: &mut R, buffer: &mut [u8]) -> io::Result<usize>
         (λ n. Consumes (R.remaining input.old) (R.remaining input.new) (take n buffer.new)) }
     ensures end { IfOk result (λ n. n < length buffer.new → IsAtEnd (R.remaining input.new)) }
 {
-    // A loop over `read`: `read_exact` does not tell how far the stream went where it ended early, and
-    // `read_to_end` wants a heap.
+    // A loop over `read`: `read_exact` does not tell how far the stream went where it ended early,
+    // and `read_to_end` wants a heap.
     let mut n = 0;
     while n < buffer.len() {
         let count = input.read(&mut buffer[n..])?;

@@ -1,7 +1,8 @@
 -- What `acctsum` says of its input (document 02, request 2026-02): "a line of present time and
 -- maximum age (decimal, a space between), then a file, 64 KiB in all".
 -- Assumes nothing: these are definitions.
-use Rattle.std.specs.Prelude.{Bool, cond, not, ◌&&◌, List, map, ℕ, ◌^◌, leb, ltb, length, Result, Ok, Err}
+use Rattle.std.specs.Prelude.{Bool, cond, not, ◌&&◌, List, map, ℕ, ◌^◌, leb, ltb, length}
+use Rattle.std.specs.Prelude.{Result, Ok, Err}
 use Rattle.refusals.specs.declared.Refusal.{Refusal}
 use Rattle.refusals.specs.declared.Refusal.TheVariants as refusal
 use Rattle.octets.specs.Digits.{digit_of, all_below, number_from}

@@ -2,7 +2,8 @@
 ghost use Rattle.std.specs.Prelude.{◌≡◌};
 ghost use Rattle.smbpasswd.specs.Record.{is_expired};
 
-// The present time and the maximum age of a password, in seconds.
+// The present time and the maximum age of a password, in seconds. The public functions take the two
+// apart: a caller has them so, and is asked for no more.
 #[derive(Clone, Copy)]
 pub(crate) struct Clock {
     pub present: u32,

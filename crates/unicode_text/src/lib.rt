@@ -69,7 +69,8 @@ fn recode<From: Encoding, To: Encoding, const N: usize>(s: &[u8]) -> Result<Code
 }
 
 // The password of a text in UTF-8. Refusals 101 (the text is malformed anywhere), then 8 (the
-// password is over 512 octets).
+// password is over 512 octets). The text is octets and no `&str`: it comes from C, and what is
+// malformed is answered with 101.
 pub fn password_of(text: &[u8]) -> Result<Coded<PASSWORD_MAX>, Refusal>
     ensures { result ≡ password_of text.now }
 {

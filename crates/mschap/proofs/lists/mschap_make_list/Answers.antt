@@ -6,14 +6,6 @@ use Rattle.mschap.specs.Lists.{bad_places, make_list_refusal}
 use Rattle.mschap.proofs.ListCalls.{head_laid, good_head}
 use Rattle.mschap.proofs.lists.mschap_make_list.Goals as goal
 
-pub returns-then-are_bad_places : goal.returns-then-are_bad_places
-unfolding make_list_refusal
-returns-then-are_bad_places c =
-    record {
-      number = simp (sym c.are_bad_places.ensures ∙ c.if-are_bad_places.true);
-      list = refl;
-    }
-
 pub returns : goal.returns
 unfolding make_list_refusal
 returns c =

@@ -13,9 +13,6 @@ character : (c : goal.After-char_from_units) → c.char_from_units.result ≡ fo
 unfolding utf16_first
 character c = cc
 
-pub returns-clause-character : goal.returns-clause-character
-returns-clause-character c = character c
-
 pub returns-clause-within : goal.returns-clause-within
 returns-clause-within c =
     let s = c.args.s.now in
