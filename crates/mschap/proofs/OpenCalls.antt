@@ -1,13 +1,17 @@
 -- What mschap_open returns and leaves, from what the functions that it calls do.
 -- Assumes nothing.
-use Rattle.std.specs.Prelude.{Option}
+use Rattle.std.specs.Prelude.{Option, Result, Ok, Err}
+use Rattle.refusals.specs.Refusal.{number, told}
+use Rattle.refusals.specs.declared.Refusal.{Refusal}
+use Rattle.refusals.proofs.Numbers.{number_some}
+use Rattle.authenticator.specs.declared.Started.{Started}
 use Rattle.verify.specs.declared.ChangeVersion.{ChangeVersion}
-use mathlib.Core.Path.{◌≡◌, refl, sym, ap, ◌∙◌}
+use mathlib.Core.Path.{◌≡◌, refl, sym, ap, ◌∙◌, subst}
 use mathlib.Core.Bool.{Bool, true, false, not, false≢true}
 use mathlib.Core.List.{List, [], ◌++◌, append-nil}
 use Prim.Native.Nat.{ℕ, ◌-◌, ◌≤◌, ◌<◌}
 use native.Mathlib.Omega.{arith}
-use borrow.Author.Tests.{eqb-true, eq-eqb, ltb-false}
+use borrow.Author.Tests.{eqb-true, eq-eqb, ne_eqb, ltb-false}
 use lib.Dec.{eqb, ltb}
 use lib.ListN.{length, take, drop, length-append, length-drop}
 use lib.ListN.{take-append-drop, drop_of_length-le}
@@ -17,7 +21,7 @@ use Rattle.octets.specs.Parts.{over}
 use Rattle.octets.proofs.Parts.{over_fits}
 use Rattle.authenticator.specs.Opening.{Opening, OpenedAs, opened, opened_issued, opened_buffer}
 use Rattle.authenticator.specs.Opening.{open_refusal}
-use Rattle.authenticator.specs.Opening.{Opened}
+use Rattle.authenticator.specs.Opening.{Opened, opened_as}
 use Rattle.authenticator.proofs.Openings.{opened_number}
 use Rattle.layouts.specs.Call.{Fills, sized, numbered, after_call}
 use Rattle.layouts.specs.Conversations.{conversation_size, encode_conversation}
@@ -124,9 +128,15 @@ list_kept o = by (eqb (open_refusal o) 0) refl
     by true e h = absurd (false≢true (sym h ∙ simp e))
     by false e h = simp e
 
+-- a conversation was opened, or the opening was refused: by its number
+told_number : (o : Opening) (r : Result Started Refusal) → (opened_as o r).refusal ≡ told r
+told_number o (Ok s) = refl
+told_number o (Err e) = refl
+
 module _ (o : Opening) (list : List ℕ) (head : 4 ≤ length list)
-    (places : o.issued.buffer ≡ drop 4 list) {answer : Opened} {b counts reply : List ℕ}
-    (made : OpenedAs o answer (record { buffer = b; used = answer.used; counts = counts }) reply)
+    (places : o.issued.buffer ≡ drop 4 list) {r : Result Started Refusal} {n : ℕ}
+    {b counts reply : List ℕ}
+    (made : OpenedAs o r (record { buffer = b; used = n; counts = counts }) reply)
   where
     -- the list, once its places are back
     abbrev whole : List ℕ
@@ -140,21 +150,29 @@ module _ (o : Opening) (list : List ℕ) (head : 4 ≤ length list)
         ap (λ (x : List ℕ). take 4 list ++ (b ++ x)) none
         ∙ ap (λ (x : List ℕ). take 4 list ++ x) (append-nil b)
 
-    pub refused_on : eqb answer.refusal 0 ≡ false → OpenedOn o list answer whole reply
-    refused_on e =
-        let same = ap (λ (v : Opened). eqb v.refusal 0) made.answer in
+    -- the refusal is the answer
+    pub refused_on : {e : Refusal} {answer : Result Started Refusal} → r ≡ Err e
+        → answer ≡ Err e → OpenedOn o list answer whole reply
+    refused_on {e} {answer} refused passed =
+        let zero = ap (λ (x : Result Started Refusal). eqb (told x) 0) refused
+        ∙ ne_eqb _ 0 (number_some e) in
+        let same = sym (told_number o r) ∙ ap (λ (v : Opened). v.refusal) made.answer in
         let kept : b ≡ drop 4 list =
-        ap (λ (i : Issued). i.buffer) (made.list ∙ list_kept o (sym same ∙ e)) ∙ places in
-        record {
+        ap (λ (i : Issued). i.buffer)
+        (made.list ∙ list_kept o (ap (λ (k : ℕ). eqb k 0) (sym same) ∙ zero)) ∙ places in
+        subst (λ (x : Result Started Refusal). OpenedOn o list x whole reply)
+        (refused ∙ sym passed)
+        (record {
           answered = made.answer;
           issued =
               joined ∙ ap (λ (x : List ℕ). take 4 list ++ x) kept ∙ take-append-drop 4 list
-              ∙ sym (simp e);
+              ∙ sym (simp zero);
           sent = made.reply;
-        }
+        })
 
-    pub accepted_on : {after : List ℕ} → answer.refusal ≡ 0
-        → after ≡ over (list_head answer.used) whole → OpenedOn o list answer after reply
+    -- the answer is a conversation
+    pub accepted_on : {after : List ℕ} → told r ≡ 0
+        → after ≡ over (list_head n) whole → OpenedOn o list r after reply
     accepted_on {after} e put =
         let four : length (take 4 list) ≡ 4 = length-take-le 4 list head in
         let room : 4 ≤ length (take 4 list ++ b) = omega
@@ -162,9 +180,9 @@ module _ (o : Opening) (list : List ℕ) (head : 4 ≤ length list)
         record {
           answered = made.answer;
           issued =
-              put ∙ ap (over (list_head answer.used)) joined
-              ∙ over_fits (list_head answer.used) (take 4 list ++ b) room
-              ∙ ap (λ (x : List ℕ). list_head answer.used ++ x) (drop_at (take 4 list) b 4 four)
+              put ∙ ap (over (list_head n)) joined
+              ∙ over_fits (list_head n) (take 4 list ++ b) room
+              ∙ ap (λ (x : List ℕ). list_head n ++ x) (drop_at (take 4 list) b 4 four)
               ∙ ap encode_list made.list
               ∙ sym (simp (ap (λ (n : ℕ). eqb n 0) e));
           sent = made.reply;
@@ -177,15 +195,15 @@ module _ (id terms : ℕ) (challenge list conversation reply : List ℕ)
   abbrev o : Opening
   o = opening_for id terms challenge list reply
 
-  -- the opening was made on the list, and its conversation was put into the caller's buffer
-  pub open_called : {answer : Opened} {r : ℕ} {list_after after reply_after : List ℕ}
-      → OpenedOn o list answer list_after reply_after
-      → Fills (sized conversation_size conversation) answer.refusal
-      (encode_conversation answer.conversation) conversation r after
+  -- a conversation was opened on the list, and was put into the caller's buffer
+  pub open_called : {s : Started} {r : ℕ} {list_after after reply_after : List ℕ}
+      → OpenedOn o list (Ok s) list_after reply_after
+      → Fills (sized conversation_size conversation) 0
+      (encode_conversation s.conversation) conversation r after
       → OpenCall id terms challenge list conversation reply r list_after after reply_after
-  open_called {answer} {r} {list_after} {after} {reply_after} f put =
+  open_called {s} {r} {list_after} {after} {reply_after} f put =
       let size = (passed id terms challenge list conversation valid).room in
-      let same : r ≡ answer.refusal = fills_number size put in
+      let same : r ≡ 0 = fills_number size put in
       let number : r ≡ (opened o).refusal = same ∙ ap (λ (v : Opened). v.refusal) f.answered in
       record {
         number = number ∙ sym (ap (λ (t : Bool). numbered t (opened o).refusal) valid);
@@ -198,4 +216,20 @@ module _ (id terms : ℕ) (challenge list conversation reply : List ℕ)
         sent =
             f.sent ∙ reply_kept o
             ∙ ap (λ (i : ℕ). after_call i (opened_buffer o) reply) (sym number);
+      }
+
+  -- the opening was refused: the number is told, and all stays as it was
+  pub open_refused : {e : Refusal} {list_after reply_after : List ℕ}
+      → OpenedOn o list (Err e) list_after reply_after
+      → OpenCall id terms challenge list conversation reply (number e) list_after conversation
+      reply_after
+  open_refused {e} {list_after} {reply_after} f =
+      let told : number e ≡ (opened o).refusal = ap (λ (v : Opened). v.refusal) f.answered in
+      record {
+        number = told ∙ sym (ap (λ (t : Bool). numbered t (opened o).refusal) valid);
+        issued = f.issued;
+        first = sym (simp (ne_eqb (number e) 0 (number_some e)));
+        sent =
+            f.sent ∙ reply_kept o
+            ∙ ap (λ (i : ℕ). after_call i (opened_buffer o) reply) (sym told);
       }

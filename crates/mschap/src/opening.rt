@@ -15,6 +15,7 @@ use refusals::Refusal;
 
 const IDENTIFIERS_END: u32 = 256;
 
+#[tactic(auto, unfolding(crate::specs::Opening::open_arguments))]
 fn are_open_arguments(
     id: u32,
     terms: u32,

@@ -1,9 +1,10 @@
 -- `mschap::opening::mschap_open` meets its contract.
 -- Assumes nothing.
-use mathlib.Core.Path.{◌≡◌, refl, sym, ◌∙◌}
+use mathlib.Core.Path.{◌≡◌, refl, sym, ap, ◌∙◌, subst}
 use mathlib.Core.Bool.{true}
-use Rattle.mschap.specs.Opening.{open_arguments}
-use Rattle.mschap.proofs.OpenCalls.{passed, open_called}
+use Prim.Native.Nat.{ℕ}
+use Rattle.mschap.specs.Opening.{open_arguments, OpenCall}
+use Rattle.mschap.proofs.OpenCalls.{passed, open_called, open_refused}
 use borrow.Author.Tests.{ltb-true}
 use native.Mathlib.Omega.{arith}
 use Rattle.mschap.proofs.opening.mschap_open.Goals as goal
@@ -28,18 +29,36 @@ overflow_cast-id c =
     let p = passed a.id a.terms a.challenge.now a.list.now a.conversation.now valid in
     omega (arith, ltb-true a.id 256 p.small)
 
-pub open_on-answer-requires : goal.open_on-answer-requires
-open_on-answer-requires c =
+pub open_on-requires-clause-challenge_len : goal.open_on-requires-clause-challenge_len
+open_on-requires-clause-challenge_len c =
     let a = c.args in
     let valid : open_arguments a.id a.terms a.challenge.now a.list.now a.conversation.now ≡ true
     = sym c.are_open_arguments.ensures ∙ c.if-not-are_open_arguments.false in
-    let p = passed a.id a.terms a.challenge.now a.list.now a.conversation.now valid in
-    record { challenge_len = p.eight; list_head_size_in_bounds = p.head }
+    (passed a.id a.terms a.challenge.now a.list.now a.conversation.now valid).eight
 
-pub returns : goal.returns
-returns c =
+pub open_on-requires-clause-list_head_size_in_bounds :
+    goal.open_on-requires-clause-list_head_size_in_bounds
+open_on-requires-clause-list_head_size_in_bounds c =
+    let a = c.args in
+    let valid : open_arguments a.id a.terms a.challenge.now a.list.now a.conversation.now ≡ true
+    = sym c.are_open_arguments.ensures ∙ c.if-not-are_open_arguments.false in
+    (passed a.id a.terms a.challenge.now a.list.now a.conversation.now valid).head
+
+pub returns-in-Ok : goal.returns-in-Ok
+returns-in-Ok c =
     let a = c.args in
     let valid : open_arguments a.id a.terms a.challenge.now a.list.now a.conversation.now ≡ true
     = sym c.are_open_arguments.ensures ∙ c.if-not-are_open_arguments.false in
     open_called a.id a.terms a.challenge.now a.list.now a.conversation.now
-    a.reply.now valid c.open_on-answer.ensures c.put_conversation.ensures
+    a.reply.now valid c.in-Ok.ensures c.put_conversation.ensures
+
+pub returns-in-Err : goal.returns-in-Err
+returns-in-Err c =
+    let a = c.args in
+    let valid : open_arguments a.id a.terms a.challenge.now a.list.now a.conversation.now ≡ true
+    = sym c.are_open_arguments.ensures ∙ c.if-not-are_open_arguments.false in
+    subst (λ (r : ℕ). OpenCall a.id a.terms a.challenge.now a.list.now a.conversation.now
+    a.reply.now r c.open_on.new.list a.conversation.now c.open_on.new.reply)
+    (sym c.number.ensures ∙ sym c.from.ensures)
+    (open_refused a.id a.terms a.challenge.now a.list.now a.conversation.now
+    a.reply.now valid c.in-Err.ensures)
