@@ -7,7 +7,7 @@ ghost use Rattle.account_files.specs.Calls.{FindCall, WriteCall, CountCall};
 ghost use Rattle.account_files.specs.Inner.{AccountCall};
 
 use accounts::{no_schedules, with_schedules};
-use layouts::{BAD_ARGUMENT, RECORD_SIZE, decode_head, is_encoded_record, put_record};
+use layouts::{BAD_ARGUMENT, RECORD_SIZE, decode_head, is_encoded_record, put_record, refused};
 use refusals::Refusal;
 
 // ---- looked up
@@ -31,15 +31,15 @@ pub fn find_account(
     match smbpasswd::find(file, name, present, max_age) {
         Ok(Some(line)) => {
             *offset = line.offset;
-            put_record(0, accounts::found(line.account), out)
+            put_record(accounts::found(line.account), out)
         }
         Ok(None) => {
             *offset = 0;
-            put_record(0, accounts::not_found(), out)
+            put_record(accounts::not_found(), out)
         }
         Err(misplaced) => {
             *offset = misplaced.offset();
-            put_record(misplaced.refusal().number(), accounts::not_found(), out)
+            refused(misplaced.refusal())
         }
     }
 }
@@ -61,10 +61,10 @@ fn write_back(
             *offset = at;
             0
         }
-        Ok(None) => u32::from(Refusal::Nowhere.number()),
+        Ok(None) => refused(Refusal::Nowhere),
         Err(misplaced) => {
             *offset = misplaced.offset();
-            u32::from(misplaced.refusal().number())
+            refused(misplaced.refusal())
         }
     }
 }
@@ -86,7 +86,7 @@ pub fn write_account(
     }
     let lookup = decode_head(bytes);
     if !lookup.found {
-        return u32::from(Refusal::Record.number());
+        return refused(Refusal::Record);
     }
     let entry = lookup.entry;
     let account = with_schedules(entry, no_schedules(), no_schedules());

@@ -14,11 +14,11 @@ ghost use Rattle.account_records.specs.Inner.{response_arguments_as};
 use accounts::{EntryLookup, Hash, entry_failures};
 use layouts::{
     BAD_ARGUMENT, INVALID, KEYS_SIZE, RECORD_HEAD_SIZE, decode_head, fill, is_encoded_record,
-    is_record, put_record, put_record_head,
+    is_record, put_record, put_record_head, refuse,
 };
 use numbers::{are_record_arguments, flags_of, record_from};
-use packets::{CHALLENGE_SIZE, HASH_SIZE};
-use refusals::both;
+use packets::{ANSWER_SIZE, CHALLENGE_SIZE, HASH_SIZE};
+use refusals::Refusal;
 
 const FAILURES_END: u32 = 256;
 
@@ -35,19 +35,17 @@ pub fn make_record(flags: u32, nt: &[u8], lm: &[u8], out: &mut [u8]) -> u32
     if !are_record_arguments(flags, nt, lm) {
         return BAD_ARGUMENT;
     }
-    put_record(0, record_from(flags, nt, lm), out)
+    put_record(record_from(flags, nt, lm), out)
 }
 
 // ---- read
 
+#[tactic(auto, unfolding(crate::specs::Calls::read_record_arguments))]
 fn are_read_record_arguments(account: &[u8], nt: &[u8], lm: &[u8]) -> bool
     ensures { result
         ≡ read_record_arguments account.now nt.now lm.now }
 {
-    both(
-        is_encoded_record(account),
-        both(nt.len() == HASH_SIZE, lm.len() == HASH_SIZE),
-    )
+    is_encoded_record(account) && nt.len() == HASH_SIZE && lm.len() == HASH_SIZE
 }
 
 // The flags and the hashes of a record.
@@ -80,10 +78,11 @@ pub fn record_failures(account: &[u8]) -> u32
     decode_head(account).entry.failures as u32
 }
 
+#[tactic(auto, unfolding(crate::specs::Calls::set_failures_arguments))]
 fn are_set_failures_arguments(account: &[u8], failures: u32) -> bool
     ensures { result ≡ set_failures_arguments account.now failures }
 {
-    both(is_encoded_record(account), failures < FAILURES_END)
+    is_encoded_record(account) && failures < FAILURES_END
 }
 
 // Sets the count of a record, at most 255. With 0 the account is unlocked. Its round keys stay
@@ -122,10 +121,7 @@ fn are_record_response_arguments(
     ensures { result ≡ response_arguments_as head account.now hash
         challenge.now }
 {
-    both(
-        is_record(head, account),
-        both(is_one_hash(hash), challenge.len() == CHALLENGE_SIZE),
-    )
+    is_record(head, account) && is_one_hash(hash) && challenge.len() == CHALLENGE_SIZE
 }
 
 fn named_hash(head: EntryLookup, hash: u32) -> Hash
@@ -151,12 +147,6 @@ fn named_at(hash: u32) -> usize
     }
 }
 
-fn no_hash_refusal(hash: Hash) -> u8
-    ensures { result ≡ cond hash.present 0 102 }
-{
-    if hash.present { 0 } else { 102 }
-}
-
 // The response of the NT hash or of the LM hash of a record to a challenge, by the round keys that
 // the record carries. 102: it has no such hash.
 pub fn record_response(account: &[u8], hash: u32, challenge: &[u8], out: &mut [u8]) -> u32
@@ -167,7 +157,10 @@ pub fn record_response(account: &[u8], hash: u32, challenge: &[u8], out: &mut [u
     if !are_record_response_arguments(head, account, hash, challenge) {
         return BAD_ARGUMENT;
     }
+    if !named_hash(head, hash).present {
+        return refuse(Refusal::Record, ANSWER_SIZE, out);
+    }
     let keys = octets::part_of(account, named_at(hash), KEYS_SIZE);
     let response = credentials::scheduled_response(keys, octets::array_at(challenge, 0));
-    fill(no_hash_refusal(named_hash(head, hash)), &response, out)
+    fill(&response, out)
 }

@@ -1,12 +1,16 @@
 -- What calls that fill buffers return and leave.
 -- Assumes nothing.
 use mathlib.Core.Path.{◌≡◌, refl, sym, ap, ap₂, ◌∙◌}
-use mathlib.Core.Bool.{Bool, true, false, ◌&&◌, false≢true}
+use mathlib.Core.Bool.{Bool, true, false, ◌&&◌, cond, false≢true}
 use mathlib.Core.List.{List}
 use Prim.Native.Nat.{ℕ}
 use native.Mathlib.Omega.{arith}
-use borrow.Author.Tests.{eq-eqb, eqb-true}
+use borrow.Author.Tests.{eq-eqb, ne_eqb, eqb-true}
+use lib.Dec.{eqb}
 use lib.ListN.{length}
+use Rattle.refusals.specs.Refusal.{number}
+use Rattle.refusals.specs.declared.Refusal.{Refusal}
+use Rattle.refusals.proofs.Numbers.{number_some}
 use Rattle.octets.specs.Parts.{part, fixed}
 use Rattle.octets.proofs.Parts.{fixed_whole}
 use Rattle.layouts.specs.Call.{Fills, sized, both_sized, bad_argument, numbered, after_call}
@@ -36,6 +40,20 @@ module _ {out : List ℕ} {r : ℕ} {after : List ℕ} where
   pub fills_number : {n k : ℕ} {x : List ℕ} → length out ≡ n → Fills (sized n out) k x out r after
       → r ≡ k
   fills_number {n} {k} e h = h.number ∙ ap (λ (t : Bool). numbered t k) (eq-eqb (length out) n e)
+
+-- ---- a call that is refused leaves its buffer
+
+pub refused_fills : {valid : Bool} (e : Refusal) {x out : List ℕ} {r : ℕ} → r ≡ numbered valid (number e)
+    → Fills valid (number e) x out r out
+refused_fills {valid} e {x} {out} {r} h =
+    record { number = h; bytes = sym (by valid refl) }
+  where
+    by : (t : Bool) → valid ≡ t → after_call r x out ≡ out
+    by true t =
+        ap (λ (b : Bool). cond b x out)
+        (ap (λ (k : ℕ). eqb k 0) (h ∙ ap (λ (b : Bool). numbered b (number e)) t)
+        ∙ ne_eqb _ 0 (number_some e))
+    by false t = ap (λ (k : ℕ). after_call k x out) (h ∙ ap (λ (b : Bool). numbered b (number e)) t)
 
 -- ---- two inputs whose sizes were tested first
 

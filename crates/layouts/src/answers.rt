@@ -12,7 +12,6 @@ use crate::records::{ENTRY_LOOKUP_SIZE, decode_entry_lookup, encode_entry_lookup
 use crate::room::{
     Room, TAG_SIZE, empty_room, is_value, lay_value, put_byte, put_flag, put_octets,
 };
-use refusals::both;
 use verify::{fault_number, fault_with};
 
 const RESULT_SIZE: usize = 44;
@@ -72,10 +71,7 @@ pub fn is_encoded_answer(bytes: &[u8]) -> bool
 {
     let body = encode_result(decode_answer(bytes));
     let front = octets::part_of(bytes, 0, ANSWER_HEAD_SIZE);
-    both(
-        bytes.len() == ANSWER_SIZE,
-        is_value(ANSWER_KIND, body, ANSWER_HEAD_SIZE, front),
-    )
+    bytes.len() == ANSWER_SIZE && is_value(ANSWER_KIND, body, ANSWER_HEAD_SIZE, front)
 }
 
 // Lays an answer over out: what it says, and the bytes of the round keys.

@@ -126,11 +126,11 @@ pub fn is_encoded_conversation(bytes: &[u8]) -> bool
     is_conversation(decode_conversation(bytes), bytes)
 }
 
-// Fills out with a conversation, unless there is a refusal.
-pub fn put_conversation(refusal: u8, conversation: Conversation, out: &mut [u8]) -> u32
-    ensures { Fills (sized conversation_size out.old) refusal
+// Fills out with a conversation.
+pub fn put_conversation(conversation: Conversation, out: &mut [u8]) -> u32
+    ensures { Fills (sized conversation_size out.old) 0
         (encode_conversation conversation) out.old result out.new }
 {
     let body = encode_state(conversation);
-    put_value(CONVERSATION_KIND, refusal, body, CONVERSATION_SIZE, out)
+    put_value(CONVERSATION_KIND, body, CONVERSATION_SIZE, out)
 }

@@ -15,7 +15,7 @@ mod room;
 
 use accounts::EntryLookup;
 pub use answers::{ANSWER_HEAD_SIZE, ANSWER_SIZE, decode_answer, is_encoded_answer, put_answer};
-pub use buffers::{BAD_ARGUMENT, INVALID, are_sized, fill, refused, wide};
+pub use buffers::{BAD_ARGUMENT, INVALID, are_sized, fill, refuse, refused};
 pub use conversations::{
     CONVERSATION_SIZE, decode_conversation, is_conversation, is_encoded_conversation,
     put_conversation,

@@ -5,7 +5,6 @@ ghost use Rattle.layouts.specs.Passwords.{encode_password, decode_password};
 ghost use Rattle.layouts.specs.Passwords.{is_encoded_password, password_size};
 
 use crate::buffers::fill;
-use refusals::both;
 
 pub const PASSWORD_SIZE: usize = 516;
 
@@ -49,22 +48,20 @@ pub fn decode_password(bytes: &[u8]) -> &[u8]
 }
 
 // Whether bytes are a password's.
+#[tactic(auto, unfolding(crate::specs::Passwords::is_encoded_password))]
 pub fn is_encoded_password(bytes: &[u8]) -> bool
     ensures { result ≡ is_encoded_password bytes.now }
 {
     let password = decode_password(bytes);
     let value = encode_password(password).bytes;
-    both(
-        octets::agree(&value, bytes),
-        !credentials::is_bad_nt_password(password),
-    )
+    octets::agree(&value, bytes) && !credentials::is_bad_nt_password(password)
 }
 
-// Fills out with a password, unless there is a refusal.
-pub fn put_password(refusal: u8, password: &[u8], out: &mut [u8]) -> u32
-    ensures { Fills (sized password_size out.old) refusal
+// Fills out with a password.
+pub fn put_password(password: &[u8], out: &mut [u8]) -> u32
+    ensures { Fills (sized password_size out.old) 0
         (encode_password password.now) out.old result out.new }
 {
     let value = encode_password(password).bytes;
-    fill(refusal, &value, out)
+    fill(&value, out)
 }

@@ -77,11 +77,11 @@ pub fn is_encoded_peer(bytes: &[u8]) -> bool
     is_value(PEER_KIND, body, PEER_SIZE, bytes)
 }
 
-// Fills out with a peer, unless there is a refusal.
-pub fn put_peer(refusal: u8, peer: Peer, out: &mut [u8]) -> u32
-    ensures { Fills (sized peer_size out.old) refusal (encode_peer peer)
+// Fills out with a peer.
+pub fn put_peer(peer: Peer, out: &mut [u8]) -> u32
+    ensures { Fills (sized peer_size out.old) 0 (encode_peer peer)
         out.old result out.new }
 {
     let body = encode_turns(peer);
-    put_value(PEER_KIND, refusal, body, PEER_SIZE, out)
+    put_value(PEER_KIND, body, PEER_SIZE, out)
 }

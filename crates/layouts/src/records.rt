@@ -11,13 +11,12 @@ ghost use Rattle.layouts.specs.Answers.{updated_at};
 ghost use Rattle.layouts.specs.Conversations.{kept_at};
 ghost use Rattle.layouts.specs.Inner.{room_size};
 
-use crate::buffers::{BAD_ARGUMENT, wide};
+use crate::buffers::BAD_ARGUMENT;
 use crate::keys::{BOTH_KEYS_SIZE, encode_schedules};
 use crate::room::{
     Room, TAG_SIZE, empty_room, is_value, lay_value, put_byte, put_flag, put_octets,
 };
 use accounts::{Entry, EntryLookup, Hash, Lookup, entry_failures, entry_lookup_of, entry_with};
-use refusals::both;
 
 pub(crate) const OPTIONAL_HASH_SIZE: usize = 17;
 
@@ -144,10 +143,7 @@ pub fn is_record(head: EntryLookup, bytes: &[u8]) -> bool
 {
     let body = encode_entry_lookup(empty_room(), 0, head);
     let front = octets::part_of(bytes, 0, RECORD_HEAD_SIZE);
-    both(
-        bytes.len() == RECORD_SIZE,
-        is_value(RECORD_KIND, body, RECORD_HEAD_SIZE, front),
-    )
+    bytes.len() == RECORD_SIZE && is_value(RECORD_KIND, body, RECORD_HEAD_SIZE, front)
 }
 
 // Whether bytes are a record's.
@@ -165,16 +161,13 @@ pub fn put_record_head(head: EntryLookup, out: &mut [u8])
     lay_value(RECORD_KIND, body, RECORD_HEAD_SIZE, out);
 }
 
-// Fills out with a record, unless there is a refusal.
-pub fn put_record(refusal: u8, lookup: Lookup, out: &mut [u8]) -> u32
-    ensures { Fills (sized record_size out.old) refusal (encode_record lookup)
+// Fills out with a record.
+pub fn put_record(lookup: Lookup, out: &mut [u8]) -> u32
+    ensures { Fills (sized record_size out.old) 0 (encode_record lookup)
         out.old result out.new }
 {
     if out.len() != RECORD_SIZE {
         return BAD_ARGUMENT;
-    }
-    if refusal != 0 {
-        return wide(refusal);
     }
     let account = lookup.account;
     let keys = encode_schedules(account);

@@ -96,15 +96,14 @@ pub(crate) fn is_value(kind: u8, room: Room, size: usize, bytes: &[u8]) -> bool
     octets::agree(octets::part_of(&value, 0, size), bytes)
 }
 
-// Fills out with the first size bytes of a value of that kind with that body, unless there is a
-// refusal.
-pub(crate) fn put_value(kind: u8, refusal: u8, room: Room, size: usize, out: &mut [u8]) -> u32
+// Fills out with the first size bytes of a value of that kind with that body.
+pub(crate) fn put_value(kind: u8, room: Room, size: usize, out: &mut [u8]) -> u32
     ensures { Fills
-        (sized (length (part 0 size (tagged kind room.bytes))) out.old) refusal
+        (sized (length (part 0 size (tagged kind room.bytes))) out.old) 0
         (part 0 size (tagged kind room.bytes)) out.old result out.new }
 {
     let value = tag(kind, room).bytes;
-    fill(refusal, octets::part_of(&value, 0, size), out)
+    fill(octets::part_of(&value, 0, size), out)
 }
 
 // Lays them over the front of out.

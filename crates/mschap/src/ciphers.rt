@@ -10,7 +10,7 @@ ghost use Rattle.mschap.specs.Answers.{octets_or_zeros};
 ghost use Rattle.mschap.specs.Sizes.{digest_size, key_size, des_block_size};
 ghost use Rattle.packets.specs.Sizes.{hash_size, challenge_size, answer_size};
 
-use layouts::{BAD_ARGUMENT, are_sized, fill, wide};
+use layouts::{BAD_ARGUMENT, are_sized, fill, refuse, refused};
 use packets::{CHALLENGE_SIZE, HASH_SIZE};
 use refusals::Refusal;
 
@@ -24,8 +24,8 @@ pub(crate) fn fill_answer<const N: usize>(answer: Result<[u8; N], Refusal>, out:
         out.old result out.new }
 {
     match answer {
-        Ok(octets) => fill(0, &octets, out),
-        Err(refusal) => fill(refusal.number(), &[0; N], out),
+        Ok(octets) => fill(&octets, out),
+        Err(refusal) => refuse(refusal, N, out),
     }
 }
 
@@ -47,7 +47,7 @@ pub extern "C" fn mschap_rc4(key: &[u8], octets: &mut [u8]) -> u32
 {
     match rc4::rc4(key, octets) {
         Ok(()) => 0,
-        Err(refusal) => wide(refusal.number()),
+        Err(refusal) => refused(refusal),
     }
 }
 
@@ -63,7 +63,7 @@ pub extern "C" fn mschap_des_encrypt(key: &[u8], block: &mut [u8]) -> u32
         return BAD_ARGUMENT;
     }
     let result = des::encrypt(octets::array_at(key, 0), octets::array_at(block, 0));
-    fill(0, &result, block)
+    fill(&result, block)
 }
 
 // The inverse of mschap_des_encrypt.
@@ -78,7 +78,7 @@ pub extern "C" fn mschap_des_decrypt(key: &[u8], block: &mut [u8]) -> u32
         return BAD_ARGUMENT;
     }
     let result = des::decrypt(octets::array_at(key, 0), octets::array_at(block, 0));
-    fill(0, &result, block)
+    fill(&result, block)
 }
 
 // The response of a hash to a challenge.
@@ -101,5 +101,5 @@ pub extern "C" fn mschap_challenge_response(
         octets::array_at(hash, 0),
         octets::array_at(challenge, 0),
     );
-    fill(0, &result, response)
+    fill(&result, response)
 }

@@ -7,7 +7,7 @@ ghost use Rattle.mschap.specs.Inner.{OpenedOn};
 use authenticator::{Conversation, Settings, Started};
 use layouts::{
     BAD_ARGUMENT, CONVERSATION_SIZE, LIST_HEAD_SIZE, is_list, places_in, put_conversation,
-    put_list_head, used_in,
+    put_list_head, refused, used_in,
 };
 use numbers::{change_in, is_terms, limit_in, lm_in, retries_in};
 use packets::CHALLENGE_SIZE;
@@ -89,7 +89,7 @@ pub extern "C" fn mschap_open(
         return BAD_ARGUMENT;
     }
     match open_on(id as u8, terms, challenge, list, reply) {
-        Ok(started) => put_conversation(0, started.conversation, conversation),
-        Err(refusal) => u32::from(refusal.number()),
+        Ok(started) => put_conversation(started.conversation, conversation),
+        Err(refusal) => refused(refusal),
     }
 }

@@ -5,14 +5,17 @@ ghost use Rattle.packets.specs.Sizes.{hash_size};
 ghost use Rattle.refusals.specs.Refusal.{told};
 ghost use Rattle.credentials.specs.Credentials.{lm_hashed};
 ghost use Rattle.mschap.specs.Answers.{octets_or_zeros};
-ghost use Rattle.mschap.specs.Passwords.{MakePasswordCall, characters_refusal};
+ghost use Rattle.mschap.specs.Passwords.{MakePasswordCall};
 ghost use Rattle.mschap.specs.Passwords.{MakeCharactersCall};
 ghost use Rattle.mschap.specs.Passwords.{ReadPasswordCall, hash_arguments, HashCall};
 
 use crate::ciphers::fill_answer;
-use layouts::{BAD_ARGUMENT, decode_password, is_encoded_password, put_password, wide};
+use layouts::{
+    BAD_ARGUMENT, PASSWORD_SIZE, decode_password, is_encoded_password, put_password, refuse,
+    refused,
+};
 use packets::HASH_SIZE;
-use refusals::{Refusal, both, refuse_if};
+use refusals::Refusal;
 
 // Makes a password of a text in UTF-8. 101: malformed. 8: too long.
 #[unsafe(no_mangle)]
@@ -21,15 +24,9 @@ pub extern "C" fn mschap_make_password(text: &[u8], password: &mut [u8]) -> u32
         password.new }
 {
     match unicode_text::password_of(text) {
-        Ok(made) => put_password(0, made.as_slice(), password),
-        Err(refusal) => put_password(refusal.number(), &[], password),
+        Ok(made) => put_password(made.as_slice(), password),
+        Err(refusal) => refuse(refusal, PASSWORD_SIZE, password),
     }
-}
-
-fn characters_refusal(characters: &[u8]) -> u8
-    ensures { result ≡ characters_refusal characters.now }
-{
-    refuse_if(credentials::is_bad_nt_password(characters), 8, 0)
 }
 
 // Makes a password of 16-bit characters. 8: an odd number of bytes, or too many.
@@ -38,7 +35,10 @@ pub extern "C" fn mschap_make_password_utf16(characters: &[u8], password: &mut [
     ensures { MakeCharactersCall characters.now password.old result
         password.new }
 {
-    put_password(characters_refusal(characters), characters, password)
+    if credentials::is_bad_nt_password(characters) {
+        return refuse(Refusal::Input, PASSWORD_SIZE, password);
+    }
+    put_password(characters, password)
 }
 
 // ---- read
@@ -55,10 +55,10 @@ pub extern "C" fn mschap_read_password(password: &[u8], text: &mut [u8], length:
     }
     let read = match unicode_text::text_of(decode_password(password)) {
         Ok(read) => read,
-        Err(refusal) => return wide(refusal.number()),
+        Err(refusal) => return refused(refusal),
     };
     if text.len() < read.len() {
-        return wide(Refusal::Room.number());
+        return refused(Refusal::Room);
     }
     octets::copy(text, read.as_slice());
     *length = read.len();
@@ -67,10 +67,11 @@ pub extern "C" fn mschap_read_password(password: &[u8], text: &mut [u8], length:
 
 // ---- hashed
 
+#[tactic(auto, unfolding(crate::specs::Passwords::hash_arguments))]
 fn are_hash_arguments(password: &[u8], hash: &[u8]) -> bool
     ensures { result ≡ hash_arguments password.now hash.now }
 {
-    both(is_encoded_password(password), hash.len() == HASH_SIZE)
+    is_encoded_password(password) && hash.len() == HASH_SIZE
 }
 
 // The NT hash of a password.

@@ -3,7 +3,7 @@ ghost use Rattle.std.specs.Prelude.{◌≡◌};
 ghost use Rattle.step_calls.specs.Calls.{StepCall, answer_reason, answer_repeated};
 ghost use Rattle.step_calls.specs.Calls.{answer_fault, AnswerRecordCall};
 
-use layouts::{INVALID, decode_answer, is_encoded_answer, wide};
+use layouts::{INVALID, decode_answer, is_encoded_answer};
 use verify::fault_number;
 
 // One step of a conversation: a packet, the record of the named account or none, and a reply
@@ -60,7 +60,7 @@ pub extern "C" fn mschap_answer_fault(answer: &[u8]) -> u32
         return INVALID;
     }
     let fault = decode_answer(answer).fault;
-    wide(fault_number(fault))
+    u32::from(fault_number(fault))
 }
 
 // The record that is to be stored: after every judged Response that was passed one, that record

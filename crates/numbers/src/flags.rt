@@ -6,7 +6,6 @@ ghost use Rattle.numbers.specs.Flags.{flags_of};
 
 use accounts::{EntryLookup, Lookup};
 use packets::HASH_SIZE;
-use refusals::both;
 
 const FOUND: u32 = 1;
 
@@ -41,16 +40,13 @@ fn is_hash_passed(set: bool, hash: &[u8]) -> bool
     hash.len() == 0
 }
 
+#[tactic(auto, unfolding(crate::specs::Flags::record_arguments))]
 pub fn are_record_arguments(flags: u32, nt: &[u8], lm: &[u8]) -> bool
     ensures { result ≡ record_arguments flags nt.now lm.now }
 {
-    both(
-        flags < FLAGS_END,
-        both(
-            is_hash_passed(is_set(NT, flags), nt),
-            is_hash_passed(is_set(LM, flags), lm),
-        ),
-    )
+    flags < FLAGS_END
+        && is_hash_passed(is_set(NT, flags), nt)
+        && is_hash_passed(is_set(LM, flags), lm)
 }
 
 pub fn record_from(flags: u32, nt: &[u8], lm: &[u8]) -> Lookup

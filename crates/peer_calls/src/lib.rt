@@ -15,7 +15,6 @@ use layouts::{
 };
 use numbers::{call_in, failure_reason};
 use peer::Peer;
-use refusals::both;
 
 // Reads a Challenge, and writes the peer that is to answer it. 3: the frame. 11: another kind, cut
 // short, or of a size other than 8.
@@ -27,7 +26,7 @@ pub fn read_challenge(packet: &[u8], peer: &mut [u8]) -> u32
         return BAD_ARGUMENT;
     }
     match Peer::read_challenge(packet) {
-        Ok(first) => put_peer(0, first, peer),
+        Ok(first) => put_peer(first, peer),
         Err(refusal) => refused(refusal),
     }
 }
@@ -47,7 +46,7 @@ pub fn read_reply(peer: &mut [u8], packet: &[u8], call: &mut u32, reason: &mut u
         Ok(read) => {
             *call = call_in(read.verdict);
             *reason = failure_reason(read.verdict);
-            put_peer(0, read.peer, peer)
+            put_peer(read.peer, peer)
         }
         Err(refusal) => refused(refusal),
     }
@@ -55,10 +54,11 @@ pub fn read_reply(peer: &mut [u8], packet: &[u8], call: &mut u32, reason: &mut u
 
 // ---- the packets
 
+#[tactic(auto, unfolding(crate::specs::Calls::response_arguments))]
 fn are_response_arguments(peer: &[u8], password: &[u8]) -> bool
     ensures { result ≡ response_arguments peer.now password.now }
 {
-    both(is_encoded_peer(peer), is_encoded_password(password))
+    is_encoded_peer(peer) && is_encoded_password(password)
 }
 
 // Writes the Response of the turn at the front of out; the peer has then sent it. 10: the name. 9:
@@ -74,19 +74,17 @@ pub fn write_response(peer: &mut [u8], password: &[u8], name: &[u8], out: &mut [
     }
     let before = decode_peer(peer);
     match before.write_response(decode_password(password), name, out) {
-        Ok(written) => put_peer(0, written.peer, peer),
+        Ok(written) => put_peer(written.peer, peer),
         Err(refusal) => refused(refusal),
     }
 }
 
+#[tactic(auto, unfolding(crate::specs::Calls::change_arguments))]
 fn are_change_arguments(peer: &[u8], old: &[u8], new: &[u8]) -> bool
     ensures { result ≡ change_arguments peer.now old.now
         new.now }
 {
-    both(
-        is_encoded_peer(peer),
-        both(is_encoded_password(old), is_encoded_password(new)),
-    )
+    is_encoded_peer(peer) && is_encoded_password(old) && is_encoded_password(new)
 }
 
 // Writes the version 2 change of the turn at the front of out; the peer has then sent it. 12: the
@@ -103,7 +101,7 @@ pub fn write_change(peer: &mut [u8], old: &[u8], new: &[u8], filler: &[u8], out:
     }
     let before = decode_peer(peer);
     match before.write_change(decode_password(old), decode_password(new), filler, out) {
-        Ok(written) => put_peer(0, written.peer, peer),
+        Ok(written) => put_peer(written.peer, peer),
         Err(refusal) => refused(refusal),
     }
 }
@@ -121,7 +119,7 @@ pub fn write_change_one(peer: &mut [u8], old: &[u8], new: &[u8], out: &mut [u8])
     }
     let before = decode_peer(peer);
     match before.write_change_one(decode_password(old), decode_password(new), out) {
-        Ok(written) => put_peer(0, written.peer, peer),
+        Ok(written) => put_peer(written.peer, peer),
         Err(refusal) => refused(refusal),
     }
 }

@@ -23,7 +23,6 @@ use layouts::{
     refused,
 };
 use numbers::{has_record, result_of};
-use refusals::both;
 
 // Whether what was decoded encodes to what was passed. It is decoded once, for this and for the
 // step.
@@ -37,10 +36,9 @@ fn are_step_arguments(
     ensures { result ≡ step_arguments_as before lookup conversation.now
         account.now out.now }
 {
-    both(
-        is_conversation(before, conversation),
-        both(is_record(lookup, account), out.len() == ANSWER_SIZE),
-    )
+    is_conversation(before, conversation)
+        && is_record(lookup, account)
+        && out.len() == ANSWER_SIZE
 }
 
 // Where the round keys begin that judge a Response, in a record, chosen without a branch.
@@ -57,7 +55,7 @@ fn made_keys(entry: Entry) -> [u8; BOTH_KEYS_SIZE]
 {
     let nt = entry.nt;
     let lm = entry.lm;
-    if both(!nt.present, !lm.present) {
+    if !nt.present && !lm.present {
         return [0; BOTH_KEYS_SIZE];
     }
     encode_schedules(account_of(entry))
@@ -77,7 +75,7 @@ fn put_stepped(
     ensures { AnswerPut phase (taken_as stepped) account.now conversation.old
         out.old result conversation.new out.new }
 {
-    put_conversation(0, stepped.next, conversation);
+    put_conversation(stepped.next, conversation);
     if hands_back(phase, stepped.drawn) {
         let keys = octets::part_of(account, RECORD_HEAD_SIZE, BOTH_KEYS_SIZE);
         put_answer(result_of(stepped), keys, out);
@@ -125,10 +123,11 @@ pub fn step(
 
 // ---- the record of its answer
 
+#[tactic(auto, unfolding(crate::specs::Calls::answer_record_arguments))]
 fn are_answer_record_arguments(answer: &[u8], out: &[u8]) -> bool
     ensures { result ≡ answer_record_arguments answer.now out.now }
 {
-    both(is_encoded_answer(answer), out.len() == RECORD_SIZE)
+    is_encoded_answer(answer) && out.len() == RECORD_SIZE
 }
 
 // The record that is to be stored: after every judged Response that was passed one, that record

@@ -40,7 +40,7 @@ returns-then-not-lookup c =
     sym c.is_encoded_record.ensures ∙ c.if-not-is_encoded_record.false in
     let none = sym (ap (λ (l : EntryLookup). l.found) c.decode_head-lookup.ensures)
     ∙ not-true _ c.if-not-lookup.true in
-    record { number = rw (good, none) (c.from.ensures ∙ c.number.ensures); written = rw (good, none); offsets = rw (good, none) }
+    record { number = rw (good, none) (c.refused.ensures); written = rw (good, none); offsets = rw (good, none) }
 
 pub returns : goal.returns
 returns c =

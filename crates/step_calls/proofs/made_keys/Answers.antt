@@ -2,7 +2,7 @@
 -- Assumes nothing.
 use mathlib.Core.Bool.{Bool, true, false, not, ◌&&◌, cond, false≢true}
 use mathlib.Core.List.{List, ◌++◌}
-use mathlib.Core.Path.{◌≡◌, refl, sym, ap, ◌∙◌}
+use mathlib.Core.Path.{◌≡◌, refl, ap, ap₂, ◌∙◌}
 use Prim.Native.Nat.{ℕ}
 use lib.ListN.{replicate}
 use Rattle.credentials.specs.Credentials.{schedules_of, encode_keys}
@@ -30,11 +30,9 @@ zeros e = which e.nt.present e.lm.present
     which true t h = absurd (false≢true h)
     which false true h = absurd (false≢true h)
 
-pub returns-then-both : goal.returns-then-both
-returns-then-both c =
-    let b = c in
-    let e = b.args.entry in
-    zeros e (sym b.both.ensures ∙ c.if-both.true)
+pub returns-then-not-lm : goal.returns-then-not-lm
+returns-then-not-lm c =
+    zeros c.args.entry (ap₂ ◌&&◌ c.if-not-nt.true c.if-not-lm.true)
 
 pub returns : goal.returns
 returns c =

@@ -1,9 +1,10 @@
 -- `layouts::answers::is_encoded_answer` meets its contract.
 -- Assumes nothing.
-use mathlib.Core.Path.{ap, ◌∙◌}
+use mathlib.Core.Path.{refl, sym, ap, ◌∙◌}
 use mathlib.Core.Bool.{Bool, ◌&&◌}
 use native.Mathlib.Omega.{arith}
-use Rattle.octets.specs.Parts.{agrees}
+use borrow.Author.Tests.{eq-eqb, ne_eqb}
+use Rattle.octets.specs.Parts.{part, agrees}
 use Rattle.layouts.specs.Call.{sized}
 use Rattle.layouts.specs.declared.StepResult.{StepResult}
 use Rattle.layouts.specs.Values.{answer_kind}
@@ -14,19 +15,20 @@ use Rattle.layouts.proofs.AnswerLaws.{length_result, decoded_answer_sized}
 use Rattle.layouts.proofs.Putting.{compared}
 use Rattle.layouts.proofs.answers.is_encoded_answer.Goals as goal
 
-pub returns : goal.returns
+-- as many bytes: the front decides
+pub returns-then-bytes-eq-ANSWER_SIZE : goal.returns-then-bytes-eq-ANSWER_SIZE
 unfolding is_encoded_answer
-returns c =
-    let value = c in
-    let front = value in
-    let encoded = front in
-    let decoded = encoded in
-    let bytes = decoded.args.bytes.now in
+returns-then-bytes-eq-ANSWER_SIZE c =
+    let bytes = c.args.bytes.now in
     let v = decode_answer bytes in
-    c.both.ensures
-    ∙ ap (λ (t : Bool). sized answer_size bytes && t)
-    (compared answer_kind 44 (omega arith) (encode_result v)
+    compared answer_kind 44 (omega arith) (encode_result v)
     (length_result v (decoded_answer_sized bytes))
-    (encoded.encode_result-body.ensures ∙ ap (λ (u : StepResult). in_room (encode_result u))
-    decoded.decode_answer.ensures) _ value.is_value.ensures
-    ∙ ap (agrees (answer_head v)) front.part_of-front.ensures)
+    (c.encode_result-body.ensures ∙ ap (λ (u : StepResult). in_room (encode_result u))
+    c.decode_answer.ensures) _ c.is_value.ensures
+    ∙ ap (agrees (answer_head v)) c.part_of-front.ensures
+    ∙ sym (ap (λ (t : Bool). t && agrees (answer_head v) (part 0 46 bytes))
+    (eq-eqb _ _ c.if-bytes-eq-ANSWER_SIZE.true))
+
+pub returns-else-bytes-eq-ANSWER_SIZE : goal.returns-else-bytes-eq-ANSWER_SIZE
+unfolding is_encoded_answer
+returns-else-bytes-eq-ANSWER_SIZE c = simp (ne_eqb _ _ c.if-bytes-eq-ANSWER_SIZE.false)

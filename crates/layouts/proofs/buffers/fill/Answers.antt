@@ -9,15 +9,6 @@ use Rattle.layouts.proofs.buffers.fill.Goals as goal
 pub returns-then-out-bytes : goal.returns-then-out-bytes
 returns-then-out-bytes c = record { number = simp (ne_eqb _ _ c.if-out-bytes.true); bytes = refl }
 
--- a refusal
-pub returns-then-refusal-ne0 : goal.returns-then-refusal-ne0
-returns-then-refusal-ne0 c =
-    let wide = c.wide.ensures in
-    record {
-      number = simp (eq-eqb _ _ c.if-out-bytes.false) wide;
-      bytes = simp (wide, ne_eqb _ _ c.if-refusal-ne0.true);
-    }
-
 -- a copy into a buffer of the same size is all that is left there
 pub returns : goal.returns
 returns c =
@@ -25,7 +16,7 @@ returns c =
     let passed = copied in
     let a = passed.args in
     record {
-      number = simp (eq-eqb _ _ passed.if-out-bytes.false, passed.if-refusal-ne0.false);
+      number = simp (eq-eqb _ _ passed.if-out-bytes.false);
       bytes =
           copied.copy.ensures ∙ filled a.bytes.now a.out.now passed.if-out-bytes.false;
     }

@@ -19,15 +19,6 @@ pub returns-then-out-ne-RECORD_SIZE : goal.returns-then-out-ne-RECORD_SIZE
 returns-then-out-ne-RECORD_SIZE c =
     record { number = simp (ne_eqb _ _ c.if-out-ne-RECORD_SIZE.true); bytes = refl }
 
--- a refusal
-pub returns-then-refusal-ne0 : goal.returns-then-refusal-ne0
-returns-then-refusal-ne0 c =
-    let number = c.wide.ensures in
-    record {
-      number = simp (eq-eqb _ _ c.if-out-ne-RECORD_SIZE.false) number;
-      bytes = simp (number, ne_eqb _ _ c.if-refusal-ne0.true);
-    }
-
 pub returns : goal.returns
 returns c =
     let sized : SizedEntry (entry_of c.args.lookup.account) =
@@ -46,7 +37,7 @@ returns c =
     (ap length made ∙ length_schedules l.account nt-numbers lm-numbers)
     c.copy_at.ensures in
     record {
-      number = simp (eq-eqb _ _ c.if-out-ne-RECORD_SIZE.false, c.if-refusal-ne0.false);
+      number = simp (eq-eqb _ _ c.if-out-ne-RECORD_SIZE.false);
       bytes = laid_whole s₂ c.if-out-ne-RECORD_SIZE.false
           ∙ ap (λ (x : List ℕ). record_head (entry_lookup_of l) ++ x) made;
     }

@@ -11,6 +11,6 @@ returns-in-Ok c =
 
 pub returns-in-Err : goal.returns-in-Err
 returns-in-Err c = (
-  c.wide.ensures ∙ c.number.ensures ∙ sym (ap told c.in-Err.is) ∙ ap told c.rc4.ensures.0 ∙ told_answer c.args.key.now,
+  c.refused.ensures ∙ sym (ap told c.in-Err.is) ∙ ap told c.rc4.ensures.0 ∙ told_answer c.args.key.now,
   c.rc4.ensures.1,
 )

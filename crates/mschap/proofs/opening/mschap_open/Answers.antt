@@ -59,6 +59,6 @@ returns-in-Err c =
     = sym c.are_open_arguments.ensures ∙ c.if-not-are_open_arguments.false in
     subst (λ (r : ℕ). OpenCall a.id a.terms a.challenge.now a.list.now a.conversation.now
     a.reply.now r c.open_on.new.list a.conversation.now c.open_on.new.reply)
-    (sym c.number.ensures ∙ sym c.from.ensures)
+    (sym c.refused.ensures)
     (open_refused a.id a.terms a.challenge.now a.list.now a.conversation.now
     a.reply.now valid c.in-Err.ensures)

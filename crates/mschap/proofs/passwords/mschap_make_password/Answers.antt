@@ -4,7 +4,7 @@ use mathlib.Core.Path.{refl, sym, ap, ◌∙◌}
 use Rattle.refusals.specs.Refusal.{told}
 use Rattle.unicode_text.specs.Password.{octets_of}
 use Rattle.layouts.specs.Passwords.{encode_password}
-use Rattle.layouts.proofs.Filling.{fills_as}
+use Rattle.layouts.proofs.Filling.{fills_as, refused_fills}
 use Rattle.mschap.proofs.passwords.mschap_make_password.Goals as goal
 
 pub returns-in-Ok : goal.returns-in-Ok
@@ -15,4 +15,4 @@ returns-in-Ok c =
 pub returns-in-Err : goal.returns-in-Err
 returns-in-Err c =
     let e = sym c.in-Err.is ∙ c.password_of.ensures in
-    fills_as refl (c.number.ensures ∙ ap told e) (ap (λ r. encode_password (octets_of r)) e) c.put_password-in-Err.ensures
+    fills_as refl (ap told e) refl (refused_fills c.in-Err.refusal c.refuse.ensures)

@@ -10,7 +10,7 @@ use lib.Dec.{eqb}
 use lib.ListN.{length}
 use Rattle.octets.specs.Parts.{over}
 use Rattle.std.specs.Prelude.{Result, Ok, Err}
-use Rattle.refusals.proofs.Laws.{some_number}
+use Rattle.refusals.proofs.Numbers.{number_some}
 use Rattle.refusals.specs.declared.Refusal.{Refusal}
 use Rattle.unicode_text.specs.Password.{octets_of, text_of}
 use Rattle.layouts.specs.Call.{numbered}
@@ -37,8 +37,8 @@ returns-in-Err c =
     = sym c.is_encoded_password.ensures ∙ c.if-not-is_encoded_password.false in
     let read : text_from password ≡ Err c.in-Err.refusal
     = ap text_of (sym c.decode_password.ensures) ∙ sym c.text_of.ensures ∙ c.in-Err.is in
-    let e = c.wide.ensures ∙ c.number.ensures in
-    let nonzero = ne_eqb _ _ (some_number c.in-Err.refusal) in
+    let e = c.refused.ensures in
+    let nonzero = ne_eqb _ _ (number_some c.in-Err.refusal) in
     record {
       number = e ∙ sym (ap (λ (t : Bool). numbered t (read_refusal (text_from password) out)) valid
           ∙ ap (λ (t : Result (List ℕ) Refusal). read_refusal t out) read);
@@ -56,7 +56,7 @@ returns-then-text-len c =
     = sym c.is_encoded_password.ensures ∙ c.if-not-is_encoded_password.false in
     let read : text_from password ≡ Ok c.in-Ok.read
     = ap text_of (sym c.decode_password.ensures) ∙ sym c.text_of.ensures ∙ c.in-Ok.is in
-    let e = c.wide-then-text-len.ensures ∙ c.number-then-text-len.ensures in
+    let e = c.refused-then-text-len.ensures in
     let full = lt-ltb (length out) (length c.in-Ok.read) (omega (arith, c.if-text-len.true, c.len.ensures.value)) in
     record {
       number = e ∙ sym (ap (λ (t : Bool). numbered t (read_refusal (text_from password) out)) valid

@@ -22,6 +22,6 @@ returns c =
     let bytes = passed.args.answer.now in
     let valid = sym passed.is_encoded_answer.ensures ∙ passed.if-not-is_encoded_answer.false
     in
-    c.wide.ensures ∙ numbered.fault_number.ensures
+    c.from.ensures ∙ numbered.fault_number.ensures
     ∙ ap (λ (v : StepResult). fault_number v.fault) decoded.decode_answer-fault.ensures
     ∙ ap (λ (t : Bool). value_or t (fault_number (decode_answer bytes).fault)) (sym valid)
