@@ -15,7 +15,8 @@ use Rattle.accounts.specs.declared.Entry.{Entry}
 use Rattle.accounts.specs.declared.EntryLookup.{EntryLookup}
 use Rattle.accounts.specs.declared.Schedules.{Schedules}
 use Rattle.layouts.specs.Keys.{keys_size, keys_at, encode_schedules}
-use Rattle.layouts.specs.Records.{record_head_size, nt_keys_at, lm_keys_at, record_head, encode_record}
+use Rattle.layouts.specs.Records.{record_head_size, nt_keys_at, lm_keys_at, record_head}
+use Rattle.layouts.specs.Records.{encode_record}
 use Rattle.layouts.specs.Records.{decode_record}
 use Rattle.layouts.proofs.RecordLaws.{SizedEntry, length_head, head_back}
 use Rattle.account_records.proofs.KeyBounds.{for_length, keys_found}

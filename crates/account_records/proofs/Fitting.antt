@@ -7,7 +7,8 @@ use Prim.Native.Nat.{ℕ}
 use lib.ListN.{length}
 use Rattle.accounts.specs.declared.EntryLookup.{EntryLookup}
 use Rattle.layouts.specs.Call.{value_or}
-use Rattle.layouts.specs.Records.{record_size, record_head, record_keys, decode_head, is_encoded_record}
+use Rattle.layouts.specs.Records.{record_size, record_head, record_keys, decode_head}
+use Rattle.layouts.specs.Records.{is_encoded_record}
 use Rattle.layouts.proofs.Filling.{both, valid_call}
 use Rattle.layouts.proofs.RecordLaws.{SizedEntry, decoded_head_sized, record_fits, head_back}
 use Rattle.layouts.proofs.RecordLaws.{length_encoded_record}

@@ -5,7 +5,8 @@ use mathlib.Core.Bool.{Bool, true, cond}
 use mathlib.Core.Path.{◌≡◌, ap}
 use Prim.Native.Nat.{ℕ}
 use Rattle.credentials.specs.Credentials.{schedules_of}
-use Rattle.accounts.specs.Account.{no_schedules, schedules_for, account_of, changed, with_failures, Agree, AgreeIn, found}
+use Rattle.accounts.specs.Account.{no_schedules, schedules_for, account_of, changed, with_failures}
+use Rattle.accounts.specs.Account.{Agree, AgreeIn, found}
 use Rattle.accounts.specs.declared.Account.{Account}
 use Rattle.accounts.specs.declared.Entry.{Entry}
 use Rattle.accounts.specs.declared.Hash.{Hash}

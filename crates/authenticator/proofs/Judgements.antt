@@ -16,7 +16,10 @@ use Rattle.accounts.specs.declared.EntryLookup.{EntryLookup}
 use Rattle.message.specs.Reasons.{changing_password}
 use Rattle.verify.specs.Faults.{is_faultless}
 use Rattle.verify.specs.declared.ChangeFault.{ChangeFault}
-use Rattle.verify.specs.declared.ChangeFault.TheVariants.{NoNtHash, NoNtResponse, LengthOver, LengthOdd, OldHashWrong, ResponseWrong, LmNotAllowed, LengthOverLm, HashAbsent, HashWrong}
+use Rattle.verify.specs.declared.ChangeFault.TheVariants.{NoNtHash, NoNtResponse, LengthOver}
+use Rattle.verify.specs.declared.ChangeFault.TheVariants.{LengthOdd, OldHashWrong, ResponseWrong}
+use Rattle.verify.specs.declared.ChangeFault.TheVariants.{LmNotAllowed, LengthOverLm, HashAbsent}
+use Rattle.verify.specs.declared.ChangeFault.TheVariants.{HashWrong}
 use Rattle.verify.specs.Change.{CheckedChange}
 use Rattle.verify.specs.declared.CheckedResponse.{CheckedResponse}
 use Rattle.authenticator.specs.Conversation.{ended}

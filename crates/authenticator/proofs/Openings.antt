@@ -17,16 +17,22 @@ use borrow.Author.Tests.{eqb-true, eqb-false, ne_eqb, le-ltb, ltb-false}
 use lib.Dec.{eqb}
 use lib.ListN.{length, take, replicate}
 use Rattle.refusals.proofs.Laws.{none_refused}
-use Rattle.refusals.proofs.Answers.{both_passed}
-use Rattle.issued.specs.Issued.{Issued, places, listed, contains, Distinct, contains_any, counts_of, bad_buffer, bad_counts, spend_refusal, spent}
+use Rattle.refusals.proofs.Laws.{both_passed}
+use Rattle.issued.specs.Issued.{Issued, places, listed, contains, Distinct, contains_any, counts_of}
+use Rattle.issued.specs.Issued.{bad_buffer, bad_counts, spend_refusal, spent}
 use Rattle.issued.proofs.Listing.{Wide}
-use Rattle.issued.proofs.Spending.{spendable, may_spend, may_spend_empty, same_issued, spent_added, spent_listed, spent_contains, spent_keeps, spent_true, spent_sound}
+use Rattle.issued.proofs.Spending.{spendable, may_spend, may_spend_empty, same_issued, spent_added}
+use Rattle.issued.proofs.Spending.{spent_listed, spent_contains, spent_keeps, spent_true}
+use Rattle.issued.proofs.Spending.{spent_sound}
 use Rattle.packets.specs.Frame.{written_over}
 use Rattle.packets.specs.Reply.{challenge_packet, bad_reply_buffer}
 use Rattle.challenges.proofs.Laid.{length_challenges_from}
 use Rattle.packets.proofs.Writing.{taken}
 use Rattle.authenticator.specs.Conversation.{closed}
-use Rattle.authenticator.specs.Opening.{Opening, retries_of, spends, no_limit, too_many_retries, open_refusal, opened_issued, first_conversation, opening_packet, opened_by, opened_as, opened, opened_buffer, places_after, OpenedAs}
+use Rattle.authenticator.specs.Opening.{Opening, retries_of, spends, no_limit, too_many_retries}
+use Rattle.authenticator.specs.Opening.{open_refusal, opened_issued, first_conversation}
+use Rattle.authenticator.specs.Opening.{opening_packet, opened_by, opened_as, opened, opened_buffer}
+use Rattle.authenticator.specs.Opening.{places_after, OpenedAs}
 use Rattle.authenticator.specs.declared.Conversation.{Conversation}
 use Rattle.authenticator.specs.Opening.{Opened}
 use Rattle.authenticator.proofs.Spends.{challenges_wide, challenges_distinct}

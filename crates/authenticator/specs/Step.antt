@@ -4,7 +4,8 @@
 -- Assumes nothing: these are definitions.
 use Rattle.std.specs.Prelude.{Option, None, Result, Ok, Err}
 use Rattle.std.specs.Prelude.{Bool, true, false, cond, ◌&&◌, List, ℕ, eqb, length}
-use Rattle.accounts.specs.Account.{not_found, lookup_of, with_schedules, account_of, entry_lookup_of}
+use Rattle.accounts.specs.Account.{not_found, lookup_of, with_schedules, account_of}
+use Rattle.accounts.specs.Account.{entry_lookup_of}
 use Rattle.accounts.specs.declared.Account.{Account}
 use Rattle.accounts.specs.declared.EntryLookup.{EntryLookup}
 use Rattle.accounts.specs.declared.Lookup.{Lookup}

@@ -1,7 +1,8 @@
 -- The authenticator's steps, one after the other. Words in quotes are document 01's, "The series in
 -- demand 3", and document 02's, requests 2026-01 and 2026-09.
 -- Assumes nothing: these are definitions.
-use Rattle.std.specs.Prelude.{Bool, true, false, cond, not, ◌&&◌, ◌||◌, List, ◌≢◌, ◌⊎◌, ◌≡◌, ℕ, eqb, ltb, length, take}
+use Rattle.std.specs.Prelude.{Bool, true, false, cond, not, ◌&&◌, ◌||◌, List, ◌≢◌, ◌⊎◌, ◌≡◌, ℕ, eqb}
+use Rattle.std.specs.Prelude.{ltb, length, take}
 use Rattle.std.proofs.Math.Option.{Option, none, some}
 use Rattle.octets.specs.Parts.{agrees}
 use Rattle.packets.specs.Frame.{octet, bad_frame, written_over}

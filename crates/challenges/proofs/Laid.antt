@@ -1,6 +1,8 @@
 -- A challenge and those that follow it by the 23 rule, laid one behind the other.
 -- Assumes nothing.
-use Rattle.std.proofs.Common.{◌≡◌, ℕ, zero, suc, ◌+◌, ◌-◌, ◌<◌, List, ◌∷◌, ◌++◌, length, take, sym, refl, ap, ◌∙◌, ap₂, append_assoc, append-nil, arith, take_all, add-one, take-suc-set, []}
+use Rattle.std.proofs.Common.{◌≡◌, ℕ, zero, suc, ◌+◌, ◌-◌, ◌<◌, List, ◌∷◌, ◌++◌, length, take, sym}
+use Rattle.std.proofs.Common.{refl, ap, ◌∙◌, ap₂, append_assoc, append-nil, arith, take_all}
+use Rattle.std.proofs.Common.{add-one, take-suc-set, []}
 use mathlib.Core.List.{flatten}
 use lib.ListN.{set}
 use Rattle.std.specs.List.{flat_map}

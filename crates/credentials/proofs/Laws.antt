@@ -27,7 +27,12 @@ use Rattle.rc4.specs.Rc4.{key_answer, crypted}
 use Rattle.rc4.proofs.Laws.{crypted_twice, length_crypted}
 use Rattle.credentials.specs.declared.Content.TheVariants.{Over, Odd, Password}
 use Rattle.credentials.specs.declared.Unsealed.{Unsealed}
-use Rattle.credentials.specs.Credentials.{nt_hash_of, hash_answer, nt_hashed, bad_nt_password, lm_keys, upper, response_of, schedules_of, response_under, old_under_new, hash_under_challenge, plain_block, sealed_block, bad_filler, sealed_as, length_in, content_for, length_told, password_length, ValidLength, unsealed_as, password_in}
+use Rattle.credentials.specs.Credentials.{nt_hash_of, hash_answer, nt_hashed, bad_nt_password}
+use Rattle.credentials.specs.Credentials.{lm_keys, upper, response_of, schedules_of, response_under}
+use Rattle.credentials.specs.Credentials.{old_under_new, hash_under_challenge, plain_block}
+use Rattle.credentials.specs.Credentials.{sealed_block, bad_filler, sealed_as, length_in}
+use Rattle.credentials.specs.Credentials.{content_for, length_told, password_length, ValidLength}
+use Rattle.credentials.specs.Credentials.{unsealed_as, password_in}
 use Rattle.credentials.specs.Credentials.{length_under}
 use Rattle.credentials.proofs.Plain.{front, front_length, body_length, plain_parts, length_plain}
 

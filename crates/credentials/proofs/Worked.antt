@@ -5,10 +5,13 @@ use mathlib.Core.Path.{◌≡◌, refl}
 use mathlib.Core.List.{List, [], ◌∷◌}
 use Prim.Native.Nat.{ℕ, zero, suc, ◌+◌, ◌*◌, ◌%◌}
 use Rattle.octets.specs.Parts.{part}
-use Rattle.rc4.specs.Rc4.{swapped, upto, mix_j, mix, mixed, started, next_i, next_j, next_state, output_octet, keystream, xors, ciphered, crypted}
-use Rattle.des.specs.Tables.{ip, fp, expansion, permutation, s1, s2, s3, s4, s5, s6, s7, s8, boxes, pc1, pc2, shifts}
+use Rattle.rc4.specs.Rc4.{swapped, upto, mix_j, mix, mixed, started, next_i, next_j, next_state}
+use Rattle.rc4.specs.Rc4.{output_octet, keystream, xors, ciphered, crypted}
+use Rattle.des.specs.Tables.{ip, fp, expansion, permutation, s1, s2, s3, s4, s5, s6, s7, s8, boxes}
+use Rattle.des.specs.Tables.{pc1, pc2, shifts}
 use Rattle.des.specs.Des.{cipher_f, crypt, round_keys, expand_key, schedule_of, des_encrypt}
-use Rattle.credentials.specs.Credentials.{old_under_new, hash_under_challenge, plain_block, sealed_block}
+use Rattle.credentials.specs.Credentials.{old_under_new, hash_under_challenge, plain_block}
+use Rattle.credentials.specs.Credentials.{sealed_block}
 
 -- the NT hashes of the two
 abbrev old : List ℕ

@@ -11,7 +11,8 @@ use Rattle.des.specs.Des.{permute}
 use Rattle.des.specs.Inner.{arranged, chosen_at}
 use Rattle.des.specs.Stored.{pack_key}
 use Rattle.des.proofs.Packed.{lin_pack}
-use Rattle.des.proofs.Linear.{Linear, agree, lin_id, lin_after, lin_xor, lin_shr, lin_mod, lin_shl, lin_mask}
+use Rattle.des.proofs.Linear.{Linear, agree, lin_id, lin_after, lin_xor, lin_shr, lin_mod, lin_shl}
+use Rattle.des.proofs.Linear.{lin_mask}
 use Rattle.des.proofs.Permute.{lin_permute}
 
 -- ---- PC-1

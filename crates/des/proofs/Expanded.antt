@@ -9,7 +9,8 @@ use Rattle.octets.specs.Numbers.{to_digits, from_be}
 use Rattle.octets.proofs.Numbers.{length_digits, from_be-lt}
 use Rattle.des.specs.Des.{double}
 use Rattle.des.specs.Inner.{set_apart}
-use Rattle.des.proofs.Linear.{Linear, agree, lin_id, lin_same, lin_xor, lin_shr, lin_mod, lin_shl, lin_mask, lin_digits}
+use Rattle.des.proofs.Linear.{Linear, agree, lin_id, lin_same, lin_xor, lin_shr, lin_mod, lin_shl}
+use Rattle.des.proofs.Linear.{lin_mask, lin_digits}
 use Rattle.des.proofs.Sizes.{octets_double}
 
 lin_apart : (n m l : ℕ) {g : ℕ → ℕ} → Linear g → Linear (λ x. set_apart n m l (g x))

@@ -5,7 +5,8 @@
 use mathlib.Core.Path.{◌≡◌, refl, sym, ap, ap₂, ◌∙◌}
 use mathlib.Core.Bool.{Bool, true, ◌&&◌}
 use Prim.Native.Nat.{ℕ, zero, suc, ◌+◌, ◌*◌, ◌/◌, ◌%◌, ◌^◌, ◌<◌}
-use native.Mathlib.Nat.{mod-lt, add-zero, zero-mul, one-mul, mul_comm, pow-suc, div-lt_iff_lt-mul, not-suc-le-zero, le_of_suc-le-suc}
+use native.Mathlib.Nat.{mod-lt, add-zero, zero-mul, one-mul, mul_comm, pow-suc, div-lt_iff_lt-mul}
+use native.Mathlib.Nat.{not-suc-le-zero, le_of_suc-le-suc}
 use lib.Arith.{lt-one}
 use lib.Dec.{T, eqb, eqb→eq}
 use lib.Pow.{pow_pos, split}

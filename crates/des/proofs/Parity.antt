@@ -11,7 +11,8 @@ use lib.Dec.{lit<}
 use lib.ListN.{length, length-map, get_or-map}
 use lib.Bits.{bit_and, and_block, and_high}
 use Rattle.octets.specs.Numbers.{from_digits, to_digits, from_be, to_be}
-use Rattle.octets.proofs.Numbers.{Below, Octets, one_more, digits_below, to_from, from_be-lt, from_be-to_be}
+use Rattle.octets.proofs.Numbers.{Below, Octets, one_more, digits_below, to_from, from_be-lt}
+use Rattle.octets.proofs.Numbers.{from_be-to_be}
 use Rattle.des.specs.Tables.{pc1, shifts}
 use Rattle.des.specs.Des.{permute, keys_from, round_keys, half, double, expand_key, drop_parity}
 use Rattle.des.proofs.Linear.{agree, lin_after, lin_mask, lin_id}

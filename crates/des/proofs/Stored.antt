@@ -15,9 +15,11 @@ use Rattle.octets.specs.Numbers.{to_digits, from_be, to_be}
 use Rattle.octets.specs.Parts.{part}
 use Rattle.octets.proofs.Numbers.{Below, Octets}
 use Rattle.des.specs.Tables.{pc2, shifts}
-use Rattle.des.specs.Des.{cipher_f, rotate, crypt, keys_from, round_keys, schedule_of, des_encrypt, des_three}
+use Rattle.des.specs.Des.{cipher_f, rotate, crypt, keys_from, round_keys, schedule_of, des_encrypt}
+use Rattle.des.specs.Des.{des_three}
 use Rattle.des.specs.Inner.{spread, folded_at, length_made, keys_of}
-use Rattle.des.specs.Stored.{pack_key, unpack_key, stored_schedule, three_schedules, des_under, three_under}
+use Rattle.des.specs.Stored.{pack_key, unpack_key, stored_schedule, three_schedules, des_under}
+use Rattle.des.specs.Stored.{three_under}
 use Rattle.des.proofs.Permute.{permute_lt}
 use Rattle.des.proofs.Packed.{sixes, in_stored, groups, unpack_pack}
 use Rattle.des.proofs.Round.{joined_right}

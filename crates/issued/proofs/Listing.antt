@@ -4,7 +4,8 @@ use mathlib.Core.Bool.{Bool, true, false, ◌||◌, or_assoc, false≢true}
 use mathlib.Core.List.{List, [], ◌∷◌, ◌++◌, append_assoc, flatten}
 use mathlib.Core.Path.{◌≡◌, refl, sym, ap, ap₂, ◌∙◌, subst}
 use Prim.Native.Nat.{ℕ, zero, suc, ◌+◌, ◌*◌, ◌/◌, ◌≤◌, ◌<◌}
-use native.Mathlib.Nat.{div-eq_of_lt, add-div_right, mul-div_cancel_left, mul-suc, mul-add, mul-zero, zero-add, suc-add}
+use native.Mathlib.Nat.{div-eq_of_lt, add-div_right, mul-div_cancel_left, mul-suc, mul-add}
+use native.Mathlib.Nat.{mul-zero, zero-add, suc-add}
 use native.Mathlib.Omega.{arith}
 use lib.ListN.{length, take, drop, length-append, length-drop, take-append-drop}
 use lib.Seq.{length-take-le, take-append-le, drop-append-le, take-add, take_at, drop_at, drop-drop}

@@ -16,7 +16,8 @@ use Rattle.std.specs.Prelude.{Result, Ok, Err, IsErr}
 use Rattle.octets.specs.Parts.{agrees}
 use Rattle.refusals.specs.declared.Refusal.{Refusal}
 use Rattle.octets.proofs.Parts.{length_over_at, agrees_refl, agrees_equal}
-use Rattle.issued.specs.Issued.{Issued, entries, places, listed, contains, contains_any, counts_of, bad_buffer, bad_counts, full, spend_refusal, added, spent}
+use Rattle.issued.specs.Issued.{Issued, entries, places, listed, contains, contains_any, counts_of}
+use Rattle.issued.specs.Issued.{bad_buffer, bad_counts, full, spend_refusal, added, spent}
 use Rattle.issued.specs.Issued.{used_after}
 use Rattle.issued.proofs.Listing.{Wide, entries_laid, contains_append, contains_any_none}
 use Rattle.issued.proofs.Counting.{none_counted}

@@ -1,6 +1,7 @@
 -- The auxiliary functions in fewer operations.
 -- Assumes nothing.
-use Rattle.std.proofs.Common.{◌≡◌, ℕ, ◌+◌, ◌-◌, ◌%◌, ◌^◌, ◌<◌, [], ◌∷◌, sym, ap, ◌∙◌, ap₂, mod-eq_of_lt, arith}
+use Rattle.std.proofs.Common.{◌≡◌, ℕ, ◌+◌, ◌-◌, ◌%◌, ◌^◌, ◌<◌, [], ◌∷◌, sym, ap, ◌∙◌, ap₂}
+use Rattle.std.proofs.Common.{mod-eq_of_lt, arith}
 use lib.Bits.{bit_and, bit_or, bit_xor, and_mask, xor_add_and, or_disjoint, or_lt, and_lt}
 use Rattle.octets.proofs.Bitwise.{at, none, and, or, xor, bitwise}
 use Rattle.md4.specs.Md4.{aux_f, aux_g}

@@ -1,7 +1,8 @@
 -- What the code's walk over a message has found so far, in the message's own terms. Only contracts
 -- of private functions cite this.
 -- Assumes nothing: these are definitions.
-use Rattle.std.specs.Prelude.{Bool, true, false, List, [], ◌≡◌, ℕ, ◌+◌, ◌^◌, ◌≤◌, ◌<◌, length, drop, get_or}
+use Rattle.std.specs.Prelude.{Bool, true, false, List, [], ◌≡◌, ℕ, ◌+◌, ◌^◌, ◌≤◌, ◌<◌, length, drop}
+use Rattle.std.specs.Prelude.{get_or}
 use Rattle.std.specs.Prelude.{Option, Some, None}
 use Rattle.octets.specs.Digits.{all_below}
 use Rattle.message.specs.declared.Field.{Field}

@@ -1,7 +1,8 @@
 -- The message of a Failure packet (RFC 2433, section 8; document 01, "What the peer reads"): what
 -- it says, and the text that the authenticator writes.
 -- Assumes nothing: these are definitions.
-use Rattle.std.specs.Prelude.{Bool, true, false, cond, not, ◌&&◌, ◌||◌, List, [], ◌∷◌, map, ℕ, ◌/◌, ◌%◌}
+use Rattle.std.specs.Prelude.{Bool, true, false, cond, not, ◌&&◌, ◌||◌, List, [], ◌∷◌, map, ℕ, ◌/◌}
+use Rattle.std.specs.Prelude.{◌%◌}
 use Rattle.std.specs.Prelude.{eqb, leb, ltb, length, drop, Option, Some, None, Result, Ok, Err}
 use Rattle.octets.specs.Digits.{digit_of, hex_of, all_below, number_from, pairs}
 use Rattle.octets.specs.Split.{with_first}

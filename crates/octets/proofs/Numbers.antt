@@ -4,7 +4,8 @@
 use mathlib.Core.Path.{◌≡◌, refl, sym, ap, ap₂, ◌∙◌, subst}
 use mathlib.Core.List.{List, [], ◌∷◌, ◌++◌}
 use Prim.Native.Nat.{ℕ, zero, suc, ◌+◌, ◌*◌, ◌/◌, ◌%◌, ◌^◌, ◌<◌}
-use native.Mathlib.Nat.{mod-one, add_comm, add_assoc, add-mul, mul_assoc, mul-suc, mul-zero, zero-mul, zero-add}
+use native.Mathlib.Nat.{mod-one, add_comm, add_assoc, add-mul, mul_assoc, mul-suc, mul-zero}
+use native.Mathlib.Nat.{zero-mul, zero-add}
 use native.Mathlib.Omega.{arith}
 use lib.Arith.{digits_lt, digits_mod}
 use lib.ListN.{length, get_or}

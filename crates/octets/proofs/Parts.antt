@@ -4,13 +4,18 @@ use mathlib.Core.Path.{◌≡◌, refl, sym, ap, ap₂, ◌∙◌}
 use mathlib.Core.Bool.{Bool, true, false, ◌&&◌, false≢true, and-true, and-false, and_assoc}
 use mathlib.Core.List.{List, [], ◌∷◌, ◌++◌, append_assoc, append-nil}
 use Prim.Native.Nat.{ℕ, zero, suc, ◌+◌, ◌-◌, ◌≤◌, ◌<◌, min}
-use native.Mathlib.Nat.{not-suc-le-zero, le_of_suc-le-suc, zero-min, min-zero, suc-min-suc, add-sub_cancel_left, zero-add, suc-add}
+use native.Mathlib.Nat.{not-suc-le-zero, le_of_suc-le-suc, zero-min, min-zero, suc-min-suc}
+use native.Mathlib.Nat.{add-sub_cancel_left, zero-add, suc-add}
 use native.Mathlib.Numerals.{add-one}
 use native.Mathlib.Omega.{arith}
 use borrow.Author.Tests.{eq-eqb, ne_eqb, eqb-true, eqb-false, leb-true, leb-false}
 use lib.Dec.{eqb, leb}
-use lib.ListN.{length, length-append, length-drop, length-take, length-replicate, replicate, replicate-append-replicate, take, drop, get_or, set, take-append-drop, drop_of_length-le}
-use lib.Seq.{drop-cons, take-suc-set, drop-set-lt, append_snoc, take_at, drop_at, take_all, drop-append-le, drop-drop, take-add, length-take-le, take-append_seam, drop-append_seam}
+use lib.ListN.{length, length-append, length-drop, length-take, length-replicate, replicate}
+use lib.ListN.{replicate-append-replicate, take, drop, get_or, set, take-append-drop}
+use lib.ListN.{drop_of_length-le}
+use lib.Seq.{drop-cons, take-suc-set, drop-set-lt, append_snoc, take_at, drop_at, take_all}
+use lib.Seq.{drop-append-le, drop-drop, take-add, length-take-le, take-append_seam}
+use lib.Seq.{drop-append_seam}
 use lib.Bits.{bit_or, bit_xor, or_add_and, and_le_l, and_le_r, xor_self}
 use Rattle.octets.specs.Parts.{part, over, over_at, fixed, agrees}
 use Rattle.std.specs.List.{fold, zip}

@@ -14,12 +14,16 @@ use lib.Seq.{take-append-le, drop-append-le, length-take-le}
 use Rattle.octets.specs.Parts.{part, fixed}
 use Rattle.octets.specs.Numbers.{from_be}
 use Rattle.packets.specs.Frame.{octet, number_at, length_of, bad_frame, data_of}
-use Rattle.packets.specs.Response.{read_response, read_name, bad_response_size, bad_response_flag, response_refusal}
+use Rattle.packets.specs.Response.{read_response, read_name, bad_response_size, bad_response_flag}
+use Rattle.packets.specs.Response.{response_refusal}
 use Rattle.packets.specs.Change.{read_change, bad_change_size, bad_change_flags, change_refusal}
-use Rattle.packets.specs.ChangeOne.{read_change_one, bad_change_one_size, bad_change_one_flags, change_one_refusal}
+use Rattle.packets.specs.ChangeOne.{read_change_one, bad_change_one_size, bad_change_one_flags}
+use Rattle.packets.specs.ChangeOne.{change_one_refusal}
 use Rattle.std.specs.Prelude.{Some, None}
-use Rattle.packets.specs.Reply.{ChallengeFields, refused_challenge, bad_challenge, read_challenge, read_reply}
-use Rattle.packets.specs.Name.{is_split, before_split, after_split, is_bad_response, domain_of, account_of, domain_part, account_part}
+use Rattle.packets.specs.Reply.{ChallengeFields, refused_challenge, bad_challenge, read_challenge}
+use Rattle.packets.specs.Reply.{read_reply}
+use Rattle.packets.specs.Name.{is_split, before_split, after_split, is_bad_response, domain_of}
+use Rattle.packets.specs.Name.{account_of, domain_part, account_part}
 use Rattle.packets.specs.declared.Part.{Part}
 use Rattle.packets.specs.declared.Change.{Change}
 use Rattle.packets.specs.declared.ChangeOne.{ChangeOne}

@@ -16,7 +16,8 @@ use Rattle.octets.proofs.Parts.{drop_take}
 use Rattle.octets.proofs.Split.{place, held, take_place, drop_place}
 use Rattle.packets.specs.Frame.{octet, length_of, bad_frame}
 use Rattle.packets.specs.Response.{read_name, bad_response_flag}
-use Rattle.packets.specs.Name.{is_split, before_split, after_split, is_bad_response, standing, part_from, domain_part, account_part, domain_of, account_of}
+use Rattle.packets.specs.Name.{is_split, before_split, after_split, is_bad_response, standing}
+use Rattle.packets.specs.Name.{part_from, domain_part, account_part, domain_of, account_of}
 use Rattle.packets.specs.declared.Part.{Part}
 use Rattle.packets.proofs.Framing.{frame_bounds}
 

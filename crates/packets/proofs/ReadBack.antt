@@ -18,16 +18,20 @@ use Rattle.message.specs.Message.{read_message, failed_with, text_of}
 use Rattle.message.specs.declared.Verdict.TheVariants.{Success, Failure}
 use Rattle.message.proofs.Laws.{read_text, length_text}
 use Rattle.packets.specs.Frame.{octet, number_at, length_of, framed, bad_frame}
-use Rattle.packets.specs.Response.{response_packet, read_response, read_name, bad_response_size, response_refusal}
+use Rattle.packets.specs.Response.{response_packet, read_response, read_name, bad_response_size}
+use Rattle.packets.specs.Response.{response_refusal}
 use Rattle.packets.specs.Change.{change_packet, read_change, bad_change_size, change_refusal}
-use Rattle.packets.specs.ChangeOne.{change_one_packet, read_change_one, bad_change_one_size, change_one_refusal}
-use Rattle.packets.specs.Reply.{failure_in, challenge_packet, success_packet, failure_packet, read_challenge, read_reply}
+use Rattle.packets.specs.ChangeOne.{change_one_packet, read_change_one, bad_change_one_size}
+use Rattle.packets.specs.ChangeOne.{change_one_refusal}
+use Rattle.packets.specs.Reply.{failure_in, challenge_packet, success_packet, failure_packet}
+use Rattle.packets.specs.Reply.{read_challenge, read_reply}
 use Rattle.packets.specs.declared.Response.{Response}
 use Rattle.packets.specs.declared.Change.{Change}
 use Rattle.packets.specs.declared.ChangeOne.{ChangeOne}
 use Rattle.packets.proofs.Fields.{response_same, asked_same, change_same, change_one_same}
 use Rattle.packets.proofs.Framing.{frame_good, field}
-use Rattle.packets.proofs.Writing.{Sized, SizedOne, length_answers, length_fields, length_fields_one}
+use Rattle.packets.proofs.Writing.{Sized, SizedOne, length_answers, length_fields}
+use Rattle.packets.proofs.Writing.{length_fields_one}
 
 -- a field of fixed length
 fixed_field : (k : ℕ) (l x : List ℕ) → l ≡ x → length x ≡ k → fixed k l ≡ x

@@ -10,7 +10,7 @@ use borrow.Author.Tests.{le-leb, lt-leb, ltb-false, ne_eqb}
 use lib.Dec.{ltb}
 use lib.ListN.{length, take, drop, length-append}
 use lib.Seq.{take-append_seam}
-use Rattle.refusals.proofs.Answers.{both_passed}
+use Rattle.refusals.proofs.Laws.{both_passed}
 use Rattle.octets.specs.Numbers.{to_be}
 use Rattle.octets.specs.Parts.{over}
 use Rattle.octets.proofs.Parts.{over_fits}
@@ -22,7 +22,8 @@ use Rattle.refusals.specs.declared.Refusal.{Refusal}
 use Rattle.refusals.proofs.Numbers.{number_some}
 use Rattle.packets.specs.Frame.{framed, written_over, written_length, short_for}
 use Rattle.packets.specs.Frame.{written_as, answer_by, out_by}
-use Rattle.packets.specs.Response.{response_packet, bad_name, short_for_response, response_write_refusal}
+use Rattle.packets.specs.Response.{response_packet, bad_name, short_for_response}
+use Rattle.packets.specs.Response.{response_write_refusal}
 use Rattle.packets.specs.Change.{change_packet, change_write_refusal}
 use Rattle.packets.specs.ChangeOne.{change_one_packet, change_one_write_refusal}
 use Rattle.packets.specs.Reply.{challenge_packet, success_packet, failure_packet}

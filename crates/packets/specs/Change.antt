@@ -5,7 +5,9 @@ use Rattle.octets.specs.Parts.{part, fixed}
 use Rattle.octets.specs.Numbers.{to_be}
 use Rattle.packets.specs.Codes.{change_code}
 use Rattle.packets.specs.Frame.{Written, number_at, length_of, framed, short_for, answer_by, out_by}
-use Rattle.packets.specs.Sizes.{head_size, answer_size, hash_size, block_size, verifier_offset, lm_block_offset, lm_verifier_offset, lm_answer_offset, nt_answer_offset, flags_offset, change_size}
+use Rattle.packets.specs.Sizes.{head_size, answer_size, hash_size, block_size, verifier_offset}
+use Rattle.packets.specs.Sizes.{lm_block_offset, lm_verifier_offset, lm_answer_offset}
+use Rattle.packets.specs.Sizes.{nt_answer_offset, flags_offset, change_size}
 use Rattle.packets.specs.declared.Change.{Change}
 
 -- the flags go most significant octet first (decided by document 01)

@@ -5,7 +5,8 @@ use Rattle.octets.specs.Parts.{part, fixed}
 use Rattle.octets.specs.Numbers.{to_be}
 use Rattle.packets.specs.Codes.{change_one_code}
 use Rattle.packets.specs.Frame.{Written, number_at, length_of, framed, short_for, answer_by, out_by}
-use Rattle.packets.specs.Sizes.{hash_size, lm_old_offset, lm_new_offset, nt_old_offset, nt_new_offset, length_offset, one_flags_offset, change_one_size}
+use Rattle.packets.specs.Sizes.{hash_size, lm_old_offset, lm_new_offset, nt_old_offset}
+use Rattle.packets.specs.Sizes.{nt_new_offset, length_offset, one_flags_offset, change_one_size}
 use Rattle.packets.specs.declared.ChangeOne.{ChangeOne}
 
 -- the password's length is written as the flags are: most significant octet first

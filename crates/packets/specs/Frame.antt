@@ -1,7 +1,8 @@
 -- The frame of every packet (RFC 1994, section 4): code, identifier, Length (two octets, the most
 -- significant first, of the whole packet), data.
 -- Assumes nothing: these are definitions.
-use Rattle.std.specs.Prelude.{Result, Ok, Err, Bool, cond, not, ◌||◌, List, [], ◌∷◌, ◌++◌, ℕ, ◌+◌, ◌-◌, eqb, leb, ltb, length, get_or, drop}
+use Rattle.std.specs.Prelude.{Result, Ok, Err, Bool, cond, not, ◌||◌, List, [], ◌∷◌, ◌++◌, ℕ, ◌+◌}
+use Rattle.std.specs.Prelude.{◌-◌, eqb, leb, ltb, length, get_or, drop}
 use Rattle.octets.specs.Parts.{part}
 use Rattle.octets.specs.Numbers.{from_be, to_be}
 use Rattle.packets.specs.Sizes.{head_size}

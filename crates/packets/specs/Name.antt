@@ -1,7 +1,8 @@
 -- The two parts of a Response's name, for the lookup (document 01, "Frame and packets"): split at
 -- its first backslash, which is in neither.
 -- Assumes nothing: these are definitions.
-use Rattle.std.specs.Prelude.{Option, Some, None, Bool, cond, not, ◌||◌, List, [], ℕ, ◌+◌, ◌-◌, eqb, length}
+use Rattle.std.specs.Prelude.{Option, Some, None, Bool, cond, not, ◌||◌, List, [], ℕ, ◌+◌, ◌-◌, eqb}
+use Rattle.std.specs.Prelude.{length}
 use Rattle.octets.specs.Split.{holds, before, behind}
 use Rattle.packets.specs.Codes.{response_code}
 use Rattle.packets.specs.Frame.{octet, length_of, bad_frame}

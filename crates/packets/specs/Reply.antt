@@ -1,7 +1,8 @@
 -- What the authenticator sends: Challenge, Success and Failure (RFC 1994, sections 4.1 and 4.2;
 -- RFC 2433, sections 5, 7 and 8).
 -- Assumes nothing: these are definitions.
-use Rattle.std.specs.Prelude.{Result, Ok, Err, Bool, cond, not, ◌||◌, List, [], ◌∷◌, ℕ, ◌+◌, eqb, ltb, length, replicate}
+use Rattle.std.specs.Prelude.{Result, Ok, Err, Bool, cond, not, ◌||◌, List, [], ◌∷◌, ℕ, ◌+◌, eqb}
+use Rattle.std.specs.Prelude.{ltb, length, replicate}
 use Rattle.octets.specs.Parts.{part, fixed}
 use Rattle.refusals.specs.Refusal.{number}
 use Rattle.refusals.specs.declared.Refusal.{Refusal}
@@ -12,7 +13,8 @@ use Rattle.message.specs.declared.Verdict.{Verdict}
 use Rattle.message.specs.declared.Verdict.TheVariants.{Success, Failure}
 use Rattle.packets.specs.Codes.{challenge_code, success_code, failure_code}
 use Rattle.packets.specs.Frame.{octet, length_of, framed, bad_frame, bad_id, data_of}
-use Rattle.packets.specs.Sizes.{head_size, challenge_size, challenge_offset, challenge_length, message_size}
+use Rattle.packets.specs.Sizes.{head_size, challenge_size, challenge_offset, challenge_length}
+use Rattle.packets.specs.Sizes.{message_size}
 use Rattle.packets.specs.declared.Challenge.{Challenge}
 
 -- a Challenge with no name, a Success with no message, a Failure with its message

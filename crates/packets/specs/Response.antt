@@ -5,7 +5,9 @@ use Rattle.std.specs.Prelude.{Bool, cond, not, ◌||◌, List, ◌∷◌, ◌++�
 use Rattle.octets.specs.Parts.{part, fixed}
 use Rattle.packets.specs.Codes.{response_code}
 use Rattle.packets.specs.Frame.{Written, octet, length_of, framed, answer_by, out_by}
-use Rattle.packets.specs.Sizes.{head_size, answer_size, value_size, lm_offset, nt_offset, flag_offset, name_offset, longest_name, shortest_response, longest_response}
+use Rattle.packets.specs.Sizes.{head_size, answer_size, value_size, lm_offset, nt_offset}
+use Rattle.packets.specs.Sizes.{flag_offset, name_offset, longest_name, shortest_response}
+use Rattle.packets.specs.Sizes.{longest_response}
 use Rattle.packets.specs.declared.Response.{Response}
 
 unfoldable pub response_packet : ℕ → Response → List ℕ → List ℕ

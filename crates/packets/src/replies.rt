@@ -4,7 +4,8 @@ ghost use Rattle.message.specs.Message.{text_of, verdict_values, values_of};
 ghost use Rattle.refusals.specs.Refusal.{told};
 ghost use Rattle.packets.specs.Frame.{written_over, written_length};
 ghost use Rattle.packets.specs.Reply.{challenge_packet, success_packet, failure_packet};
-ghost use Rattle.packets.specs.Reply.{bad_reply_buffer, bad_challenge, challenge_as, read_challenge};
+ghost use Rattle.packets.specs.Reply.{bad_reply_buffer, bad_challenge, challenge_as};
+ghost use Rattle.packets.specs.Reply.{read_challenge};
 ghost use Rattle.packets.specs.Reply.{body_read, read_reply, reply_refusal, reply_values};
 
 use crate::Challenge;

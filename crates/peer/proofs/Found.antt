@@ -8,9 +8,12 @@ use native.Mathlib.Omega.{arith}
 use lib.ListN.{length}
 use Rattle.credentials.specs.Credentials.{nt_hash_of}
 use Rattle.credentials.proofs.Laws as laws
-use Rattle.packets.proofs.Writing.{Sized, SizedOne, length_response, length_change, length_change_one}
-use Rattle.packets.proofs.ReadBack.{ResponseBack, ChangeBack, ChangeOneBack, response_back, change_back, change_one_back}
-use Rattle.peer.specs.Write.{response_fields, change_fields, change_one_fields, response_for, change_for, change_one_for}
+use Rattle.packets.proofs.Writing.{Sized, SizedOne, length_response, length_change}
+use Rattle.packets.proofs.Writing.{length_change_one}
+use Rattle.packets.proofs.ReadBack.{ResponseBack, ChangeBack, ChangeOneBack, response_back}
+use Rattle.packets.proofs.ReadBack.{change_back, change_one_back}
+use Rattle.peer.specs.Write.{response_fields, change_fields, change_one_fields, response_for}
+use Rattle.peer.specs.Write.{change_for, change_one_for}
 use Rattle.peer.specs.declared.Turn.{Turn}
 
 -- the flags that have the authenticator take the NT fields

@@ -10,7 +10,7 @@ use native.Mathlib.Omega.{arith}
 use borrow.Author.Tests.{le-ltb, ltb-false, eqb-true, not-false}
 use lib.Dec.{eqb, ltb}
 use lib.ListN.{length, take}
-use Rattle.refusals.proofs.Answers.{both_passed}
+use Rattle.refusals.proofs.Laws.{both_passed}
 use Rattle.credentials.specs.Credentials.{bad_nt_password, bad_filler}
 use Rattle.credentials.proofs.Laws.{good_password}
 use Rattle.packets.specs.Response.{bad_name, response_write_refusal}
@@ -18,7 +18,9 @@ use Rattle.packets.specs.Change.{change_write_refusal}
 use Rattle.packets.specs.ChangeOne.{change_one_write_refusal}
 use Rattle.packets.proofs.Padding.{or_false_both}
 use Rattle.packets.proofs.Writing.{taken, good_name}
-use Rattle.peer.specs.Write.{response_for, change_for, change_one_for, write_response_refusal, write_change_refusal, write_change_one_refusal, Wrote, wrote_by, write_response, write_change, write_change_one}
+use Rattle.peer.specs.Write.{response_for, change_for, change_one_for, write_response_refusal}
+use Rattle.peer.specs.Write.{write_change_refusal, write_change_one_refusal, Wrote, wrote_by}
+use Rattle.peer.specs.Write.{write_response, write_change, write_change_one}
 use Rattle.peer.specs.declared.Turn.{Turn}
 use Rattle.peer.proofs.Found.{response_length, change_length, change_one_length}
 

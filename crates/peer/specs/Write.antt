@@ -2,7 +2,8 @@
 -- 10, 12, 9 in that order). The version 1 change is document 02's, request 2026-07.
 -- Assumes nothing: these are definitions.
 use Rattle.std.specs.Prelude.{Bool, cond, ◌||◌, List, ℕ, replicate}
-use Rattle.credentials.specs.Credentials.{nt_hash_of, bad_nt_password, bad_filler, response_of, old_under_new, hash_under_challenge, sealed_block}
+use Rattle.credentials.specs.Credentials.{nt_hash_of, bad_nt_password, bad_filler, response_of}
+use Rattle.credentials.specs.Credentials.{old_under_new, hash_under_challenge, sealed_block}
 use Rattle.packets.specs.Frame.{Written, answer_by, out_by}
 use Rattle.packets.specs.Sizes.{answer_size, hash_size, block_size}
 use Rattle.packets.specs.Response.{response_packet, response_write_refusal}

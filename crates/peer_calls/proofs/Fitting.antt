@@ -24,7 +24,8 @@ use Rattle.message.specs.declared.Verdict.TheVariants.{Success, Failure}
 use Rattle.message.proofs.Formed.{first_eight}
 use Rattle.packets.specs.Frame.{octet, bad_frame, bad_id, data_of, Written}
 use Rattle.challenges.specs.Challenges.{incremented}
-use Rattle.packets.specs.Reply.{failure_in, ChallengeFields, refused_challenge, bad_challenge, read_challenge, read_reply}
+use Rattle.packets.specs.Reply.{failure_in, ChallengeFields, refused_challenge, bad_challenge}
+use Rattle.packets.specs.Reply.{read_challenge, read_reply}
 use Rattle.authenticator.proofs.Spends.{length_incremented}
 use Rattle.peer.specs.Turn.{sent_for, turn_for, turn_read, next_turn}
 use Rattle.peer.specs.Peer.{after_challenge, after_writing, peer_reads, after_reply}

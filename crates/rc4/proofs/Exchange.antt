@@ -1,6 +1,8 @@
 -- The exchange of two entries: what stands where after it, and what the look-ahead sees.
 -- Assumes nothing.
-use Rattle.std.proofs.Common.{◌≡◌, ℕ, ◌+◌, ◌<◌, Bool, true, false, cond, eqb, List, length, get_or, set, sym, refl, ap, ◌∙◌, ap₂, add_comm, length-set, get_or-set_other, get_or-set_same, eqb-true}
+use Rattle.std.proofs.Common.{◌≡◌, ℕ, ◌+◌, ◌<◌, Bool, true, false, cond, eqb, List, length, get_or}
+use Rattle.std.proofs.Common.{set, sym, refl, ap, ◌∙◌, ap₂, add_comm, length-set, get_or-set_other}
+use Rattle.std.proofs.Common.{get_or-set_same, eqb-true}
 use borrow.Author.Tests.{eqb-false}
 use Rattle.rc4.specs.Rc4.{swapped}
 

@@ -1,7 +1,9 @@
 -- The laws of RC4 for other crates to cite: lengths, a second run that undoes the first, a run over
 -- two parts, and which keys are taken.
 -- Assumes nothing.
-use Rattle.std.proofs.Common.{◌≡◌, ℕ, zero, suc, ◌+◌, ◌≤◌, Bool, true, false, cond, ◌&&◌, leb, List, [], ◌∷◌, ◌++◌, length, refl, ap, ap₂, suc-add, zero-add, le-leb, leb-true}
+use Rattle.std.proofs.Common.{◌≡◌, ℕ, zero, suc, ◌+◌, ◌≤◌, Bool, true, false, cond, ◌&&◌, leb, List}
+use Rattle.std.proofs.Common.{[], ◌∷◌, ◌++◌, length, refl, ap, ap₂, suc-add, zero-add, le-leb}
+use Rattle.std.proofs.Common.{leb-true}
 use mathlib.Core.Bool.{and-eq-true_iff}
 use lib.Bits.{bit_xor}
 use Rattle.octets.proofs.Xor.{xor_undo}
@@ -10,7 +12,8 @@ use Rattle.refusals.specs.Refusal.{told}
 use Rattle.refusals.specs.declared.Refusal.{Refusal}
 use Rattle.refusals.specs.declared.Refusal.TheVariants.{Input}
 use Rattle.rc4.specs.declared.State.{State}
-use Rattle.rc4.specs.Rc4.{started, next_state, output_octet, keystream, later_state, xors, ciphered, key_fits, key_refusal, keyed, key_answer, crypted}
+use Rattle.rc4.specs.Rc4.{started, next_state, output_octet, keystream, later_state, xors, ciphered}
+use Rattle.rc4.specs.Rc4.{key_fits, key_refusal, keyed, key_answer, crypted}
 
 -- ---- lengths
 

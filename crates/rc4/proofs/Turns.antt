@@ -1,14 +1,18 @@
 -- One turn of each loop of the code: the identity, the key schedule, the data. The last two share
 -- the look-ahead.
 -- Assumes nothing.
-use Rattle.std.proofs.Common.{◌≡◌, ℕ, zero, suc, ◌∷◌, map, zero-add, ◌+◌, ◌%◌, ◌<◌, ◌≤◌, cond, eqb, List, [], ◌++◌, length, get_or, take, drop, set, sym, refl, ap, ◌∙◌, ap₂, append-nil, mod-lt, zero-lt-suc, add-one, arith, length-set, drop_of_length-le, take_all, drop-cons, take-suc-set, drop-set-lt}
+use Rattle.std.proofs.Common.{◌≡◌, ℕ, zero, suc, ◌∷◌, map, zero-add, ◌+◌, ◌%◌, ◌<◌, ◌≤◌, cond, eqb}
+use Rattle.std.proofs.Common.{List, [], ◌++◌, length, get_or, take, drop, set, sym, refl, ap, ◌∙◌}
+use Rattle.std.proofs.Common.{ap₂, append-nil, mod-lt, zero-lt-suc, add-one, arith, length-set}
+use Rattle.std.proofs.Common.{drop_of_length-le, take_all, drop-cons, take-suc-set, drop-set-lt}
 use native.Mathlib.Nat.{mod-add-mod}
 use lib.Bits.{bit_xor}
 use Rattle.std.specs.List.{range_with_len}
 use Rattle.std.proofs.lemmas.List.FromFn.{map-range_with_len_more}
 use lib.Seq.{append_snoc}
 use Rattle.rc4.specs.declared.State.{State}
-use Rattle.rc4.specs.Rc4.{swapped, upto, mix_j, mix, mixed, next_i, next_j, next_state, output_octet, keystream, later_state, xors, ciphered}
+use Rattle.rc4.specs.Rc4.{swapped, upto, mix_j, mix, mixed, next_i, next_j, next_state}
+use Rattle.rc4.specs.Rc4.{output_octet, keystream, later_state, xors, ciphered}
 use Rattle.rc4.proofs.Exchange.{ahead, sum_swapped, length_swapped}
 
 -- ---- the identity

@@ -4,7 +4,11 @@ use mathlib.Core.Path.{◌≡◌}
 use native.Mathlib.Omega.{arith}
 use Rattle.refusals.specs.Refusal.{number}
 use Rattle.refusals.specs.declared.Refusal.{Refusal}
-use Rattle.refusals.specs.declared.Refusal.TheVariants.{Ended, ReplyBuffer, Frame, Code, Identifier, Size, Flags, Input, Room, Name, Kind, Filler, Retries, Line, Doubled, Issued, Full, Limit, List, Argument, Text, Record, Nowhere}
+use Rattle.refusals.specs.declared.Refusal.TheVariants.{Ended, ReplyBuffer, Frame, Code, Identifier}
+use Rattle.refusals.specs.declared.Refusal.TheVariants.{Size, Flags, Input, Room, Name, Kind}
+use Rattle.refusals.specs.declared.Refusal.TheVariants.{Filler, Retries, Line, Doubled, Issued}
+use Rattle.refusals.specs.declared.Refusal.TheVariants.{Full, Limit, List, Argument, Text, Record}
+use Rattle.refusals.specs.declared.Refusal.TheVariants.{Nowhere}
 
 pub number_some : (r : Refusal) → number r ≡ 0 → ⊥
 number_some Ended e = omega arith

@@ -2,7 +2,11 @@
 -- Assumes nothing: these are definitions.
 use Rattle.std.specs.Prelude.{ℕ, Result, Ok, Err}
 use Rattle.refusals.specs.declared.Refusal.{Refusal}
-use Rattle.refusals.specs.declared.Refusal.TheVariants.{Ended, ReplyBuffer, Frame, Code, Identifier, Size, Flags, Input, Room, Name, Kind, Filler, Retries, Line, Doubled, Issued, Full, Limit, List, Argument, Text, Record, Nowhere}
+use Rattle.refusals.specs.declared.Refusal.TheVariants.{Ended, ReplyBuffer, Frame, Code, Identifier}
+use Rattle.refusals.specs.declared.Refusal.TheVariants.{Size, Flags, Input, Room, Name, Kind}
+use Rattle.refusals.specs.declared.Refusal.TheVariants.{Filler, Retries, Line, Doubled, Issued}
+use Rattle.refusals.specs.declared.Refusal.TheVariants.{Full, Limit, List, Argument, Text, Record}
+use Rattle.refusals.specs.declared.Refusal.TheVariants.{Nowhere}
 
 abbrev pub number : Refusal → ℕ
 number Ended = 1

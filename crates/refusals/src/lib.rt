@@ -5,7 +5,7 @@
 // by which C and the programs tell it.
 #![tactic(auto)]
 
-ghost use Rattle.std.specs.Prelude.{◌≡◌, cond, ◌&&◌};
+ghost use Rattle.std.specs.Prelude.{◌≡◌};
 ghost use Rattle.refusals.specs.Refusal.{number};
 
 use std::fmt;
@@ -78,21 +78,4 @@ impl fmt::Display for Refusal {
     fn fmt<W: fmt::Write>(&self, f: &mut fmt::Formatter<W>) -> fmt::Result {
         write!(f, "{}", self.number())
     }
-}
-
-// Two tests in one. As a function, so that a test of several things has one way through it.
-pub fn both(a: bool, b: bool) -> bool
-    ensures { result ≡ (a && b) }
-{
-    if a {
-        return b;
-    }
-    false
-}
-
-// The number where the test found fault, else what the tests behind it answer.
-pub fn refuse_if(bad: bool, number: u8, rest: u8) -> u8
-    ensures { result ≡ cond bad number rest }
-{
-    if bad { number } else { rest }
 }

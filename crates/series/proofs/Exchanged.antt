@@ -11,7 +11,8 @@ use Rattle.authenticator.specs.Conversation.{answer_with, with_last}
 use Rattle.authenticator.specs.Judge.{reason_of}
 use Rattle.authenticator.specs.Encode.{reply_packet}
 use Rattle.authenticator.specs.Step.{Outcome, is_repeated, judged_as}
-use Rattle.authenticator.specs.Steps.{StepInput, step_on, reply_of, drew_reply, is_repeat_at, next_after, judged}
+use Rattle.authenticator.specs.Steps.{StepInput, step_on, reply_of, drew_reply, is_repeat_at}
+use Rattle.authenticator.specs.Steps.{next_after, judged}
 use Rattle.authenticator.specs.declared.Conversation.{Conversation}
 use Rattle.authenticator.specs.Judge.{Judgement}
 use Rattle.authenticator.proofs.Replies.{reading_for, read_reply_lem}

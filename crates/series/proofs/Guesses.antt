@@ -25,13 +25,16 @@ use Rattle.verify.specs.Change.{CheckedChange}
 use Rattle.verify.specs.declared.Terms.{Terms}
 use Rattle.verify.proofs.Counting.{one_more_lem, never_falls, counted_failed, judged_at_limit}
 use Rattle.verify.proofs.Reasons.{three_digits, response_not_changing}
-use Rattle.authenticator.specs.Conversation.{change_code_of, awaited_code, is_ended, no_answer, closed}
-use Rattle.authenticator.specs.Judge.{reason_of, reply_for, judge_response, checked_for, judge_change}
+use Rattle.authenticator.specs.Conversation.{change_code_of, awaited_code, is_ended, no_answer}
+use Rattle.authenticator.specs.Conversation.{closed}
+use Rattle.authenticator.specs.Judge.{reason_of, reply_for, judge_response, checked_for}
+use Rattle.authenticator.specs.Judge.{judge_change}
 use Rattle.authenticator.specs.Judge.{verdict_of, judge_in, judge}
 use Rattle.authenticator.specs.Encode.{reply_packet}
 use Rattle.authenticator.specs.Opening.{Opening, opened}
 use Rattle.authenticator.specs.Step.{Outcome, judged_as}
-use Rattle.authenticator.specs.Steps.{StepInput, step_on, reply_of, BoxState, unanswered, next_after}
+use Rattle.authenticator.specs.Steps.{StepInput, step_on, reply_of, BoxState, unanswered}
+use Rattle.authenticator.specs.Steps.{next_after}
 use Rattle.authenticator.specs.Steps.{is_judged, next_state}
 use Rattle.authenticator.specs.declared.Conversation.{Conversation}
 use Rattle.authenticator.specs.declared.Phase.{Phase}

@@ -46,7 +46,8 @@ use Rattle.series.specs.Series.{
 }
 use Rattle.series.specs.Writers.{our_writer}
 use Rattle.series.specs.LinePeers.{Copy, wrote_of, after_sending, our_line_peer}
-use Rattle.series.specs.Line.{Delivery, passing, roomy, LineState, exchange_of, reply_due, LaterClaim}
+use Rattle.series.specs.Line.{Delivery, passing, roomy, LineState, exchange_of, reply_due}
+use Rattle.series.specs.Line.{LaterClaim}
 use Rattle.series.proofs.Demand3.{our_change_written}
 use Rattle.series.proofs.LineReplies.{due_read}
 use Rattle.series.proofs.RoundTrips.{response_round_trip, change_round_trip}

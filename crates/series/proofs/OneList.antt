@@ -44,11 +44,14 @@ use Rattle.verify.proofs.Accepted.{accepted_only}
 use Rattle.authenticator.specs.declared.Conversation.{Conversation}
 use Rattle.authenticator.specs.Opening.{Opened}
 use Rattle.authenticator.proofs.Spends.{challenges_octets}
-use Rattle.authenticator.proofs.Openings.{opened_first, opened_written, opened_fresh, opened_not, opened_contains, opened_keeps, may_open_lem}
+use Rattle.authenticator.proofs.Openings.{opened_first, opened_written, opened_fresh, opened_not}
+use Rattle.authenticator.proofs.Openings.{opened_contains, opened_keeps, may_open_lem}
 use Rattle.authenticator.proofs.InForce.{CanBeInForce, now_in_force, step_adds_none}
 use Rattle.series.specs.Course.{end, Along}
 use Rattle.series.specs.Openers.{spends_all, our_opener}
-use Rattle.series.specs.OneList.{PassedOn, left_by, OnOneList, Opens, Two, reached, NoneTwice, NoneAnsweredTwice, NoneValidTwice, NoneChangedTwice, MayOpen, OneList}
+use Rattle.series.specs.OneList.{PassedOn, left_by, OnOneList, Opens, Two, reached, NoneTwice}
+use Rattle.series.specs.OneList.{NoneAnsweredTwice, NoneValidTwice, NoneChangedTwice, MayOpen}
+use Rattle.series.specs.OneList.{OneList}
 use Rattle.series.specs.OneList.{Recorded, NoneOpened}
 use Rattle.series.proofs.Invariant.{along_behind}
 use Rattle.series.proofs.Recorded.{Shut, shut_along}

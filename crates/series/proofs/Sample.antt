@@ -18,7 +18,9 @@ use Rattle.accounts.specs.declared.Account.{Account}
 use Rattle.verify.specs.declared.ChangeVersion.{ChangeVersion}
 use Rattle.verify.specs.declared.ChangeVersion.TheVariants.{One, Two}
 use Rattle.authenticator.proofs.Openings.{may_open_empty}
-use Rattle.series.specs.Series.{Packet, invalid, right, password_change, Passed, own, another, ExchangeInput, Step, ours, SeriesState, TryWithin, ChangeWithin, Allowed}
+use Rattle.series.specs.Series.{Packet, invalid, right, password_change, Passed, own, another}
+use Rattle.series.specs.Series.{ExchangeInput, Step, ours, SeriesState, TryWithin, ChangeWithin}
+use Rattle.series.specs.Series.{Allowed}
 use Rattle.series.specs.Writers.{Writer}
 
 -- ---- openings, passwords, records

@@ -12,7 +12,8 @@ use borrow.Author.Tests.{ltb-true}
 use lib.Dec.{ltb}
 use lib.ListN.{length, get_or, replicate}
 use Rattle.octets.specs.Parts.{over, agrees}
-use Rattle.issued.specs.Issued.{Issued, contains, contains_any, ending, endings, empty_list, bad_buffer, spend_refusal}
+use Rattle.issued.specs.Issued.{Issued, contains, contains_any, ending, endings, empty_list}
+use Rattle.issued.specs.Issued.{bad_buffer, spend_refusal}
 use Rattle.challenges.specs.Challenges.{incremented, challenges_from}
 use Rattle.authenticator.specs.Conversation.{is_ended}
 use Rattle.authenticator.specs.Opening.{Opening, open_refusal, opened, opened_issued}

@@ -9,7 +9,8 @@ use native.Mathlib.Omega.{arith}
 use borrow.Author.Tests.{eq-eqb}
 use lib.Dec.{eqb}
 use lib.ListN.{length}
-use Rattle.credentials.specs.Credentials.{nt_hash_of, response_of, old_under_new, hash_under_challenge}
+use Rattle.credentials.specs.Credentials.{nt_hash_of, response_of, old_under_new}
+use Rattle.credentials.specs.Credentials.{hash_under_challenge}
 use Rattle.credentials.proofs.Laws.{length_nt, octets_nt}
 use Rattle.credentials.proofs.UnderChallenge.{from_under}
 use Rattle.packets.specs.Frame.{octet, bad_frame}

@@ -30,7 +30,8 @@ use Rattle.authenticator.specs.declared.Conversation.{Conversation}
 use Rattle.authenticator.proofs.Openings.{opened_first, may_open_empty}
 use Rattle.authenticator.proofs.Steps.{drew_answered}
 use Rattle.series.specs.Course.{end, Along, total}
-use Rattle.series.specs.Series.{Passed, own, another, right, Step, other, SeriesState, start, exchange, next}
+use Rattle.series.specs.Series.{Passed, own, another, right, Step, other, SeriesState, start}
+use Rattle.series.specs.Series.{exchange, next}
 use Rattle.series.specs.Series.{
   input_at,
   judged_at,

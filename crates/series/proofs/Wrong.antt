@@ -47,7 +47,8 @@ use Rattle.authenticator.proofs.Steps.{drew_answered, reply_of_lem}
 use Rattle.authenticator.specs.declared.Conversation.{Conversation}
 use Rattle.authenticator.proofs.Openings.{opened_first}
 use Rattle.series.specs.Course.{total}
-use Rattle.series.specs.Series.{own, another, invalid, right, start, exchange, next, later, LetsIn, Demand3}
+use Rattle.series.specs.Series.{own, another, invalid, right, start, exchange, next, later, LetsIn}
+use Rattle.series.specs.Series.{Demand3}
 use Rattle.series.specs.Boxes.{
   refusing,
   repeats_here,

@@ -13,9 +13,11 @@ use lib.ListN.{replicate}
 use Rattle.octets.specs.Digits.{digit_of, hex_of}
 use Rattle.octets.specs.Parts.{agrees}
 use Rattle.blocks.specs.Blocks.{run_blocks, zeros, padded, hash_blocks}
-use Rattle.md4.specs.Md4.{operation, operations, increased, words_of, block, initial_registers, digest_of, md4_of}
+use Rattle.md4.specs.Md4.{operation, operations, increased, words_of, block, initial_registers}
+use Rattle.md4.specs.Md4.{digest_of, md4_of}
 use Rattle.credentials.specs.Credentials.{nt_hash_of}
-use Rattle.accounts.specs.Account.{no_hash, hash_of, account_with, found, entry_of, changed, not_found}
+use Rattle.accounts.specs.Account.{no_hash, hash_of, account_with, found, entry_of, changed}
+use Rattle.accounts.specs.Account.{not_found}
 use Rattle.accounts.specs.Account.{Rightful, Agree}
 use Rattle.accounts.specs.declared.Account.{Account}
 use Rattle.accounts.proofs.Agreeing.{made_agrees}
@@ -28,11 +30,14 @@ use Rattle.smbpasswd.specs.File.{Found}
 use Rattle.smbpasswd.specs.File.{Line}
 use Rattle.series.specs.Course.{Along}
 use Rattle.verify.specs.declared.ChangeVersion.TheVariants.{Two}
-use Rattle.series.specs.Series.{own, another, right, Step, ours, PasswordChange, SeriesState, start, exchange, next, Allowed}
+use Rattle.series.specs.Series.{own, another, right, Step, ours, PasswordChange, SeriesState, start}
+use Rattle.series.specs.Series.{exchange, next, Allowed}
 use Rattle.series.specs.Boxes.{our_box}
 use Rattle.series.specs.Writers.{our_writer}
-use Rattle.series.specs.AccountFile.{FileWriter, keeping_time, writing_zero, keeping_lm, losing_others, not_writing, aged, again, KeptAt, KeptInFile}
-use Rattle.series.proofs.Sample.{opening, opens_default, old, new, user, line, new_password, change, try_within, change_allowed}
+use Rattle.series.specs.AccountFile.{FileWriter, keeping_time, writing_zero, keeping_lm}
+use Rattle.series.specs.AccountFile.{losing_others, not_writing, aged, again, KeptAt, KeptInFile}
+use Rattle.series.proofs.Sample.{opening, opens_default, old, new, user, line, new_password, change}
+use Rattle.series.proofs.Sample.{try_within, change_allowed}
 use Rattle.series.proofs.Demand3.{terms_of, law, change_updated, ready_first}
 use Rattle.series.proofs.AccountFile.{kept_in_file}
 

@@ -13,7 +13,8 @@ use Rattle.md4.specs.Md4.{operation, operations}
 use Rattle.md4.specs.Md4.{increased, words_of, block, initial_registers, digest_of, md4_of}
 use Rattle.des.specs.Tables.{ip, fp, expansion, permutation, s1, s2, s3, s4, s5, s6, s7, s8, boxes}
 use Rattle.des.specs.Tables.{pc1, pc2, shifts}
-use Rattle.des.specs.Des.{cipher_f, crypt, round_keys, expand_key, schedule_of, des_encrypt, des_three}
+use Rattle.des.specs.Des.{cipher_f, crypt, round_keys, expand_key, schedule_of, des_encrypt}
+use Rattle.des.specs.Des.{des_three}
 use Rattle.credentials.specs.Credentials.{nt_hash_of, response_of}
 use Rattle.packets.specs.Response.{read_response}
 use Rattle.accounts.specs.Account.{Agree}

@@ -42,7 +42,8 @@ use Rattle.authenticator.specs.Steps.{
   AnsweredPacket,
   BoxState,
 }
-use Rattle.authenticator.specs.Steps.{unanswered, repeats_answered, is_repeat_at, refusal_at, is_judged}
+use Rattle.authenticator.specs.Steps.{unanswered, repeats_answered, is_repeat_at, refusal_at}
+use Rattle.authenticator.specs.Steps.{is_judged}
 use Rattle.authenticator.specs.Steps.{judged, next_state, StepClaim}
 use Rattle.authenticator.specs.declared.Conversation.{Conversation}
 use Rattle.authenticator.specs.Step.{Kind}
@@ -56,7 +57,8 @@ use Rattle.peer.specs.Write.{response_fields, response_for}
 use Rattle.peer.specs.declared.Turn.{Turn}
 use Rattle.peer.proofs.Found.{response_found}
 use Rattle.series.specs.Course.{Along, total}
-use Rattle.series.specs.Series.{own, another, right, SeriesState, start, exchange, next, Claimed, Demand3}
+use Rattle.series.specs.Series.{own, another, right, SeriesState, start, exchange, next, Claimed}
+use Rattle.series.specs.Series.{Demand3}
 use Rattle.series.specs.Boxes.{
   repeats_here,
   judging,

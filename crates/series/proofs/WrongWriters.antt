@@ -23,7 +23,8 @@ use Rattle.authenticator.specs.Admit.{carries, refusal_for}
 use Rattle.authenticator.specs.Encode.{reply_packet}
 use Rattle.verify.specs.Lockout.{is_locked}
 use Rattle.verify.specs.Response.{valid, first_reason, response_reason}
-use Rattle.authenticator.specs.Judge.{may_retry, reply_for, judge_response, judge_in, judge, valid_in}
+use Rattle.authenticator.specs.Judge.{may_retry, reply_for, judge_response, judge_in, judge}
+use Rattle.authenticator.specs.Judge.{valid_in}
 use Rattle.authenticator.specs.Step.{Outcome, step}
 use Rattle.authenticator.specs.Steps.{StepInput, step_on, reply_of}
 use Rattle.authenticator.proofs.Steps.{Case, refused, repeated, judged, case_of, reply_of_lem}

@@ -10,7 +10,8 @@ use Rattle.packets.specs.Frame.{octet, written_over}
 use Rattle.packets.specs.Response.{read_response}
 use Rattle.authenticator.specs.Admit.{refusal_for}
 use Rattle.authenticator.specs.Encode.{reply_packet}
-use Rattle.accounts.specs.Account.{not_found, found, lookup_of, entry_of, with_schedules, account_of}
+use Rattle.accounts.specs.Account.{not_found, found, lookup_of, entry_of, with_schedules}
+use Rattle.accounts.specs.Account.{account_of}
 use Rattle.accounts.specs.Account.{with_failures}
 use Rattle.accounts.specs.declared.Lookup.{Lookup}
 use Rattle.verify.specs.Lockout.{is_locked, one_more}

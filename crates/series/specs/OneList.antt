@@ -3,8 +3,10 @@
 -- shuts out.
 -- Assumes nothing: these are definitions.
 use Rattle.std.specs.Prelude.{Some, None}
-use Rattle.std.specs.Prelude.{true, false, List, ◌∷◌, ◌++◌, ◌≢◌, ◌⊎◌, ◌≡◌, ℕ, suc, ◌+◌, ◌≤◌, ◌<◌, length, get_or, take}
-use Rattle.issued.specs.Issued.{Issued, places, listed, contains, contains_any, counts_of, bad_buffer}
+use Rattle.std.specs.Prelude.{true, false, List, ◌∷◌, ◌++◌, ◌≢◌, ◌⊎◌, ◌≡◌, ℕ, suc, ◌+◌, ◌≤◌, ◌<◌}
+use Rattle.std.specs.Prelude.{length, get_or, take}
+use Rattle.issued.specs.Issued.{Issued, places, listed, contains, contains_any, counts_of}
+use Rattle.issued.specs.Issued.{bad_buffer}
 use Rattle.packets.specs.Codes.{response_code, success_code}
 use Rattle.packets.specs.Frame.{octet}
 use Rattle.packets.specs.Reply.{longest_reply}
@@ -14,7 +16,8 @@ use Rattle.packets.specs.declared.Response.{Response}
 use Rattle.verify.specs.Response.{answers}
 use Rattle.authenticator.specs.Judge.{valid_in, new_hash_in}
 use Rattle.authenticator.specs.Conversation.{is_ended}
-use Rattle.authenticator.specs.Opening.{Opening, retries_of, spends, first_conversation, opening_packet}
+use Rattle.authenticator.specs.Opening.{Opening, retries_of, spends, first_conversation}
+use Rattle.authenticator.specs.Opening.{opening_packet}
 use Rattle.authenticator.specs.Steps.{StepInput, reply_of, next_after}
 use Rattle.authenticator.specs.declared.Phase.TheVariants as phases
 use Rattle.accounts.specs.declared.Account.{Account}

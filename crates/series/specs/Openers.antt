@@ -6,7 +6,8 @@ use Rattle.std.specs.Prelude.{Option, Some, None}
 use Rattle.std.specs.Prelude.{Bool, true, false, cond, List, ℕ, length}
 use Rattle.issued.specs.Issued.{Issued}
 use Rattle.authenticator.specs.Conversation.{answer_with, with_last, closed}
-use Rattle.authenticator.specs.Opening.{Opening, retries_of, open_refusal, first_conversation, opening_packet, opened, opened_issued, opened_buffer}
+use Rattle.authenticator.specs.Opening.{Opening, retries_of, open_refusal, first_conversation}
+use Rattle.authenticator.specs.Opening.{opening_packet, opened, opened_issued, opened_buffer}
 use Rattle.authenticator.specs.declared.Conversation.{Conversation}
 use Rattle.authenticator.specs.Opening.{Opened}
 use Rattle.authenticator.specs.declared.Reply.TheVariants.{Success}

@@ -2,7 +2,8 @@
 -- requests 2026-01, 2026-07, 2026-09 and 2026-10.
 -- Assumes nothing: these are definitions.
 use Rattle.std.specs.Prelude.{None, Result, Ok}
-use Rattle.std.specs.Prelude.{Bool, true, false, cond, List, [], ◌∷◌, ◌++◌, ◌≡◌, ℕ, ◌+◌, ◌≤◌, ◌<◌, length, take, replicate}
+use Rattle.std.specs.Prelude.{Bool, true, false, cond, List, [], ◌∷◌, ◌++◌, ◌≡◌, ℕ, ◌+◌, ◌≤◌, ◌<◌}
+use Rattle.std.specs.Prelude.{length, take, replicate}
 use Rattle.credentials.specs.Credentials.{nt_hash_of, bad_nt_password, bad_filler}
 use Rattle.message.specs.Reasons.{authentication_failure, password_expired}
 use Rattle.refusals.specs.declared.Refusal.{Refusal}
@@ -10,7 +11,8 @@ use Rattle.message.specs.Message.{text_of, failed_with}
 use Rattle.message.specs.declared.Verdict.{Verdict}
 use Rattle.message.specs.declared.Verdict.TheVariants.{Success, Failure}
 use Rattle.packets.specs.Response.{bad_name, read_response}
-use Rattle.packets.specs.Reply.{ChallengeFields, success_packet, failure_packet, read_challenge, longest_reply}
+use Rattle.packets.specs.Reply.{ChallengeFields, success_packet, failure_packet, read_challenge}
+use Rattle.packets.specs.Reply.{longest_reply}
 use Rattle.packets.specs.Sizes.{name_offset, change_size, change_one_size}
 use Rattle.accounts.specs.Account.{found, Rightful, Agree}
 use Rattle.verify.specs.Response.{found_valid}

@@ -6,7 +6,8 @@ use Rattle.packets.specs.Response.{response_packet}
 use Rattle.packets.specs.declared.Response.{Response}
 use Rattle.verify.specs.declared.ChangeVersion.{ChangeVersion}
 use Rattle.verify.specs.declared.ChangeVersion.TheVariants.{One, Two}
-use Rattle.peer.specs.Write.{Wrote, response_fields, write_response_refusal, wrote_by, write_response}
+use Rattle.peer.specs.Write.{Wrote, response_fields, write_response_refusal, wrote_by}
+use Rattle.peer.specs.Write.{write_response}
 use Rattle.peer.specs.Write.{write_change, write_change_one}
 use Rattle.peer.specs.declared.Turn.{Turn}
 

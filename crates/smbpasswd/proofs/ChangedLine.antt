@@ -19,7 +19,9 @@ use Rattle.octets.proofs.Split.{cut, before_free, holds_append}
 use Rattle.accounts.specs.Account.{no_hash, hash_of, account_with}
 use Rattle.accounts.specs.declared.Account.{Account}
 use Rattle.accounts.specs.declared.Hash.{Hash}
-use Rattle.smbpasswd.specs.Line.{lf, number_sign, colon, letter_d, letter_x, no_password, from_field, field, closed, is_name, is_absent, is_hash, is_flags, is_time, is_uid, is_comment, is_account}
+use Rattle.smbpasswd.specs.Line.{lf, number_sign, colon, letter_d, letter_x, no_password}
+use Rattle.smbpasswd.specs.Line.{from_field, field, closed, is_name, is_absent, is_hash, is_flags}
+use Rattle.smbpasswd.specs.Line.{is_time, is_uid, is_comment, is_account}
 use Rattle.smbpasswd.specs.Record.{hash_in, has_flag, time_in, is_expired, account_in}
 use Rattle.smbpasswd.specs.Write.{hash_text, time_text, changed_line}
 use Rattle.smbpasswd.proofs.FieldLaws.{both, Form, of_form}

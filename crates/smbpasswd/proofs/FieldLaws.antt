@@ -11,7 +11,8 @@ use lib.ListN.{length, drop, length-drop}
 use lib.Seq.{drop-drop}
 use Rattle.octets.specs.Split.{holds, before, behind}
 use Rattle.octets.proofs.Split.{held, drop_place, place_le}
-use Rattle.smbpasswd.specs.Line.{colon, from_field, field, closed, is_name, is_uid, is_hash, is_flags, is_time, is_account}
+use Rattle.smbpasswd.specs.Line.{colon, from_field, field, closed, is_name, is_uid, is_hash}
+use Rattle.smbpasswd.specs.Line.{is_flags, is_time, is_account}
 use Rattle.smbpasswd.specs.Inner.{field_at, column, columns_of}
 use Rattle.smbpasswd.specs.declared.lines.Columns.{Columns}
 

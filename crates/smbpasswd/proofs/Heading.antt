@@ -12,7 +12,8 @@ use lib.ListN.{length}
 use Rattle.octets.specs.Split.{holds, before, behind}
 use Rattle.octets.proofs.Split.{place, held, place_le}
 use Rattle.smbpasswd.specs.Line.{lf}
-use Rattle.smbpasswd.specs.Summary.{space, is_number, value_of, is_head, longest_input, counts_of, summary_of}
+use Rattle.smbpasswd.specs.Summary.{space, is_number, value_of, is_head, longest_input, counts_of}
+use Rattle.smbpasswd.specs.Summary.{summary_of}
 use Rattle.smbpasswd.specs.Inner.{number_in}
 use Rattle.smbpasswd.specs.declared.Counts.{Counts}
 use Rattle.refusals.specs.declared.Refusal.TheVariants as refusal

@@ -9,7 +9,9 @@ use Rattle.accounts.specs.Account.{not_found, found}
 use Rattle.accounts.specs.declared.Lookup.{Lookup}
 use Rattle.smbpasswd.specs.declared.AccountLine.{AccountLine}
 use Rattle.smbpasswd.specs.declared.Misplaced.{Misplaced}
-use Rattle.smbpasswd.specs.File.{Place, Nowhere, Line, Doubled, Malformed, place_refusal, place_offset, lookup_at, found_at, misplaced_refusal, misplaced_offset}
+use Rattle.smbpasswd.specs.File.{Place, Nowhere, Line, Doubled, Malformed, place_refusal}
+use Rattle.smbpasswd.specs.File.{place_offset, lookup_at, found_at, misplaced_refusal}
+use Rattle.smbpasswd.specs.File.{misplaced_offset}
 
 -- a place, by its number, its offset and its record
 pub record Told (now max_age : ℕ) (f : List ℕ) (p : Place) (refusal offset : ℕ) (lookup : Lookup) : Type 0

@@ -18,15 +18,20 @@ use Rattle.accounts.specs.Account.{found, account_with}
 use Rattle.accounts.specs.declared.Account.{Account}
 use Rattle.smbpasswd.specs.Line.{lf, letter_d, letter_x, field, is_comment, is_account}
 use Rattle.smbpasswd.specs.Record.{has_flag, is_expired, account_in}
-use Rattle.smbpasswd.specs.File.{lines, Placed, placed_from, select, counted, malformed, named, place_from, place_of, line_at, lookup_at, find_in}
+use Rattle.smbpasswd.specs.File.{lines, Placed, placed_from, select, counted, malformed, named}
+use Rattle.smbpasswd.specs.File.{place_from, place_of, line_at, lookup_at, find_in}
 use Rattle.smbpasswd.specs.Write.{changed_line, with_line, written_at, written_in}
 use Rattle.smbpasswd.specs.File.{Found}
 use Rattle.smbpasswd.specs.File.{Place, Nowhere, Line, Doubled, Malformed}
 use Rattle.smbpasswd.proofs.LineLaws.{All, Stands, stands, selected, all_first}
 use Rattle.smbpasswd.proofs.Search.{Known, line_known}
 use Rattle.smbpasswd.proofs.FieldLaws.{form}
-use Rattle.smbpasswd.proofs.ChangedLine.{IsHash, kept, changed_fields, changed_account, changed_read, changed_length, changed_comment, changed_one_line, changed_twice_lem}
-use Rattle.smbpasswd.proofs.ChangedFile.{Starts, selected_starts, file_length, before_same, behind_same, new_there, swap, swap_other, all_swapped, select_swapped}
+use Rattle.smbpasswd.proofs.ChangedLine.{IsHash, kept, changed_fields, changed_account}
+use Rattle.smbpasswd.proofs.ChangedLine.{changed_read, changed_length, changed_comment}
+use Rattle.smbpasswd.proofs.ChangedLine.{changed_one_line, changed_twice_lem}
+use Rattle.smbpasswd.proofs.ChangedFile.{Starts, selected_starts, file_length, before_same}
+use Rattle.smbpasswd.proofs.ChangedFile.{behind_same, new_there, swap, swap_other, all_swapped}
+use Rattle.smbpasswd.proofs.ChangedFile.{select_swapped}
 
 -- the line of the first, or nothing
 abbrev head_line : List Placed → List ℕ

@@ -11,7 +11,8 @@ use lib.ListN.{length}
 use Rattle.std.specs.Prelude.{Option, Some, None, IsSome, MatchOption, Result, Ok, Err}
 use Rattle.octets.specs.Parts.{agrees}
 use Rattle.smbpasswd.specs.Line.{field, is_comment, is_account}
-use Rattle.smbpasswd.specs.File.{lines, Placed, placed_from, select, counted, malformed, named, place_from, place_of, line_at, located}
+use Rattle.smbpasswd.specs.File.{lines, Placed, placed_from, select, counted, malformed, named}
+use Rattle.smbpasswd.specs.File.{place_from, place_of, line_at, located}
 use Rattle.smbpasswd.specs.Inner.{one_more, one_bad, after_line, searched, place_in, placed}
 use Rattle.smbpasswd.specs.declared.Misplaced.{Misplaced}
 use Rattle.smbpasswd.specs.declared.Misplaced.TheVariants as misplaced

@@ -20,7 +20,9 @@ use Rattle.packets.specs.Change.{read_change}
 use Rattle.packets.specs.ChangeOne.{read_change_one}
 use Rattle.packets.specs.declared.ChangeOne.{ChangeOne}
 use Rattle.authenticator.proofs.Spends.{length_incremented}
-use Rattle.accounts.specs.Account.{no_hash, hash_of, blank_entry, not_found, found, changed, stored_in, with_schedules, account_of, entry_of, lookup_of, entry_lookup_of}
+use Rattle.accounts.specs.Account.{no_hash, hash_of, blank_entry, not_found, found, changed}
+use Rattle.accounts.specs.Account.{stored_in, with_schedules, account_of, entry_of, lookup_of}
+use Rattle.accounts.specs.Account.{entry_lookup_of}
 use Rattle.authenticator.specs.Conversation.{ended, retried}
 use Rattle.authenticator.proofs.Steps.{Case, refused, repeated, judged, case_of}
 use Rattle.authenticator.proofs.Steps as steps-laws
@@ -31,7 +33,8 @@ use Rattle.verify.specs.Response.{counted, response_reason}
 use Rattle.verify.specs.Accepted.{length_for, hash_for}
 use Rattle.verify.specs.Faults.{fault_number, is_faultless}
 use Rattle.verify.specs.Change.{change_fault, checked_with, checked_change}
-use Rattle.verify.specs.ChangeOne.{nt_asked, over_lm, new_in, nt_fault, lm_fault, checked_nt, checked_lm}
+use Rattle.verify.specs.ChangeOne.{nt_asked, over_lm, new_in, nt_fault, lm_fault, checked_nt}
+use Rattle.verify.specs.ChangeOne.{checked_lm}
 use Rattle.verify.specs.ChangeOne.{checked_change_one}
 use Rattle.verify.specs.declared.ChangeFault.{ChangeFault}
 use Rattle.verify.specs.declared.ChangeVersion.{ChangeVersion}

@@ -15,7 +15,8 @@ use Rattle.octets.proofs.Listed.{part_written}
 use Rattle.octets.proofs.Numbers.{Octets}
 use Rattle.unicode_text.specs.declared.encoding.Char.{Char}
 use Rattle.unicode_text.specs.Scalars.{is_scalar, decoded_as, malformed}
-use Rattle.unicode_text.specs.Utf16.{high_of, low_of, utf16_of, is_high, is_low, char_from_units, unit_at}
+use Rattle.unicode_text.specs.Utf16.{high_of, low_of, utf16_of, is_high, is_low, char_from_units}
+use Rattle.unicode_text.specs.Utf16.{unit_at}
 use Rattle.unicode_text.specs.Utf16.{utf16_first}
 use Rattle.unicode_text.proofs.Ranges.{between_both, inside, below, above, outside, scalar_low}
 use Rattle.unicode_text.proofs.Ranges.{scalar_high, scalar_cases, scalar_most}

@@ -12,7 +12,8 @@ use Rattle.octets.specs.Digits.{between}
 use Rattle.octets.proofs.Listed.{part_written}
 use Rattle.unicode_text.specs.declared.encoding.Char.{Char}
 use Rattle.unicode_text.specs.Scalars.{is_scalar, decoded_as, malformed}
-use Rattle.unicode_text.specs.Utf8.{tail, utf8_of, is_tail, char_if_valid, char_from_octets, utf8_first}
+use Rattle.unicode_text.specs.Utf8.{tail, utf8_of, is_tail, char_if_valid, char_from_octets}
+use Rattle.unicode_text.specs.Utf8.{utf8_first}
 use Rattle.unicode_text.proofs.Ranges.{between_both, inside, above, scalar_low, scalar_most}
 use Rattle.unicode_text.proofs.Texts.{Codec}
 

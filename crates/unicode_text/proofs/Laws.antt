@@ -17,7 +17,8 @@ use Rattle.unicode_text.specs.declared.encoding.Char.{Char}
 use Rattle.unicode_text.specs.Scalars.{encoded, decoded, encoded_if, recoded}
 use Rattle.unicode_text.specs.Utf8.{utf8_of, utf8_first, utf8_encoded, utf8_decoded}
 use Rattle.unicode_text.specs.Utf16.{utf16_of, utf16_first, utf16_encoded, utf16_decoded}
-use Rattle.unicode_text.specs.Password.{password_max, text_max, converted, fitted, password_of, text_of}
+use Rattle.unicode_text.specs.Password.{password_max, text_max, converted, fitted, password_of}
+use Rattle.unicode_text.specs.Password.{text_of}
 use Rattle.unicode_text.proofs.Texts.{Scalars, Codec, decode_encoded, encode_decoded}
 use Rattle.unicode_text.proofs.CodecUtf8.{utf8_codec, at_most_three, at_most_four}
 use Rattle.unicode_text.proofs.CodecUtf16.{utf16_codec, utf16_one, utf16_two}

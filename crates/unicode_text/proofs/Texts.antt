@@ -12,7 +12,8 @@ use lib.Dec.{eqb}
 use lib.ListN.{length, take, drop, length-append, length-drop, take-append-drop}
 use lib.Seq.{drop-append_seam, take_all}
 use Rattle.unicode_text.specs.declared.encoding.Char.{Char}
-use Rattle.unicode_text.specs.Scalars.{is_scalar, decoded_as, encoded, joined, decoded_from, decoded}
+use Rattle.unicode_text.specs.Scalars.{is_scalar, decoded_as, encoded, joined, decoded_from}
+use Rattle.unicode_text.specs.Scalars.{decoded}
 use Rattle.unicode_text.specs.Scalars.{is_some, well_formed, encoded_if, recoded}
 
 -- each value of a text is a scalar value

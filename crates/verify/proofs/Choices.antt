@@ -7,7 +7,10 @@ use Rattle.std.specs.Option.{option_or}
 use Rattle.std.specs.Bool.{then_some}
 use Rattle.verify.specs.Faults.{is_faultless}
 use Rattle.verify.specs.declared.ChangeFault.{ChangeFault}
-use Rattle.verify.specs.declared.ChangeFault.TheVariants.{NoNtHash, NoNtResponse, LengthOver, LengthOdd, OldHashWrong, ResponseWrong, LmNotAllowed, LengthOverLm, HashAbsent, HashWrong}
+use Rattle.verify.specs.declared.ChangeFault.TheVariants.{NoNtHash, NoNtResponse, LengthOver}
+use Rattle.verify.specs.declared.ChangeFault.TheVariants.{LengthOdd, OldHashWrong, ResponseWrong}
+use Rattle.verify.specs.declared.ChangeFault.TheVariants.{LmNotAllowed, LengthOverLm, HashAbsent}
+use Rattle.verify.specs.declared.ChangeFault.TheVariants.{HashWrong}
 
 pub chosen : {A : Type 0} (b : Bool) (x : A) (rest : Option A)
     → option_or (then_some b x) rest ≡ cond b (Some x) rest

@@ -4,7 +4,8 @@
 use Rattle.std.specs.Prelude.{Bool, cond, not, ◌&&◌, List, ℕ, eqb}
 use Rattle.octets.specs.Parts.{agrees}
 use Rattle.credentials.specs.Credentials.{response_of, response_under}
-use Rattle.accounts.specs.Account.{lookup_of, with_schedules, with_failures, entry_of, entry_lookup_of}
+use Rattle.accounts.specs.Account.{lookup_of, with_schedules, with_failures, entry_of}
+use Rattle.accounts.specs.Account.{entry_lookup_of}
 use Rattle.accounts.specs.declared.Hash.{Hash}
 use Rattle.accounts.specs.declared.Schedules.{Schedules}
 use Rattle.accounts.specs.declared.Account.{Account}

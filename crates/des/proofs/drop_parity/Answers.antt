@@ -1,7 +1,8 @@
 use mathlib.Core.Path.{◌≡◌, refl, sym, ap, ap₂, ◌∙◌}
 use mathlib.Core.List.{List, [], ◌∷◌, ◌++◌, map}
 use Prim.Native.Nat.{ℕ, suc, ◌+◌, ◌*◌, ◌^◌, ◌≤◌, ◌<◌}
-use native.Mathlib.Nat.{mul-zero, mul-one, add-zero, zero-mul, zero-add, add-mul, mul_assoc, mul_comm, add_assoc}
+use native.Mathlib.Nat.{mul-zero, mul-one, add-zero, zero-mul, zero-add, add-mul, mul_assoc}
+use native.Mathlib.Nat.{mul_comm, add_assoc}
 use native.Mathlib.Numerals.{add-one}
 use native.Mathlib.Omega.{arith}
 use lib.ListN.{length, take, drop, get_or, length-append}

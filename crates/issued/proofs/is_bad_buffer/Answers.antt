@@ -3,7 +3,8 @@
 use borrow.Author.Tests.{eq-eqb, ne_eqb, lt-ltb, le-ltb}
 use Rattle.issued.specs.Issued.{bad_buffer}
 use Rattle.issued.proofs.is_bad_buffer.Goals as goal
-use Rattle.issued.proofs.is_bad_buffer.Goals.{then-width-eq0-via-then-width-eq0, then-width-eq0-via-else-width-eq0+then-buffer-width-ne0}
+use Rattle.issued.proofs.is_bad_buffer.Goals.{then-width-eq0-via-then-width-eq0}
+use Rattle.issued.proofs.is_bad_buffer.Goals.{then-width-eq0-via-else-width-eq0+then-buffer-width-ne0}
 
 pub returns-then-width-eq0 : goal.returns-then-width-eq0
 unfolding bad_buffer

@@ -12,10 +12,12 @@ use lib.ListN.{length, take}
 use lib.Pointwise.{pointwise}
 use lib.Seq.{length-take-le}
 use Rattle.octets.specs.Parts.{agrees}
-use Rattle.issued.specs.Issued.{places, entries_in, listed, contains_any, counts_of, bad_counts, bad_buffer}
+use Rattle.issued.specs.Issued.{places, entries_in, listed, contains_any, counts_of, bad_counts}
+use Rattle.issued.specs.Issued.{bad_buffer}
 use Rattle.issued.proofs.Listing.{length_in, entries_used}
 use Rattle.issued.proofs.Counting.{counted, zeros_room}
-use Rattle.issued.proofs.Spending.{sound, places_fit, same_counts, bad_refused, counts_refused, met_refused, full_refused, none_refused}
+use Rattle.issued.proofs.Spending.{sound, places_fit, same_counts, bad_refused, counts_refused}
+use Rattle.issued.proofs.Spending.{met_refused, full_refused, none_refused}
 use Rattle.issued.proofs.may_spend.Goals as goal
 
 pub returns-then-is_bad_buffer : goal.returns-then-is_bad_buffer

@@ -7,12 +7,13 @@ use native.Mathlib.Nat.{mul-div-le}
 use native.Mathlib.Omega.{arith}
 use lib.ListN.{length}
 use Rattle.octets.specs.Parts.{over_at}
-use Rattle.refusals.proofs.Laws.{some_number}
+use Rattle.refusals.proofs.Numbers.{number_some}
 use Rattle.issued.specs.Issued.{Issued, entries_in, listed, spend_refusal}
 use Rattle.issued.specs.Inner.{raised, CountsFit}
 use Rattle.issued.proofs.Listing.{length_in, length_entries, flatten_entries}
 use Rattle.issued.proofs.Counting.{length_endings, raised_counts_lem, counts_room}
-use Rattle.issued.proofs.Spending.{spendable, places_fit, same_issued, used_still, spent_added, spent_refused}
+use Rattle.issued.proofs.Spending.{spendable, places_fit, same_issued, used_still, spent_added}
+use Rattle.issued.proofs.Spending.{spent_refused}
 use Rattle.issued.proofs.spend.Goals as goal
 
 pub returns-in_err-may_spend-clause-list : goal.returns-in_err-may_spend-clause-list
@@ -21,7 +22,7 @@ returns-in_err-may_spend-clause-list c =
     let i : Issued = record { buffer = a.buffer.now; used = a.used; counts = a.counts.now } in
     same_issued refl (used_still a.used c.from_residual.result c.from_residual.ensures.0) refl
     ∙ sym (spent_refused a.width (entries_in a.width a.run.now) i
-    (λ z. some_number c.in_err-may_spend.field-0.0 (c.in_err-may_spend.ensures ∙ z)))
+    (λ z. number_some c.in_err-may_spend.field-0.0 (c.in_err-may_spend.ensures ∙ z)))
 
 pub nonzero_div-n : goal.nonzero_div-n
 nonzero_div-n c =

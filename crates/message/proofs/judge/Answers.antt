@@ -6,7 +6,8 @@ use Rattle.std.specs.Prelude.{Option, Some, None}
 use Prim.Native.Nat.{ℕ}
 use lib.Dec.{lit<, lit≤}
 use Rattle.octets.specs.Digits.{number_from}
-use Rattle.message.specs.Message.{words, digits_of, first_field, field_e, field_r, field_v, field_c, number_or, new_challenge_from}
+use Rattle.message.specs.Message.{words, digits_of, first_field, field_e, field_r, field_v, field_c}
+use Rattle.message.specs.Message.{number_or, new_challenge_from}
 use Rattle.message.specs.Inner.{ParsedFields, word_at, digits_at, IfSome, Small, Eight}
 use Rattle.message.proofs.Formed.{first_small, first_eight}
 use Rattle.message.proofs.judge.Goals as goal

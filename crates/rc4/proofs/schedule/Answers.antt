@@ -1,4 +1,5 @@
-use Rattle.std.proofs.Common.{ℕ, List, refl, length, get_or, sym, ap, mod-eq_of_lt, le_antisymm, rules}
+use Rattle.std.proofs.Common.{ℕ, List, refl, length, get_or, sym, ap, mod-eq_of_lt, le_antisymm}
+use Rattle.std.proofs.Common.{rules}
 use Rattle.rc4.specs.declared.State.{State}
 use Rattle.rc4.specs.Rc4.{upto, mixed, started}
 use Rattle.rc4.proofs.Turns.{ready_at, ready_turn, mixed_turn}

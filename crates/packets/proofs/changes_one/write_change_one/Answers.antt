@@ -3,7 +3,8 @@
 use mathlib.Core.Path.{◌≡◌}
 use borrow.Author.Tests.{lt-ltb, le-ltb}
 use Rattle.refusals.specs.declared.Refusal.TheVariants.{Room}
-use Rattle.packets.specs.ChangeOne.{change_one_packet, change_one_write_refusal, change_one_written, change_one_out}
+use Rattle.packets.specs.ChangeOne.{change_one_packet, change_one_write_refusal, change_one_written}
+use Rattle.packets.specs.ChangeOne.{change_one_out}
 use Rattle.packets.proofs.Writing.{nothing_written, packet_written}
 use Rattle.packets.proofs.changes_one.write_change_one.Goals as goal
 

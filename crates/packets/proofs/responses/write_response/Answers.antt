@@ -2,7 +2,8 @@
 -- Assumes nothing.
 use mathlib.Core.Path.{◌≡◌, sym, ◌∙◌}
 use Rattle.refusals.specs.declared.Refusal.TheVariants.{Name, Room}
-use Rattle.packets.specs.Response.{response_packet, response_write_refusal, response_written, response_out}
+use Rattle.packets.specs.Response.{response_packet, response_write_refusal, response_written}
+use Rattle.packets.specs.Response.{response_out}
 use Rattle.packets.proofs.Writing.{nothing_written, packet_written, response_fits}
 use Rattle.packets.proofs.responses.write_response.Goals as goal
 

@@ -5,7 +5,8 @@ use mathlib.Core.List.{List}
 use Prim.Native.Nat.{ℕ}
 use Rattle.std.specs.Prelude.{Err}
 use Rattle.refusals.specs.declared.Refusal.TheVariants.{Input, Filler}
-use Rattle.credentials.specs.Credentials.{bad_nt_password, bad_filler, nt_hash_of, sealed_block, sealed_as}
+use Rattle.credentials.specs.Credentials.{bad_nt_password, bad_filler, nt_hash_of, sealed_block}
+use Rattle.credentials.specs.Credentials.{sealed_as}
 use Rattle.packets.specs.declared.Change.{Change}
 use Rattle.packets.specs.Change.{change_written, change_out, change_write_refusal}
 use Rattle.peer.specs.Write.{change_fields, change_fields_of, change_for}

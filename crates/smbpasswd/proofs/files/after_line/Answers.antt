@@ -6,7 +6,8 @@ use Prim.Native.Nat.{ℕ}
 use Rattle.octets.specs.Parts.{agrees}
 use Rattle.smbpasswd.specs.Line.{field, is_account}
 use Rattle.smbpasswd.specs.File.{located}
-use Rattle.smbpasswd.proofs.Search.{located_back, after_comment, after_bad, after_named, after_other}
+use Rattle.smbpasswd.proofs.Search.{located_back, after_comment, after_bad, after_named}
+use Rattle.smbpasswd.proofs.Search.{after_other}
 use Rattle.smbpasswd.proofs.files.after_line.Goals as goal
 
 pub returns-then-is_comment : goal.returns-then-is_comment

@@ -4,7 +4,8 @@ use Prim.Native.Nat.{ℕ}
 use Rattle.smbpasswd.specs.declared.lines.Lines.{Lines}
 use Rattle.smbpasswd.specs.File.{Nowhere, located}
 use Rattle.smbpasswd.specs.Inner.{searched, placed_at, place_in}
-use Rattle.smbpasswd.proofs.Search.{placed_back, located_back, searched_more, searched_none, searched_place}
+use Rattle.smbpasswd.proofs.Search.{placed_back, located_back, searched_more, searched_none}
+use Rattle.smbpasswd.proofs.Search.{searched_place}
 use Rattle.smbpasswd.proofs.files.locate.Goals as goal
 
 pub loop-at-init : goal.loop-at-init

@@ -10,7 +10,8 @@ use Rattle.octets.proofs.Split.{part_behind}
 use Rattle.smbpasswd.specs.Line.{lf}
 use Rattle.smbpasswd.specs.Summary.{space, counts_of}
 use Rattle.smbpasswd.specs.Inner.{number_in}
-use Rattle.smbpasswd.proofs.Heading.{valued, not_valued, too_long, no_space, bad_first, bad_second, summed}
+use Rattle.smbpasswd.proofs.Heading.{valued, not_valued, too_long, no_space, bad_first, bad_second}
+use Rattle.smbpasswd.proofs.Heading.{summed}
 use Rattle.smbpasswd.proofs.summaries.summarize.Goals as goal
 
 -- the first line, what stands before the space in it and behind, and the file

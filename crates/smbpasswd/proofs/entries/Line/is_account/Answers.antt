@@ -8,7 +8,11 @@ use lib.ListN.{length}
 use Rattle.smbpasswd.specs.Line.{field, is_name, is_uid, is_hash, is_flags, is_time, is_account}
 use Rattle.smbpasswd.proofs.FieldLaws.{laid}
 use Rattle.smbpasswd.proofs.entries.Line.is_account.Goals as goal
-use Rattle.smbpasswd.proofs.entries.Line.is_account.Goals.{After-is_time, Else-is_flags, then-self, else-self, then-is_name, else-is_name, then-is_uid, else-is_uid, then-is_hash, else-is_hash, then-is_hash-2, else-is_hash-2}
+use Rattle.smbpasswd.proofs.entries.Line.is_account.Goals.{After-is_time, Else-is_flags, then-self}
+use Rattle.smbpasswd.proofs.entries.Line.is_account.Goals.{else-self, then-is_name, else-is_name}
+use Rattle.smbpasswd.proofs.entries.Line.is_account.Goals.{then-is_uid, else-is_uid, then-is_hash}
+use Rattle.smbpasswd.proofs.entries.Line.is_account.Goals.{else-is_hash, then-is_hash-2}
+use Rattle.smbpasswd.proofs.entries.Line.is_account.Goals.{else-is_hash-2}
 
 -- one test more, and none after one that failed
 went : {v p q t u : Bool} → p ≡ q → p ≡ true → v ≡ t → t ≡ u → v ≡ (q && u)
