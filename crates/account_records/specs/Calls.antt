@@ -55,7 +55,8 @@ failures_set bytes n =
 -- what setting it returns (r) and leaves in the record: the round keys are those that were there
 abbrev pub SetFailuresCall : List ℕ → ℕ → ℕ → List ℕ → Type 0
 SetFailuresCall bytes n r bytes_after =
-    Fills (set_failures_arguments bytes n) 0 (record_head (failures_set bytes n) ++ record_keys bytes)
+    Fills (set_failures_arguments bytes n) 0
+    (record_head (failures_set bytes n) ++ record_keys bytes)
     bytes r bytes_after
 
 -- ---- the response of its round keys (document 02, request 2026-10)

@@ -136,7 +136,8 @@ places_after used (Ok s) = s.used
 places_after used (Err r) = used
 
 -- what an opening answers (r), and leaves in the list and in the reply buffer
-pub record OpenedAs (o : Opening) (r : Result Started Refusal) (issued : Issued) (buffer : List ℕ) : Type 0 where
+pub record OpenedAs (o : Opening) (r : Result Started Refusal) (issued : Issued)
+    (buffer : List ℕ) : Type 0 where
   pub answer : opened_as o r ≡ opened o
   pub list : issued ≡ opened_issued o
   pub reply : buffer ≡ opened_buffer o

@@ -39,9 +39,9 @@ pub data Kind : Type 0 where
   Repeated : ℕ → Kind
   Judged : ℕ → Kind
 
--- What a step answers: the kind, beside a change that was judged and not accepted what is wrong with
--- it, the next conversation, how many octets of the reply buffer the reply takes, and the record
--- that is handed out; and the same without the round keys of the record.
+-- What a step answers: the kind, beside a change that was judged and not accepted what is wrong
+-- with it, the next conversation, how many octets of the reply buffer the reply takes, and the
+-- record that is handed out; and the same without the round keys of the record.
 pub record Answer : Type 0 where
   pub kind : Kind
   pub fault : Option ChangeFault

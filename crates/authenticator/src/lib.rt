@@ -69,9 +69,9 @@ pub struct Conversation {
 }
 
 // What an opening is asked for: the identifier and the challenge of its Challenge, and what it says
-// of the retries (silence is 2), of LM (silence disallows it) and of the change that is awaited after
-// an expired password (silence is version 2's), and with how many invalid Responses in a row an
-// account is locked.
+// of the retries (silence is 2), of LM (silence disallows it) and of the change that is awaited
+// after an expired password (silence is version 2's), and with how many invalid Responses in a row
+// an account is locked.
 #[derive(Clone, Copy)]
 pub struct Settings {
     pub id: u8,
@@ -195,8 +195,8 @@ impl Conversation {
         }
     }
 
-    // Whether a packet is refused. Whoever asks first need not get the round keys ready for a packet
-    // that is.
+    // Whether a packet is refused. Whoever asks first need not get the round keys ready for a
+    // packet that is.
     pub fn admits(self, packet: &[u8], reply: &[u8]) -> Result<(), Refusal>
         ensures { told result ≡ step_refusal self packet.now reply.now }
     {

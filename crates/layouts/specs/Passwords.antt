@@ -30,4 +30,5 @@ decode_password bytes =
 -- and they are an NT password's: an even number (document 01)
 unfoldable pub is_encoded_password : List ℕ → Bool
 is_encoded_password bytes =
-    is_encoding encode_password decode_password bytes && not (bad_nt_password (decode_password bytes))
+    is_encoding encode_password decode_password bytes
+    && not (bad_nt_password (decode_password bytes))

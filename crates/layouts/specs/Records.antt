@@ -1,6 +1,6 @@
 -- The layouts of entries (accounts without their round keys), of what a lookup found of one, and of
--- records: that and the round keys behind it. Each has a size, an encoder (`encode..`) and a decoder
--- (`decode..`), which is total; the names in `..At` are places.
+-- records: that and the round keys behind it. Each has a size, an encoder (`encode..`) and a
+-- decoder (`decode..`), which is total; the names in `..At` are places.
 -- Assumes nothing: these are definitions.
 use Rattle.std.specs.Prelude.{Bool, cond, ◌&&◌, List, [], ◌∷◌, ◌++◌, ℕ, ◌+◌, eqb}
 use Rattle.octets.specs.Parts.{part, fixed, agrees}
@@ -138,7 +138,8 @@ decode_record bytes =
 
 -- as many bytes as a record has, with that head in front
 abbrev pub is_record_of : EntryLookup → List ℕ → Bool
-is_record_of l bytes = sized record_size bytes && agrees (record_head l) (part 0 record_head_size bytes)
+is_record_of l bytes =
+    sized record_size bytes && agrees (record_head l) (part 0 record_head_size bytes)
 
 -- Bytes are a record's where those before the round keys are what the entry decoded from them
 -- encodes to. The round keys may be any.

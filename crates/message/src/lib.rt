@@ -226,7 +226,8 @@ fn word_at(message: &[u8], from: usize) -> &[u8]
 // Inside a field: the word at `from` is the first field of its kind. Behind it there is text again.
 #[cycle(in_field_in_text)]
 fn in_field(message: &[u8], from: usize, f: Fields) -> Fields
-    requires { (length message.now ≤ longest_message) × (is_new f (word_at message.now from) ≡ true) }
+    requires { (length message.now ≤ longest_message)
+        × (is_new f (word_at message.now from) ≡ true) }
     ensures { parsed_at message.now result ≡ completed message.now from f }
 {
     let word = word_at(message, from);

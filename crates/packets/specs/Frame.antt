@@ -26,7 +26,8 @@ framed code id d = code ∷ id ∷ (to_be 2 (head_size + length d) ++ d)
 
 -- refusal 3: under 4 octets, or Length under 4 or over what was passed
 abbrev pub bad_frame : List ℕ → Bool
-bad_frame p = ltb (length p) head_size || (ltb (length_of p) head_size || ltb (length p) (length_of p))
+bad_frame p =
+    ltb (length p) head_size || (ltb (length_of p) head_size || ltb (length p) (length_of p))
 
 -- refusal 5: another identifier than this one
 abbrev pub bad_id : ℕ → List ℕ → Bool

@@ -11,7 +11,8 @@ use Rattle.packets.specs.Sizes.{longest_response}
 use Rattle.packets.specs.declared.Response.{Response}
 
 unfoldable pub response_packet : ℕ → Response → List ℕ → List ℕ
-response_packet id f name = framed response_code id (value_size ∷ (f.lm ++ (f.nt ++ (f.flag ∷ name))))
+response_packet id f name =
+    framed response_code id (value_size ∷ (f.lm ++ (f.nt ++ (f.flag ∷ name))))
 
 -- the fields but the name; octets that the packet does not reach are 0
 abbrev pub read_response : List ℕ → Response
@@ -53,7 +54,9 @@ unfoldable pub response_write_refusal : List ℕ → List ℕ → ℕ
 response_write_refusal name out = cond (bad_name name) 10 (cond (short_for_response name out) 9 0)
 
 unfoldable pub response_written : ℕ → Response → List ℕ → List ℕ → Written
-response_written id f name out = answer_by (response_write_refusal name out) (response_packet id f name)
+response_written id f name out =
+    answer_by (response_write_refusal name out) (response_packet id f name)
 
 unfoldable pub response_out : ℕ → Response → List ℕ → List ℕ → List ℕ
-response_out id f name out = out_by (response_write_refusal name out) (response_packet id f name) out
+response_out id f name out =
+    out_by (response_write_refusal name out) (response_packet id f name) out

@@ -58,9 +58,10 @@ after_reply q reply = record { sent = q.sent; turn = next_turn q (peer_reads q r
 
 -- ---- what the methods promise
 
--- a packet was written as w says: the number of the refusal (0 is none) or what is answered (r), and
--- what is left in the buffer
-pub record Writes (q : Peer) (w : Wrote) (r : Result PacketWritten Refusal) (out_after : List ℕ) : Type 0 where
+-- a packet was written as w says: the number of the refusal (0 is none) or what is answered (r),
+-- and what is left in the buffer
+pub record Writes (q : Peer) (w : Wrote) (r : Result PacketWritten Refusal)
+    (out_after : List ℕ) : Type 0 where
   pub number : told r ≡ w.answer.refusal
   pub answer : IfOk r
       (λ p. p ≡ record { length = w.answer.length; peer = after_writing q w.answer })

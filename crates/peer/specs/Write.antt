@@ -52,10 +52,12 @@ response_fields challenge password = response_fields_of challenge (nt_hash_of pa
 
 abbrev pub change_fields : List ℕ → List ℕ → List ℕ → List ℕ → Change
 change_fields challenge old new filler =
-    change_fields_of challenge (nt_hash_of old) (nt_hash_of new) (sealed_block (nt_hash_of old) filler new)
+    change_fields_of challenge (nt_hash_of old) (nt_hash_of new)
+    (sealed_block (nt_hash_of old) filler new)
 
 abbrev pub change_one_fields : List ℕ → List ℕ → List ℕ → ChangeOne
-change_one_fields challenge old new = change_one_fields_of challenge (nt_hash_of old) (nt_hash_of new)
+change_one_fields challenge old new =
+    change_one_fields_of challenge (nt_hash_of old) (nt_hash_of new)
 
 unfoldable pub response_for : Turn → List ℕ → List ℕ → List ℕ
 response_for t password name = response_packet t.id (response_fields t.challenge password) name
@@ -101,5 +103,5 @@ write_change t old new filler out = wrote_by (write_change_refusal old new fille
     (change_for t old new filler) out
 
 unfoldable pub write_change_one : Turn → List ℕ → List ℕ → List ℕ → Wrote
-write_change_one t old new out = wrote_by (write_change_one_refusal old new out) (change_one_for t old new)
-    out
+write_change_one t old new out =
+    wrote_by (write_change_one_refusal old new out) (change_one_for t old new) out

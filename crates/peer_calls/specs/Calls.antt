@@ -57,5 +57,6 @@ change_arguments peer old new =
 pub record WriteCall (valid : Bool) (w : Wrote) (peer out : List ℕ) (r : ℕ)
     (peer_after out_after : List ℕ) : Type 0 where
   pub number : r ≡ numbered valid w.answer.refusal
-  pub next : peer_after ≡ after_call r (encode_peer (after_writing (decode_peer peer) w.answer)) peer
+  pub next : peer_after
+      ≡ after_call r (encode_peer (after_writing (decode_peer peer) w.answer)) peer
   pub packet : out_after ≡ after_call r w.out out

@@ -1,6 +1,6 @@
--- A line that loses packets (document 02, request 2026-08): a model of the line, and one claim above
--- demand 3. Words in quotes are that request's. The peer is a stop-and-wait sender: it writes its
--- next packet when it has read a reply to the one before, and retransmits that one until then.
+-- A line that loses packets (document 02, request 2026-08): a model of the line, and one claim
+-- above demand 3. Words in quotes are that request's. The peer is a stop-and-wait sender: it writes
+-- its next packet when it has read a reply to the one before, and retransmits that one until then.
 -- The claim is stated here and not proved yet.
 -- Assumes nothing: these are definitions.
 use Rattle.std.specs.Prelude.{Bool, true, false, cond, ◌&&◌, ◌||◌, List, [], ◌∷◌, ◌++◌, ◌≢◌, ◌≡◌, ℕ}
@@ -387,8 +387,8 @@ module _ (box : Box) (us : LinePeer) where
   -- ---- the premises
 
   -- Each copy that is delivered finds room for a reply (2); the first of them comes with the record
-  -- that demand 3 asks for, as one that is no repeat does: the right password's with the record last
-  -- handed out. What is passed with the others is any.
+  -- that demand 3 asks for, as one that is no repeat does: the right password's with the record
+  -- last handed out. What is passed with the others is any.
   abbrev pub CopyAllowed : Account → LineState → Option Copy → Delivery → Type 0
   CopyAllowed a s none l = Unit {0}
   CopyAllowed a s (some c) l =

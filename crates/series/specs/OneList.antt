@@ -50,7 +50,8 @@ pub record Openable (o : Opening) : Type 0 where
 -- a packet draws no Success, and no change is awaited behind it
 abbrev pub StaysShut : Conversation → StepInput → Type 0
 StaysShut c s =
-    (octet 0 (reply_of (our_box c s)) ≢ success_code) × ((next_after our_box c s).phase ≢ phases.Change)
+    (octet 0 (reply_of (our_box c s)) ≢ success_code)
+    × ((next_after our_box c s).phase ≢ phases.Change)
 
 module _ (opener : Opener) where
   abbrev pub left_by : Issued → Opening → Issued

@@ -104,12 +104,16 @@ rows =
     -- (f)
     ∷ record {
       input = opening 7 (1 ∷ 2 ∷ 3 ∷ 4 ∷ 5 ∷ 6 ∷ 7 ∷ 8 ∷ []);
-      output = octets (0x01 ∷ 0x07 ∷ 0x00 ∷ 0x0D ∷ 0x08 ∷ 0x01 ∷ 0x02 ∷ 0x03 ∷ 0x04 ∷ 0x05 ∷ 0x06 ∷ 0x07 ∷ 0x08 ∷ []);
+      output = octets
+          (0x01 ∷ 0x07 ∷ 0x00 ∷ 0x0D ∷ 0x08
+          ∷ 0x01 ∷ 0x02 ∷ 0x03 ∷ 0x04 ∷ 0x05 ∷ 0x06 ∷ 0x07 ∷ 0x08 ∷ []);
     }
     -- (g)
     ∷ record {
       input = response 9 (zero_response 9 0 55 50);
-      output = octets (0x04 ∷ 0x09 ∷ 0x00 ∷ 0x11 ∷ 0x45 ∷ 0x3D ∷ 0x36 ∷ 0x39 ∷ 0x31 ∷ 0x20 ∷ 0x52 ∷ 0x3D ∷ 0x31 ∷ 0x20 ∷ 0x56 ∷ 0x3D ∷ 0x32 ∷ []);
+      output = octets
+          (0x04 ∷ 0x09 ∷ 0x00 ∷ 0x11 ∷ 0x45 ∷ 0x3D ∷ 0x36 ∷ 0x39 ∷ 0x31 ∷ 0x20
+          ∷ 0x52 ∷ 0x3D ∷ 0x31 ∷ 0x20 ∷ 0x56 ∷ 0x3D ∷ 0x32 ∷ []);
     }
     -- (h), (i): as many octets as Length says
     ∷ record { input = response 7 (zero_response 7 0 54 49); output = refusal 6 }
@@ -119,7 +123,9 @@ rows =
     ∷ record { input = block (replicate 512 0 ++ (7 ∷ 0 ∷ 0 ∷ 0 ∷ [])); output = content Odd }
     -- (k) E=648 R=0 V=3 extra
     ∷ record {
-      input = message (69 ∷ 61 ∷ 54 ∷ 52 ∷ 56 ∷ 32 ∷ 82 ∷ 61 ∷ 48 ∷ 32 ∷ 86 ∷ 61 ∷ 51 ∷ 32 ∷ 101 ∷ 120 ∷ 116 ∷ 114 ∷ 97 ∷ []);
+      input = message
+          (69 ∷ 61 ∷ 54 ∷ 52 ∷ 56 ∷ 32 ∷ 82 ∷ 61 ∷ 48 ∷ 32 ∷ 86 ∷ 61 ∷ 51 ∷ 32
+          ∷ 101 ∷ 120 ∷ 116 ∷ 114 ∷ 97 ∷ []);
       output = fields 648 0 None 3;
     }
     -- (l) R=1 V=2

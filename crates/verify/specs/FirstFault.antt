@@ -2,8 +2,8 @@
 -- 2026-04): "the box's answer carries beside the 709 the first that holds of: no NT hash, bit 0
 -- clear, over 512, odd, old hash wrong, response wrong". Version 1 (request 2026-07): "its reason
 -- the first of LM not allowed and over 14 (these for bit 0 clear only), hash absent, old hash
--- wrong". That `change_fault` (specs/Change) and `change_one_fault` (specs/ChangeOne) say the same is
--- proved in proofs/FirstFault and FirstFaultOne.
+-- wrong". That `change_fault` (specs/Change) and `change_one_fault` (specs/ChangeOne) say the same
+-- is proved in proofs/FirstFault and FirstFaultOne.
 -- Assumes nothing: these are definitions.
 use Rattle.std.specs.Prelude.{Option, Some, None}
 use Rattle.std.specs.Prelude.{false, cond, List, ◌≢◌, ◌≡◌, ℕ, ◌%◌, ◌<◌}
@@ -34,7 +34,8 @@ use Rattle.verify.specs.declared.Terms.{Terms}
 -- a fault holds, by what each of them says, and none before it does
 pub record IsFirst (Holds : Option ChangeFault → Type 0) (fault : Option ChangeFault) : Type 0 where
   pub holds : Holds fault
-  pub none_before : (other : Option ChangeFault) → fault_number other < fault_number fault → Holds other → ⊥
+  pub none_before : (other : Option ChangeFault) → fault_number other < fault_number fault
+      → Holds other → ⊥
 
 -- What each of them says by itself; none is told of an accepted change. Of a version 2 change none
 -- of version 1's holds, and the other way round.
@@ -71,4 +72,5 @@ module _ (t : Terms) (kept : Entry) (challenge : List ℕ) (f : ChangeOne) where
   HoldsOne (Some LmNotAllowed) = (f.flags % 2 ≡ 0) × (t.lm ≡ false)
   HoldsOne (Some LengthOverLm) = (f.flags % 2 ≡ 0) × (14 < f.length)
   HoldsOne (Some HashAbsent) = (asked_hash kept f).present ≡ false
-  HoldsOne (Some HashWrong) = asked_field f ≢ hash_under_challenge (asked_hash kept f).octets challenge
+  HoldsOne (Some HashWrong) =
+      asked_field f ≢ hash_under_challenge (asked_hash kept f).octets challenge
