@@ -107,14 +107,25 @@ fn identifier(text: &str) -> String {
         .collect()
 }
 
+/// The type that an `impl` is of, by what stands behind that word: parameters, and a trait's name
+/// up to `for`, stand before it.
+fn type_of(rest: &str) -> String {
+    let rest = match rest.strip_prefix('<') {
+        Some(parameters) => parameters.split_once("> ").map_or("", |(_, rest)| rest),
+        None => rest.trim_start(),
+    };
+    identifier(rest.split_once(" for ").map_or(rest, |(_, rest)| rest))
+}
+
 fn items_of(krate: &str) -> Vec<Item> {
-    let mut out = Vec::new();
+    let mut out: Vec<Item> = Vec::new();
+    let mut public_types = BTreeSet::new();
     for text in texts(&root().join("crates").join(krate).join("src")) {
         let mut of = None;
         let lines: Vec<&str> = text.lines().collect();
         for (place, line) in lines.iter().enumerate() {
-            if let Some(rest) = line.strip_prefix("impl ") {
-                of = Some(identifier(rest));
+            if let Some(rest) = line.strip_prefix("impl") {
+                of = Some(type_of(rest));
             } else if *line == "}" {
                 of = None;
             }
@@ -122,7 +133,15 @@ fn items_of(krate: &str) -> Vec<Item> {
             for word in ["pub(crate) ", "pub ", "extern \"C\" "] {
                 rest = rest.strip_prefix(word).unwrap_or(rest);
             }
-            let kinds = ["fn ", "struct ", "enum "];
+            let kinds = ["fn ", "struct ", "enum ", "trait "];
+            if line.starts_with("pub ") && !rest.starts_with("fn ") {
+                public_types.extend(
+                    kinds
+                        .iter()
+                        .find_map(|kind| rest.strip_prefix(kind))
+                        .map(identifier),
+                );
+            }
             let Some(name) = kinds.iter().find_map(|kind| rest.strip_prefix(kind)) else {
                 continue;
             };
@@ -140,6 +159,10 @@ fn items_of(krate: &str) -> Vec<Item> {
                 requires: head().any(|line| line.starts_with("requires ")),
             });
         }
+    }
+    // a method of a type that the crate keeps to itself is no public function
+    for item in &mut out {
+        item.is_public_fn &= item.of.as_ref().is_none_or(|of| public_types.contains(of));
     }
     out
 }
@@ -228,8 +251,8 @@ impl Tree {
         }
     }
 
-    /// The functions and types that a path names: `crate::item`, `Type::method`, `item`, with `*`
-    /// for any ending.
+    /// The functions and types that a path names: `crate::item`, `Type::method`,
+    /// `crate::Type::method`, `item`, with `*` for any ending.
     fn found(&self, front: &str, name: &str) -> Vec<&Item> {
         let fits = |item: &&Item| match name.strip_suffix('*') {
             Some(start) => item.name.starts_with(start),
@@ -239,6 +262,9 @@ impl Tree {
             front.is_empty()
                 || (self.crates.contains(front) && item.krate == front)
                 || item.of.as_deref() == Some(front)
+                || front.split_once("::").is_some_and(|(krate, of)| {
+                    item.krate == krate && item.of.as_deref() == Some(of)
+                })
         };
         self.items.iter().filter(under).filter(fits).collect()
     }
