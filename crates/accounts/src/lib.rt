@@ -30,7 +30,9 @@ ghost use Rattle.accounts.specs.Account.{
 
 use credentials::SCHEDULES_SIZE;
 
-// A hash, or none: what stands in the octets of an absent hash has no effect.
+// A hash, or none: what stands in the octets of an absent hash has no effect. A flag and no Option:
+// the octets are laid out for C and read back as they stand, and a Response is judged over them
+// whether the hash is there or not, so that the time does not tell.
 #[derive(Clone, Copy)]
 pub struct Hash {
     pub present: bool,
@@ -60,7 +62,8 @@ pub struct Account {
 }
 
 // A record without its round keys: what a change reads and a conversation keeps. It is short, so
-// that it can be handed on by value.
+// that it can be handed on by value. A record has these fields, as document 01 names them, and no
+// Entry within it: whoever reads of a record reads of its hashes and its marks.
 #[derive(Clone, Copy)]
 pub struct Entry {
     pub nt: Hash,
@@ -72,7 +75,8 @@ pub struct Entry {
     pub failures: u8,
 }
 
-// The record of the named account, or none: the account has no effect unless it was found.
+// The record of the named account, or none: the account has no effect unless it was found. A flag
+// and no Option, for the reasons of Hash.
 #[derive(Clone, Copy)]
 pub struct Lookup {
     pub found: bool,
@@ -121,10 +125,10 @@ pub fn no_schedules() -> Schedules
 pub fn schedules_for(hash: Hash) -> Schedules
     ensures { result ≡ schedules_for hash }
 {
-    let octets = hash.octets;
     if hash.present {
-        let keys = credentials::hash_schedules(octets);
-        return Schedules { keys };
+        return Schedules {
+            keys: credentials::hash_schedules(hash.octets),
+        };
     }
     no_schedules()
 }
@@ -166,11 +170,9 @@ pub fn blank_entry() -> Entry
 pub fn with_schedules(entry: Entry, nt_keys: Schedules, lm_keys: Schedules) -> Account
     ensures { result ≡ with_schedules entry nt_keys lm_keys }
 {
-    let nt = entry.nt;
-    let lm = entry.lm;
     Account {
-        nt,
-        lm,
+        nt: entry.nt,
+        lm: entry.lm,
         disabled: entry.disabled,
         hours_denied: entry.hours_denied,
         dialin_denied: entry.dialin_denied,
@@ -185,9 +187,7 @@ pub fn with_schedules(entry: Entry, nt_keys: Schedules, lm_keys: Schedules) -> A
 pub fn account_of(entry: Entry) -> Account
     ensures { result ≡ account_of entry }
 {
-    let nt = entry.nt;
-    let lm = entry.lm;
-    with_schedules(entry, schedules_for(nt), schedules_for(lm))
+    with_schedules(entry, schedules_for(entry.nt), schedules_for(entry.lm))
 }
 
 pub fn account_with(
@@ -212,11 +212,9 @@ pub fn blank_account() -> Account
 pub fn entry_of(account: Account) -> Entry
     ensures { result ≡ entry_of account }
 {
-    let nt = account.nt;
-    let lm = account.lm;
     Entry {
-        nt,
-        lm,
+        nt: account.nt,
+        lm: account.lm,
         disabled: account.disabled,
         hours_denied: account.hours_denied,
         dialin_denied: account.dialin_denied,
@@ -248,21 +246,18 @@ pub fn not_found() -> Lookup
 pub fn no_entry() -> EntryLookup
     ensures { result ≡ no_entry }
 {
-    let entry = blank_entry();
     EntryLookup {
         found: false,
-        entry,
+        entry: blank_entry(),
     }
 }
 
 pub fn entry_lookup_of(lookup: Lookup) -> EntryLookup
     ensures { result ≡ entry_lookup_of lookup }
 {
-    let account = lookup.account;
-    let entry = entry_of(account);
     EntryLookup {
         found: lookup.found,
-        entry,
+        entry: entry_of(lookup.account),
     }
 }
 
@@ -273,14 +268,13 @@ pub fn entry_lookup_of(lookup: Lookup) -> EntryLookup
 pub fn changed_entry(entry: Entry, nt: Hash, lm: Hash) -> Entry
     ensures { result ≡ changed_entry entry nt lm }
 {
-    entry_with(
+    Entry {
         nt,
         lm,
-        entry.disabled,
-        entry.hours_denied,
-        entry.dialin_denied,
-        false,
-    )
+        expired: false,
+        failures: 0,
+        ..entry
+    }
 }
 
 // The record after an accepted change, with the round keys of the new hashes.
@@ -294,28 +288,15 @@ pub fn changed(entry: Entry, nt: Hash, lm: Hash) -> Account
 pub fn entry_failures(entry: Entry, failures: u8) -> Entry
     ensures { result ≡ entry_failures failures entry }
 {
-    let nt = entry.nt;
-    let lm = entry.lm;
-    Entry {
-        nt,
-        lm,
-        disabled: entry.disabled,
-        hours_denied: entry.hours_denied,
-        dialin_denied: entry.dialin_denied,
-        expired: entry.expired,
-        failures,
-    }
+    Entry { failures, ..entry }
 }
 
 // The same record with another count of failures. With 0 it is unlocked.
 pub fn with_failures(account: Account, failures: u8) -> Account
     ensures { result ≡ with_failures failures account }
 {
-    let nt_keys = account.nt_keys;
-    let lm_keys = account.lm_keys;
-    with_schedules(
-        entry_failures(entry_of(account), failures),
-        nt_keys,
-        lm_keys,
-    )
+    Account {
+        failures,
+        ..account
+    }
 }

@@ -31,6 +31,7 @@ pub fn challenges_from(challenge: [u8; 8]) -> [u8; 64]
     let mut next = challenge;
     for place in &mut run {
         *place = next;
+        // by a name: a call's result is not laid in what a loop holds on to
         let after = incremented(next);
         next = after;
     }

@@ -35,6 +35,7 @@ pub const SCHEDULES_SIZE: usize = 3 * 16;
 pub const STORED_SIZE: usize = 8 * SCHEDULES_SIZE;
 
 // What an opened block holds: a length over 512, an odd length, or a password of this many octets.
+// No Result: the first two are no refusals, but what a change is found faulty for.
 #[derive(Clone, Copy)]
 pub enum Content {
     Over,

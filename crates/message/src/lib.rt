@@ -235,7 +235,8 @@ fn in_field(message: &[u8], from: usize, f: Fields) -> Fields
     in_text(message, from + word.len() + 1, noted)
 }
 
-// Inside text to be skipped: it goes on to a word that is the first field of its kind.
+// Inside text to be skipped: it goes on to a word that is the first field of its kind. A loop over
+// places and no iterator of words: either state takes over at the place where the other stands.
 #[cycle(in_field_in_text)]
 fn in_text(message: &[u8], at: usize, f: Fields) -> Fields
     requires { length message.now ≤ longest_message }

@@ -109,6 +109,9 @@ pub fn agree(a: &[u8], b: &[u8]) -> bool
 }
 
 // ---- numbers
+//
+// Each is the library's method. They say it in the words of specs/Numbers, as whoever reads or
+// writes a field of a packet does.
 
 // Two octets, the most significant first.
 pub fn u16_from_be(a: u8, b: u8) -> u16

@@ -20,7 +20,7 @@ pub returns-then-hash : goal.returns-then-hash
 returns-then-hash c =
     let i = c in
     let h = i.args.hash in
-    ap stored c.hash_schedules-keys.ensures ∙ ap (chosen h) (sym i.if-hash.true)
+    ap stored c.hash_schedules.ensures ∙ ap (chosen h) (sym i.if-hash.true)
 
 pub returns : goal.returns
 returns c =
