@@ -11,4 +11,4 @@ mod writing;
 pub use digits::{octets, octets_in};
 pub use keys::{names_hash, numbers};
 pub use words::{number, octet, word};
-pub use writing::{Hex, Keys, put_result, put_written};
+pub use writing::{Hex, Keys, put_octets, put_result, put_written};

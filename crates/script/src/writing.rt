@@ -37,13 +37,18 @@ impl fmt::Display for Keys {
     }
 }
 
-// A command's result: octets, or why there are none.
+// A command's result that is octets.
+pub fn put_octets(output: &mut impl Write, octets: &[u8]) -> io::Result<()> {
+    write!(output, " = {}", Hex(octets))
+}
+
+// The same, or why there are none.
 pub fn put_result<const N: usize>(
     output: &mut impl Write,
     answer: Result<[u8; N], Refusal>,
 ) -> io::Result<()> {
     match answer {
-        Ok(octets) => write!(output, " = {}", Hex(&octets)),
+        Ok(octets) => put_octets(output, &octets),
         Err(refusal) => write!(output, " = refused {refusal}"),
     }
 }
