@@ -16,7 +16,10 @@ fn successful(output: &mut impl Write) -> io::Result<()> {
 }
 
 fn failed(output: &mut impl Write) -> io::Result<()> {
-    writeln!(output, "\nB.1.2 Failed authentication with no retry allowed")?;
+    writeln!(
+        output,
+        "\nB.1.2 Failed authentication with no retry allowed"
+    )?;
     let settings = Settings {
         retries: Some(0),
         ..usual_settings()
@@ -43,13 +46,19 @@ fn attacked(output: &mut impl Write) -> io::Result<()> {
 
 // A later conversation, with the record that a change handed out.
 fn later(output: &mut impl Write, record: Lookup) -> io::Result<()> {
-    writeln!(output, "   The box hands out a record with the new password's hash. In a later conversation:")?;
+    writeln!(
+        output,
+        "   The box hands out a record with the new password's hash. In a later conversation:"
+    )?;
     let mut ends = Loopback::open(output, settings(8, another_challenge()))?;
     ends.response(output, Password::New, record)
 }
 
 fn changed(output: &mut impl Write) -> io::Result<()> {
-    writeln!(output, "\nB.1.5 Successful authentication with password change")?;
+    writeln!(
+        output,
+        "\nB.1.5 Successful authentication with password change"
+    )?;
     let mut ends = Loopback::open(output, usual_settings())?;
     ends.response(output, Password::Right, account(true)?)?;
     ends.change(output, Password::Right)?;
@@ -57,7 +66,10 @@ fn changed(output: &mut impl Write) -> io::Result<()> {
 }
 
 fn retried_and_changed(output: &mut impl Write) -> io::Result<()> {
-    writeln!(output, "\nB.1.6 Successful authentication with retry and password change")?;
+    writeln!(
+        output,
+        "\nB.1.6 Successful authentication with retry and password change"
+    )?;
     let mut ends = Loopback::open(output, usual_settings())?;
     ends.response(output, Password::Wrong, account(true)?)?;
     ends.response(output, Password::Right, account(true)?)?;
@@ -70,7 +82,10 @@ fn missed(output: &mut impl Write) -> io::Result<()> {
     let mut ends = Loopback::open(output, usual_settings())?;
     let peer = ends.peer;
     ends.response(output, Password::Right, account(false)?)?;
-    writeln!(output, "   The peer does not hear it, and sends its Response again:")?;
+    writeln!(
+        output,
+        "   The peer does not hear it, and sends its Response again:"
+    )?;
     ends.peer = peer;
     ends.response(output, Password::Right, account(false)?)
 }
@@ -82,7 +97,10 @@ fn refused_change(output: &mut impl Write) -> io::Result<()> {
     ends.response(output, Password::Right, account(true)?)?;
     let peer = ends.peer;
     ends.change(output, Password::Wrong)?;
-    writeln!(output, "   The peer does not hear it, and sends its change again. The box judges it once, and")?;
+    writeln!(
+        output,
+        "   The peer does not hear it, and sends its change again. The box judges it once, and"
+    )?;
     writeln!(output, "   says once what is wrong:")?;
     ends.peer = peer;
     ends.change(output, Password::Wrong)
@@ -90,7 +108,10 @@ fn refused_change(output: &mut impl Write) -> io::Result<()> {
 
 // As B.1.5, at a box for handsets that know no other change.
 fn changed_by_one(output: &mut impl Write) -> io::Result<()> {
-    writeln!(output, "\nA version 1 change: for handsets that know no other")?;
+    writeln!(
+        output,
+        "\nA version 1 change: for handsets that know no other"
+    )?;
     let mut ends = Loopback::open(output, settings_for_one())?;
     ends.response(output, Password::Right, account(true)?)?;
     ends.change_one(output)?;

@@ -83,8 +83,8 @@ pub fn or_invalid<T>(answer: Result<T, Refusal>) -> io::Result<T> {
 
 // ---- the opening
 
-// A list of issued challenges, of which so many places are used. (An opening is lent it in these
-// parts, which C keeps, and it may be empty to the end: no slice.)
+// A list of issued challenges, of which so many places are used. (An array with a number beside it:
+// an opening is lent the list in these parts, as C keeps it, the places that are free among them.)
 #[derive(Clone, Copy)]
 pub struct IssuedList {
     octets: [u8; 64],
@@ -117,7 +117,11 @@ impl IssuedList {
     pub fn say(&self, output: &mut impl Write) -> io::Result<()> {
         // the bound keeps the product small
         let issued = octets::part_of(&self.octets, 0, 8 * self.used.min(8));
-        write!(output, "      The list has {} challenges of 8 octets,", self.used)?;
+        write!(
+            output,
+            "      The list has {} challenges of 8 octets,",
+            self.used
+        )?;
         write!(output, " for each opening its own and one for each retry: ")?;
         writeln!(output, "{}", Shown(issued))
     }
@@ -246,7 +250,10 @@ impl Loopback {
     pub fn say_failures(&self, output: &mut impl Write) -> io::Result<()> {
         let failures = self.updated.account.failures;
         let limit = self.conversation.terms.limit;
-        write!(output, "      Invalid Responses in a row, by the record that is handed out: ")?;
+        write!(
+            output,
+            "      Invalid Responses in a row, by the record that is handed out: "
+        )?;
         writeln!(output, "{failures}. At {limit} the account is locked.")
     }
 
@@ -254,7 +261,10 @@ impl Loopback {
 
     // Writes a Response from a password.
     pub fn write_response(&self, password: Password, out: &mut [u8]) -> io::Result<PacketWritten> {
-        or_invalid(self.peer.write_response(password.octets(), b"BENCH\\user", out))
+        or_invalid(
+            self.peer
+                .write_response(password.octets(), b"BENCH\\user", out),
+        )
     }
 
     // A Response from a password, with a record.

@@ -3,9 +3,8 @@ use accounts::Lookup;
 use authenticator::Drawn;
 use message::{Call, Failed, Verdict};
 use refusals::Refusal;
-use std::fmt;
-use std::io;
 use std::io::Write;
+use std::{fmt, io};
 use verify::{ChangeFault, ChangeVersion, Terms};
 
 // Octets as digits, 72 of them at most, as many as a version 1 change has, and dots for the rest.
@@ -26,12 +25,20 @@ impl fmt::Display for Shown<'_> {
 
 // The challenge that a retry answers, as the rule makes it or as a slip does.
 pub fn next_challenge(output: &mut impl Write, whose: &str, challenge: [u8; 8]) -> io::Result<()> {
-    writeln!(output, "      {whose} the next challenge: {}", Shown(&challenge))
+    writeln!(
+        output,
+        "      {whose} the next challenge: {}",
+        Shown(&challenge)
+    )
 }
 
 // The octets of a packet from a place on, as a rule has them or as a slip does.
 pub fn place(output: &mut impl Write, whose: &str, at: usize, octets: &[u8]) -> io::Result<()> {
-    writeln!(output, "      {whose} from octet {at} on: {}", Shown(octets))
+    writeln!(
+        output,
+        "      {whose} from octet {at} on: {}",
+        Shown(octets)
+    )
 }
 
 // An opening that was refused, with the challenge that it was passed.
@@ -40,12 +47,19 @@ pub(crate) fn refused_opening(
     refusal: Refusal,
     challenge: [u8; 8],
 ) -> io::Result<()> {
-    writeln!(output, "      The box does not open with {}", Shown(&challenge))?;
+    writeln!(
+        output,
+        "      The box does not open with {}",
+        Shown(&challenge)
+    )?;
     let why = match refusal {
         Refusal::Issued => ": it, or a successor of it, stands in the list",
         _ => "",
     };
-    writeln!(output, "      Refusal {refusal}{why}. No Challenge is sent.")
+    writeln!(
+        output,
+        "      Refusal {refusal}{why}. No Challenge is sent."
+    )
 }
 
 fn kind(code: u8) -> &'static str {
@@ -64,7 +78,11 @@ fn packet(output: &mut impl Write, way: &str, octets: &[u8]) -> io::Result<()> {
     let name = kind(packets::octet(octets, 0));
     let id = packets::octet(octets, 1);
     let length = packets::length(octets);
-    writeln!(output, "   {way} {name} id {id}, {length} octets: {}", Shown(octets))
+    writeln!(
+        output,
+        "   {way} {name} id {id}, {length} octets: {}",
+        Shown(octets)
+    )
 }
 
 // What a packet of the box means; of a Failure the message itself.
@@ -89,10 +107,14 @@ pub(crate) fn from_box(output: &mut impl Write, octets: &[u8]) -> io::Result<()>
     meaning(output, octets)
 }
 
-// That the box was asked for LM, where it was, and that it awaits version 1's change, where it does.
+// That the box was asked for LM, where it was, and that it awaits version 1's change, where it
+// does.
 pub(crate) fn terms(output: &mut impl Write, terms: Terms) -> io::Result<()> {
     if terms.lm {
-        writeln!(output, "      This box was asked for LM: it judges an LM response too.")?;
+        writeln!(
+            output,
+            "      This box was asked for LM: it judges an LM response too."
+        )?;
     }
     match terms.change {
         ChangeVersion::One => {
@@ -124,10 +146,17 @@ pub(crate) fn repeated(output: &mut impl Write, drawn: Drawn) -> io::Result<()> 
 pub fn lm_of(output: &mut impl Write, record: Lookup) -> io::Result<()> {
     let lm = record.account.lm;
     if !lm.present {
-        return writeln!(output, "      The record that is handed out has no LM hash.");
+        return writeln!(
+            output,
+            "      The record that is handed out has no LM hash."
+        );
     }
     let octets = lm.octets;
-    writeln!(output, "      The record that is handed out has the LM hash: {}", Shown(&octets))
+    writeln!(
+        output,
+        "      The record that is handed out has the LM hash: {}",
+        Shown(&octets)
+    )
 }
 
 fn fault_text(fault: ChangeFault) -> &'static str {
@@ -161,7 +190,11 @@ fn fault_text(fault: ChangeFault) -> &'static str {
 // nothing.
 pub(crate) fn support(output: &mut impl Write, fault: Option<ChangeFault>) -> io::Result<()> {
     match fault {
-        Some(fault) => writeln!(output, "      The support desk reads: {}", fault_text(fault)),
+        Some(fault) => writeln!(
+            output,
+            "      The support desk reads: {}",
+            fault_text(fault)
+        ),
         None => Ok(()),
     }
 }

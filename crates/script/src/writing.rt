@@ -1,8 +1,7 @@
 // How octets and results are written.
 use refusals::Refusal;
-use std::fmt;
-use std::io;
 use std::io::Write;
+use std::{fmt, io};
 
 // Octets as upper-case hexadecimal digits; `-` for none.
 #[derive(Clone, Copy)]

@@ -80,7 +80,12 @@ fn put_step(output: &mut impl Write, step: Step, reply: &[u8]) -> io::Result<()>
         Drawn::Judged(reason) => (reason, 0),
     };
     let fault = verify::fault_number(step.fault);
-    write!(output, " = 0 {reason} {repeated} {fault} {} {}", step.written, Hex(reply))
+    write!(
+        output,
+        " = 0 {reason} {repeated} {fault} {} {}",
+        step.written,
+        Hex(reply)
+    )
 }
 
 // ---- the commands
@@ -129,8 +134,9 @@ impl ScriptState {
         write!(output, " {}", self.list)
     }
 
-    // step PACKET BUFFER: REFUSAL REASON REPEATED FAULT WRITTEN BUFFER CONVERSATION RECORD. The next
-    // conversation becomes the current one, and the record is kept for `relend` and `schedules`.
+    // step PACKET BUFFER: REFUSAL REASON REPEATED FAULT WRITTEN BUFFER CONVERSATION RECORD. The
+    // next conversation becomes the current one, and the record is kept for `relend` and
+    // `schedules`.
     fn step(&mut self, output: &mut impl Write, line: &[u8]) -> io::Result<()> {
         let mut packet_room = [0u8; 2048];
         let packet = script::octets_in(line, 1, &mut packet_room);

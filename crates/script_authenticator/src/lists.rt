@@ -50,7 +50,11 @@ impl List {
 
     // Opens a conversation on the list, which goes on as the opening leaves it. (Two of its fields
     // cannot be lent at once, so that they are copied.)
-    pub(crate) fn open(&mut self, settings: Settings, reply: &mut [u8]) -> Result<Started, Refusal> {
+    pub(crate) fn open(
+        &mut self,
+        settings: Settings,
+        reply: &mut [u8],
+    ) -> Result<Started, Refusal> {
         let mut octets = self.octets;
         let mut counts = self.counts;
         let started = Conversation::open(

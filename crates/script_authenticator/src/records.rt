@@ -85,7 +85,11 @@ fn put_entry(output: &mut impl Write, entry: Entry) -> io::Result<()> {
     let hours = u8::from(entry.hours_denied);
     let dialin = u8::from(entry.dialin_denied);
     let expired = u8::from(entry.expired);
-    write!(output, "{disabled}{hours}{dialin}{expired}/{}", entry.failures)
+    write!(
+        output,
+        "{disabled}{hours}{dialin}{expired}/{}",
+        entry.failures
+    )
 }
 
 // The same, with `-` for no record.
@@ -137,7 +141,13 @@ fn put_last(output: &mut impl Write, last: LastAnswer) -> io::Result<()> {
     match last.reply {
         Reply::Success => write!(output, " {}:{}:success", last.code, last.id),
         Reply::Failure(reason, retry) => {
-            write!(output, " {}:{}:{reason}/{}", last.code, last.id, u8::from(retry))
+            write!(
+                output,
+                " {}:{}:{reason}/{}",
+                last.code,
+                last.id,
+                u8::from(retry)
+            )
         }
     }
 }
@@ -148,7 +158,13 @@ pub(crate) fn put_conversation(
     conversation: Conversation,
 ) -> io::Result<()> {
     let challenge = conversation.challenge;
-    write!(output, " {} {} {}", conversation.id, Hex(&challenge), conversation.retries)?;
+    write!(
+        output,
+        " {} {} {}",
+        conversation.id,
+        Hex(&challenge),
+        conversation.retries
+    )?;
     put_terms(output, conversation.terms)?;
     put_phase(output, conversation.phase, conversation.kept)?;
     put_last(output, conversation.last)

@@ -41,7 +41,8 @@ impl Session {
         }
     }
 
-    // Writes a command's line and its result. Each crate writes the result of its own commands only.
+    // Writes a command's line and its result. Each crate writes the result of its own commands
+    // only.
     fn run_command(&mut self, output: &mut impl Write, line: &[u8]) -> io::Result<()> {
         output.write_all(line)?;
         script_ciphers::run(output, line)?;

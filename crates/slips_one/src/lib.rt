@@ -38,9 +38,18 @@ fn slipped(output: &mut impl Write, slip: [u8; 32]) -> io::Result<()> {
 
 // A.17's routine takes its keys from sixteen octets: the slip passes it the challenge, and zeros.
 fn next_seven(output: &mut impl Write) -> io::Result<()> {
-    writeln!(output, "\nSlip: the second half of a hash under the challenge's next seven octets, as in A.17.")?;
-    writeln!(output, "   Both halves are under its first seven (A.9). The slip calls A.17's routine, with zeros")?;
-    writeln!(output, "   behind the challenge. Look at the second half of each hash: the first ones are right.")?;
+    writeln!(
+        output,
+        "\nSlip: the second half of a hash under the challenge's next seven octets, as in A.17."
+    )?;
+    writeln!(
+        output,
+        "   Both halves are under its first seven (A.9). The slip calls A.17's routine, with zeros"
+    )?;
+    writeln!(
+        output,
+        "   behind the challenge. Look at the second half of each hash: the first ones are right."
+    )?;
     let keys = octets::array_at(&challenge(), 0);
     slipped(
         output,
@@ -53,8 +62,14 @@ fn next_seven(output: &mut impl Write) -> io::Result<()> {
 
 fn new_before_old(output: &mut impl Write) -> io::Result<()> {
     writeln!(output, "\nSlip: the new hash before the old one.")?;
-    writeln!(output, "   The old one comes first, of LM and of NT. Look at the two hashes from octet 36 on. Two")?;
-    writeln!(output, "   ends by one hand agree on the slip, until the first handset of another maker.")?;
+    writeln!(
+        output,
+        "   The old one comes first, of LM and of NT. Look at the two hashes from octet 36 on. Two"
+    )?;
+    writeln!(
+        output,
+        "   ends by one hand agree on the slip, until the first handset of another maker."
+    )?;
     let challenge = challenge();
     slipped(
         output,
@@ -93,13 +108,25 @@ fn with_length(
 
 // The change draws Success either way: the record shows the slip.
 fn least_first(output: &mut impl Write) -> io::Result<()> {
-    writeln!(output, "\nSlip: the length of a version 1 change with its least significant octet first.")?;
-    writeln!(output, "   A handset sends LM hashes too. The box takes the new one where the new password has at")?;
-    writeln!(output, "   most 14 characters: 'MyNewPw' has 7. Look at octets 68 and 69, and at the record.")?;
+    writeln!(
+        output,
+        "\nSlip: the length of a version 1 change with its least significant octet first."
+    )?;
+    writeln!(
+        output,
+        "   A handset sends LM hashes too. The box takes the new one where the new password has at"
+    )?;
+    writeln!(
+        output,
+        "   most 14 characters: 'MyNewPw' has 7. Look at octets 68 and 69, and at the record."
+    )?;
     let ends = expired(output)?;
     let right = "The handset sends LM and NT hashes, and the length as 0007.";
     with_length(output, ends, [0, 7], right)?;
-    writeln!(output, "   In place of that, with the slip: the box reads 1792, and takes no LM hash. An old phone")?;
+    writeln!(
+        output,
+        "   In place of that, with the slip: the box reads 1792, and takes no LM hash. An old phone"
+    )?;
     writeln!(output, "   that answers by LM is turned away from then on.")?;
     let slip = "The handset sends LM and NT hashes, and the length as 0700.";
     with_length(output, ends, [7, 0], slip)
