@@ -1,135 +1,121 @@
 // The six exchanges of RFC 2433, B.1, a Success that did not arrive, a change that is not accepted,
 // and a version 1 change.
 use accounts::Lookup;
-use authenticator::Retries;
+use authenticator::Settings;
 use loopback::{
-    Loopback, again, another_challenge, challenge, change, change_of, change_one, new_one, opening,
-    opening_for_one, response, rightly, say, title, usual_opening, wrong, wrongly,
+    Loopback, Password, account, another_challenge, challenge, settings, settings_for_one,
+    usual_settings,
 };
 use std::io;
 use std::io::Write;
 
 fn successful(output: &mut impl Write) -> io::Result<()> {
-    title(output, b"B.1.1 Successful authentication")?;
-    let loopback = usual_opening(output)?;
-    rightly(output, loopback, false)?;
-    Ok(())
+    writeln!(output, "\nB.1.1 Successful authentication")?;
+    let mut ends = Loopback::open(output, usual_settings())?;
+    ends.response(output, Password::Right, account(false)?)
 }
 
 fn failed(output: &mut impl Write) -> io::Result<()> {
-    title(output, b"B.1.2 Failed authentication with no retry allowed")?;
-    let loopback = opening(output, 7, challenge(), Retries::Count(0))?;
-    wrongly(output, loopback, false)?;
-    Ok(())
+    writeln!(
+        output,
+        "\nB.1.2 Failed authentication with no retry allowed"
+    )?;
+    let settings = Settings {
+        retries: Some(0),
+        ..usual_settings()
+    };
+    let mut ends = Loopback::open(output, settings)?;
+    ends.response(output, Password::Wrong, account(false)?)
 }
 
 fn retried(output: &mut impl Write) -> io::Result<()> {
-    title(output, b"B.1.3 Successful authentication after retry")?;
-    let mut loopback = opening(output, 255, challenge(), Retries::Default)?;
-    loopback = wrongly(output, loopback, false)?;
-    rightly(output, loopback, false)?;
-    Ok(())
+    writeln!(output, "\nB.1.3 Successful authentication after retry")?;
+    let mut ends = Loopback::open(output, settings(255, challenge()))?;
+    ends.response(output, Password::Wrong, account(false)?)?;
+    ends.response(output, Password::Right, account(false)?)
 }
 
 fn attacked(output: &mut impl Write) -> io::Result<()> {
-    title(output, b"B.1.4 Failed hack attack with 3 attempts allowed")?;
-    let mut loopback = usual_opening(output)?;
-    loopback = wrongly(output, loopback, false)?;
-    loopback = wrongly(output, loopback, false)?;
-    wrongly(output, loopback, false)?;
+    writeln!(output, "\nB.1.4 Failed hack attack with 3 attempts allowed")?;
+    let mut ends = Loopback::open(output, usual_settings())?;
+    for _ in 0..3 {
+        ends.response(output, Password::Wrong, account(false)?)?;
+    }
     Ok(())
 }
 
-// A conversation with the record that the change handed out.
-fn with_new_password(output: &mut impl Write, record: Lookup) -> io::Result<()> {
-    let new = new_one();
-    let made = b"The peer answers from the new password, and says who it is: BENCH\\user.";
-    let loopback = opening(output, 8, another_challenge(), Retries::Default)?;
-    response(output, loopback, &new, made, record)?;
-    Ok(())
-}
-
-// The same with the record of these two ends.
-fn later(output: &mut impl Write, loopback: Loopback) -> io::Result<()> {
-    say(
+// A later conversation, with the record that a change handed out.
+fn later(output: &mut impl Write, record: Lookup) -> io::Result<()> {
+    writeln!(
         output,
-        b"   The box hands out a record with the new password's hash. In a later conversation:",
+        "   The box hands out a record with the new password's hash. In a later conversation:"
     )?;
-    let record = loopback.updated;
-    with_new_password(output, record)
+    let mut ends = Loopback::open(output, settings(8, another_challenge()))?;
+    ends.response(output, Password::New, record)
 }
 
 fn changed(output: &mut impl Write) -> io::Result<()> {
-    title(
+    writeln!(
         output,
-        b"B.1.5 Successful authentication with password change",
+        "\nB.1.5 Successful authentication with password change"
     )?;
-    let mut loopback = usual_opening(output)?;
-    loopback = rightly(output, loopback, true)?;
-    loopback = change(output, loopback)?;
-    later(output, loopback)
+    let mut ends = Loopback::open(output, usual_settings())?;
+    ends.response(output, Password::Right, account(true)?)?;
+    ends.change(output, Password::Right)?;
+    later(output, ends.updated)
 }
 
 fn retried_and_changed(output: &mut impl Write) -> io::Result<()> {
-    title(
+    writeln!(
         output,
-        b"B.1.6 Successful authentication with retry and password change",
+        "\nB.1.6 Successful authentication with retry and password change"
     )?;
-    let mut loopback = usual_opening(output)?;
-    loopback = wrongly(output, loopback, true)?;
-    loopback = rightly(output, loopback, true)?;
-    change(output, loopback)?;
-    Ok(())
+    let mut ends = Loopback::open(output, usual_settings())?;
+    ends.response(output, Password::Wrong, account(true)?)?;
+    ends.response(output, Password::Right, account(true)?)?;
+    ends.change(output, Password::Right)
 }
 
 // The peer has the same octets to send: it is where it was.
 fn missed(output: &mut impl Write) -> io::Result<()> {
-    title(output, b"A Success that did not arrive")?;
-    let mut loopback = usual_opening(output)?;
-    let peer = loopback.peer;
-    loopback = rightly(output, loopback, false)?;
-    say(
+    writeln!(output, "\nA Success that did not arrive")?;
+    let mut ends = Loopback::open(output, usual_settings())?;
+    let peer = ends.peer;
+    ends.response(output, Password::Right, account(false)?)?;
+    writeln!(
         output,
-        b"   The peer does not hear it, and sends its Response again:",
+        "   The peer does not hear it, and sends its Response again:"
     )?;
-    again(output, loopback, peer)?;
-    Ok(())
-}
-
-// A change from a wrong old password.
-fn wrongly_changed(output: &mut impl Write, loopback: Loopback) -> io::Result<Loopback> {
-    let old = wrong();
-    let made = b"The peer sends the new password sealed under a wrong one's hash.";
-    change_of(output, loopback, &old, made)
+    ends.peer = peer;
+    ends.response(output, Password::Right, account(false)?)
 }
 
 // The change is sent twice: a repeat is not judged, and only the first answer says why.
 fn refused_change(output: &mut impl Write) -> io::Result<()> {
-    title(output, b"A change from a wrong old password")?;
-    let mut loopback = usual_opening(output)?;
-    loopback = rightly(output, loopback, true)?;
-    let peer = loopback.peer;
-    loopback = wrongly_changed(output, loopback)?;
-    say(
+    writeln!(output, "\nA change from a wrong old password")?;
+    let mut ends = Loopback::open(output, usual_settings())?;
+    ends.response(output, Password::Right, account(true)?)?;
+    let peer = ends.peer;
+    ends.change(output, Password::Wrong)?;
+    writeln!(
         output,
-        b"   The peer does not hear it, and sends its change again. The box judges it once, and",
+        "   The peer does not hear it, and sends its change again. The box judges it once, and"
     )?;
-    say(output, b"   says once what is wrong:")?;
-    loopback.peer = peer;
-    wrongly_changed(output, loopback)?;
-    Ok(())
+    writeln!(output, "   says once what is wrong:")?;
+    ends.peer = peer;
+    ends.change(output, Password::Wrong)
 }
 
 // As B.1.5, at a box for handsets that know no other change.
 fn changed_by_one(output: &mut impl Write) -> io::Result<()> {
-    title(
+    writeln!(
         output,
-        b"A version 1 change: for handsets that know no other",
+        "\nA version 1 change: for handsets that know no other"
     )?;
-    let mut loopback = opening_for_one(output)?;
-    loopback = rightly(output, loopback, true)?;
-    loopback = change_one(output, loopback)?;
-    later(output, loopback)
+    let mut ends = Loopback::open(output, settings_for_one())?;
+    ends.response(output, Password::Right, account(true)?)?;
+    ends.change_one(output)?;
+    later(output, ends.updated)
 }
 
 pub(crate) fn all(output: &mut impl Write) -> io::Result<()> {

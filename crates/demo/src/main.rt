@@ -6,67 +6,66 @@
 
 mod exchanges;
 
-use loopback::say;
 use std::io;
 use std::io::Write;
 
 // What a student needs to read the rest.
 fn key(output: &mut impl Write) -> io::Result<()> {
-    say(
+    writeln!(
         output,
-        b"A box (the authenticator) and a peer talk MS-CHAP version 1: the six exchanges of",
+        "A box (the authenticator) and a peer talk MS-CHAP version 1: the six exchanges of"
     )?;
-    say(
+    writeln!(
         output,
-        b"RFC 2433, B.1, a reply that is missed, a change that is not accepted, a version 1",
+        "RFC 2433, B.1, a reply that is missed, a change that is not accepted, a version 1"
     )?;
-    say(
+    writeln!(
         output,
-        b"change, and 16 slips, each with what to look at. The account is BENCH\\user; its",
+        "change, and 16 slips, each with what to look at. The account is BENCH\\user; its"
     )?;
-    say(
+    writeln!(
         output,
-        b"password is 'MyPw', a wrong one 'bad', a new one 'MyNewPw'.",
+        "password is 'MyPw', a wrong one 'bad', a new one 'MyNewPw'."
     )?;
-    say(
+    writeln!(
         output,
-        b"<- is a packet of the box, -> one of the peer, with its first 72 octets in hexadecimal.",
+        "<- is a packet of the box, -> one of the peer, with its first 72 octets in hexadecimal."
     )?;
-    say(
+    writeln!(
         output,
-        b"Octets are counted from 0. Behind code, identifier and Length (two octets) a packet has",
+        "Octets are counted from 0. Behind code, identifier and Length (two octets) a packet has"
     )?;
-    say(
+    writeln!(
         output,
-        b"   Challenge        08, and from octet 5 on the challenge: eight octets to be answered",
+        "   Challenge        08, and from octet 5 on the challenge: eight octets to be answered"
     )?;
-    say(
+    writeln!(
         output,
-        b"   Response         31, the LM response, the NT response (from octet 29 on), flag, name",
+        "   Response         31, the LM response, the NT response (from octet 29 on), flag, name"
     )?;
-    say(
+    writeln!(
         output,
-        b"   Failure          a message: E why, R=1 if a retry is allowed, V the change's version",
+        "   Failure          a message: E why, R=1 if a retry is allowed, V the change's version"
     )?;
-    say(
+    writeln!(
         output,
-        b"   Change Password  code 6: the sealed new password; from octet 1092 on the NT response",
+        "   Change Password  code 6: the sealed new password; from octet 1092 on the NT response"
     )?;
-    say(
+    writeln!(
         output,
-        b"                    code 5, version 1: old and new LM hash, old and new NT hash (from",
+        "                    code 5, version 1: old and new LM hash, old and new NT hash (from"
     )?;
-    say(
+    writeln!(
         output,
-        b"                    octet 36 on), the new password's length (at 68), flags",
+        "                    octet 36 on), the new password's length (at 68), flags"
     )?;
-    say(
+    writeln!(
         output,
-        b"Beside a 709 the box tells the support desk what was wrong, and the peer nothing of it.",
+        "Beside a 709 the box tells the support desk what was wrong, and the peer nothing of it."
     )?;
-    say(
+    writeln!(
         output,
-        b"Each box is passed an empty list of issued challenges; in the first slip two share one.",
+        "Each box is passed an empty list of issued challenges; in the first slip two share one."
     )
 }
 

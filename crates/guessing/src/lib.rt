@@ -2,89 +2,91 @@
 // call, with its count. (A crate of its own, as the check of `slips` is long enough.)
 #![tactic(auto)]
 
-use authenticator::Retries;
+use authenticator::Settings;
 use loopback::{
-    IssuedList, Loopback, account, another_challenge, challenge, empty_list, opening_limited,
-    rightly_for, say, say_failures, title, wrongly_for,
+    IssuedList, Loopback, Password, account, another_challenge, settings, usual_settings,
 };
 use std::io;
 use std::io::Write;
 
-// A call: a box opens, with a limit of 3, on the list that the one before left.
+// A call: a box opens, with so many retries and a limit of 3, on the list that the one before left.
 fn called(
     output: &mut impl Write,
-    list: IssuedList,
-    id: u8,
-    challenge: [u8; 8],
+    settings: Settings,
     retries: u8,
+    list: IssuedList,
 ) -> io::Result<Loopback> {
-    opening_limited(output, list, id, challenge, Retries::Count(retries), 3)
+    let settings = Settings {
+        retries: Some(retries),
+        limit: 3,
+        ..settings
+    };
+    Loopback::open_on(output, settings, list)
 }
 
 // A wrong password, with the record that was handed out last.
-fn wrongly_again(output: &mut impl Write, mut loopback: Loopback) -> io::Result<Loopback> {
-    let record = loopback.updated;
-    loopback = wrongly_for(output, loopback, record)?;
-    say_failures(output, loopback)?;
-    Ok(loopback)
+fn wrongly_again(output: &mut impl Write, ends: &mut Loopback) -> io::Result<()> {
+    ends.response(output, Password::Wrong, ends.updated)?;
+    ends.say_failures(output)
 }
 
 // Two wrong passwords in a first call, and one in a second. Answers where that one leaves all.
 fn guessed(output: &mut impl Write) -> io::Result<Loopback> {
-    let mut loopback = called(output, empty_list(), 7, challenge(), 1)?;
-    loopback = wrongly_for(output, loopback, account(false))?;
-    say_failures(output, loopback)?;
-    loopback = wrongly_again(output, loopback)?;
-    say(
+    let mut first = called(output, usual_settings(), 1, IssuedList::empty())?;
+    first.response(output, Password::Wrong, account(false)?)?;
+    first.say_failures(output)?;
+    wrongly_again(output, &mut first)?;
+    writeln!(
         output,
-        b"   That was the last retry. The guesser hangs up and calls back:",
+        "   That was the last retry. The guesser hangs up and calls back:"
     )?;
-    let record = loopback.updated;
-    let list = loopback.list;
-    loopback = called(output, list, 8, another_challenge(), 0)?;
-    loopback.updated = record;
-    wrongly_again(output, loopback)
+    let mut second = called(output, settings(8, another_challenge()), 0, first.list)?;
+    second.updated = first.updated;
+    wrongly_again(output, &mut second)?;
+    Ok(second)
 }
 
 // A third call, with the right password: turned away with the record that was handed out last, let
 // in with the one before the first call, and let in once its count was cleared.
-fn locked(output: &mut impl Write, loopback: Loopback) -> io::Result<()> {
-    say(
+fn locked(output: &mut impl Write, ends: Loopback) -> io::Result<()> {
+    writeln!(
         output,
-        b"   The account is locked. In a third call the right password draws the same Failure:",
+        "   The account is locked. In a third call the right password draws the same Failure:"
     )?;
-    let record = loopback.updated;
-    let list = loopback.list;
-    let third = called(output, list, 9, [9, 8, 7, 6, 5, 4, 3, 2], 0)?;
-    let turned_away = rightly_for(output, third, record)?;
-    say_failures(output, turned_away)?;
-    say(
+    let record = ends.updated;
+    let third = called(output, settings(9, [9, 8, 7, 6, 5, 4, 3, 2]), 0, ends.list)?;
+    let mut turned_away = third;
+    turned_away.response(output, Password::Right, record)?;
+    turned_away.say_failures(output)?;
+    writeln!(
         output,
-        b"   In place of that, the slip: the record is passed as it was before the first call.",
+        "   In place of that, the slip: the record is passed as it was before the first call."
     )?;
-    rightly_for(output, third, account(false))?;
-    say(
+    let mut slip = third;
+    slip.response(output, Password::Right, account(false)?)?;
+    writeln!(
         output,
-        b"   In place of that, once the keeper of the accounts has cleared the count:",
+        "   In place of that, once the keeper of the accounts has cleared the count:"
     )?;
     let unlocked = accounts::with_failures(record.account, 0);
-    let let_in = rightly_for(output, third, accounts::found(unlocked))?;
-    say_failures(output, let_in)
+    let mut let_in = third;
+    let_in.response(output, Password::Right, accounts::found(unlocked))?;
+    let_in.say_failures(output)
 }
 
 pub fn all(output: &mut impl Write) -> io::Result<()> {
-    title(
+    writeln!(
         output,
-        b"Slip: wrong passwords counted in each conversation alone.",
+        "\nSlip: wrong passwords counted in each conversation alone."
     )?;
-    say(
+    writeln!(
         output,
-        b"   A guesser who hangs up and calls back has fresh retries, without end. Look at the",
+        "   A guesser who hangs up and calls back has fresh retries, without end. Look at the"
     )?;
-    say(
+    writeln!(
         output,
-        b"   count: the box hands the record out after each Response, and the next is passed it.",
+        "   count: the box hands the record out after each Response, and the next is passed it."
     )?;
-    let loopback = guessed(output)?;
-    locked(output, loopback)
+    let ends = guessed(output)?;
+    locked(output, ends)
 }

@@ -1,44 +1,55 @@
 // Both ends of a conversation, and what passes between them: each step prints its packets.
 use super::lines;
 use accounts::Lookup;
-use authenticator::{ChangeChoice, Conversation, LmChoice, Opened, Retries};
+use authenticator::{Conversation, Settings, Started};
+use lines::Shown;
 use peer::{PacketWritten, Peer};
+use refusals::Refusal;
 use std::io;
 use std::io::Write;
+use verify::ChangeVersion;
 
 const LIMIT: u8 = 10;
 
-// A list of issued challenges, of which so many places are used.
-#[derive(Clone, Copy)]
-pub struct IssuedList {
-    pub octets: [u8; 64],
-    pub used: usize,
-    pub counts: [u16; 256],
-}
-
-// Both ends: the conversation, the peer, the list as the opening left it, and the record that the
-// last packet handed out.
-#[derive(Clone, Copy)]
-pub struct Loopback {
-    pub conversation: Conversation,
-    pub peer: Peer,
-    pub list: IssuedList,
-    pub updated: Lookup,
-}
-
 // ---- passwords, challenges and records
 
-// The right password, `MyPw` of RFC 2433, B.2, as 16-bit characters.
-pub fn right() -> [u8; 8] {
-    *b"M\0y\0P\0w\0"
+// Which password a peer knows: the right one, `MyPw` of RFC 2433, B.2, a wrong one, or the one that
+// a change sets.
+#[derive(Clone, Copy)]
+pub enum Password {
+    Right,
+    Wrong,
+    New,
 }
 
-pub fn wrong() -> [u8; 6] {
-    *b"b\0a\0d\0"
-}
+impl Password {
+    // As 16-bit characters.
+    pub fn octets(self) -> &'static [u8] {
+        match self {
+            Password::Right => b"M\0y\0P\0w\0",
+            Password::Wrong => b"b\0a\0d\0",
+            Password::New => b"M\0y\0N\0e\0w\0P\0w\0",
+        }
+    }
 
-pub fn new_one() -> [u8; 14] {
-    *b"M\0y\0N\0e\0w\0P\0w\0"
+    // What a Response was made from.
+    fn response_made(self) -> &'static str {
+        match self {
+            Password::Right => {
+                "The peer answers from the right password, and says who it is: BENCH\\user."
+            }
+            Password::Wrong => {
+                "The peer answers from a wrong password, and says who it is: BENCH\\user."
+            }
+            Password::New => {
+                "The peer answers from the new password, and says who it is: BENCH\\user."
+            }
+        }
+    }
+
+    pub fn nt_hash(self) -> io::Result<[u8; 16]> {
+        or_invalid(credentials::nt_hash(self.octets()))
+    }
 }
 
 pub fn challenge() -> [u8; 8] {
@@ -51,337 +62,258 @@ pub fn another_challenge() -> [u8; 8] {
 }
 
 // The NT hash of the right password.
-pub fn old_hash() -> [u8; 16] {
-    let password = right();
-    credentials::nt_hash(&password).unwrap()
+pub fn old_hash() -> io::Result<[u8; 16]> {
+    Password::Right.nt_hash()
 }
 
 // The record of the account: its NT hash, no LM hash, and whether the password has expired.
-pub fn account(expired: bool) -> Lookup {
-    let nt = accounts::hash_of(old_hash());
+pub fn account(expired: bool) -> io::Result<Lookup> {
+    let nt = accounts::hash_of(old_hash()?);
     let lm = accounts::no_hash();
-    accounts::found(accounts::account_with(nt, lm, false, false, false, expired))
+    Ok(accounts::found(accounts::account_with(nt, lm, false, false, false, expired)))
+}
+
+// No scene goes on behind what is refused here: the program ends.
+pub fn or_invalid<T>(answer: Result<T, Refusal>) -> io::Result<T> {
+    match answer {
+        Ok(value) => Ok(value),
+        Err(_) => Err(io::Error::from(io::ErrorKind::InvalidInput)),
+    }
 }
 
 // ---- the opening
 
-pub fn empty_list() -> IssuedList {
-    let octets = [0u8; 64];
-    let counts = [0u16; 256];
-    IssuedList {
-        octets,
-        used: 0,
-        counts,
+// A list of issued challenges, of which so many places are used. (An array with a number beside it:
+// an opening is lent the list in these parts, as C keeps it, the places that are free among them.)
+#[derive(Clone, Copy)]
+pub struct IssuedList {
+    octets: [u8; 64],
+    used: usize,
+    counts: [u16; 256],
+}
+
+impl IssuedList {
+    pub fn empty() -> IssuedList {
+        IssuedList {
+            octets: [0; 64],
+            used: 0,
+            counts: [0; 256],
+        }
+    }
+
+    // A conversation on the list, which a refused opening leaves as it was. (Two of its fields
+    // cannot be lent at once, so that they are copied.)
+    fn open(&mut self, settings: Settings, reply: &mut [u8]) -> Result<Started, Refusal> {
+        let mut octets = self.octets;
+        let mut counts = self.counts;
+        let started = Conversation::open(settings, &mut octets, self.used, &mut counts, reply)?;
+        self.octets = octets;
+        self.counts = counts;
+        self.used = started.used;
+        Ok(started)
+    }
+
+    // Prints the list.
+    pub fn say(&self, output: &mut impl Write) -> io::Result<()> {
+        // the bound keeps the product small
+        let issued = octets::part_of(&self.octets, 0, 8 * self.used.min(8));
+        write!(
+            output,
+            "      The list has {} challenges of 8 octets,",
+            self.used
+        )?;
+        write!(output, " for each opening its own and one for each retry: ")?;
+        writeln!(output, "{}", Shown(issued))
     }
 }
 
-// Prints the Challenge, whether the box judges LM and whether it awaits version 1's change; or that
-// it refuses to open.
-fn say_opening(
-    output: &mut impl Write,
-    opened: Opened,
-    challenge: [u8; 8],
-    sent: &[u8],
-) -> io::Result<()> {
-    let conversation = opened.conversation;
-    let terms = conversation.terms;
-    let change = terms.change;
-    if opened.refusal == 0 {
+// What a box is told where nothing is said of the retries, of LM and of the change, with a limit
+// that no scene reaches: two retries, no LM, and version 2's change.
+pub fn settings(id: u8, challenge: [u8; 8]) -> Settings {
+    Settings {
+        id,
+        challenge,
+        retries: None,
+        lm: None,
+        change: None,
+        limit: LIMIT,
+    }
+}
+
+// The same with the usual challenge.
+pub fn usual_settings() -> Settings {
+    settings(7, challenge())
+}
+
+// The same of a box that is opened for version 1's change.
+pub fn settings_for_one() -> Settings {
+    Settings {
+        change: Some(ChangeVersion::One),
+        ..usual_settings()
+    }
+}
+
+// Both ends: the conversation, the peer, the list as the opening left it, and the record that the
+// last packet handed out.
+#[derive(Clone, Copy)]
+pub struct Loopback {
+    pub conversation: Conversation,
+    pub peer: Peer,
+    pub list: IssuedList,
+    pub updated: Lookup,
+}
+
+impl Loopback {
+    // The opening, on a list of issued challenges: the box sends a Challenge, and the peer reads
+    // it; or the box refuses to open, and there are no ends.
+    pub fn try_open(
+        output: &mut impl Write,
+        settings: Settings,
+        mut list: IssuedList,
+    ) -> io::Result<Option<Loopback>> {
+        let mut reply = [0u8; 17];
+        let started = match list.open(settings, &mut reply) {
+            Ok(started) => started,
+            Err(refusal) => {
+                lines::refused_opening(output, refusal, settings.challenge)?;
+                return Ok(None);
+            }
+        };
+        let sent = octets::part_of(&reply, 0, started.written);
         lines::from_box(output, sent)?;
-        lines::judges_lm(output, terms.lm)?;
-        lines::awaits(output, change)?;
-    } else {
-        lines::refused_opening(output, opened.refusal, challenge)?;
+        lines::terms(output, started.conversation.terms)?;
+        let peer = or_invalid(Peer::read_challenge(sent))?;
+        Ok(Some(Loopback {
+            conversation: started.conversation,
+            peer,
+            list,
+            updated: accounts::not_found(),
+        }))
     }
-    Ok(())
-}
 
-// The opening, on a list of issued challenges: the box sends a Challenge, and the peer reads it; or
-// the box refuses to open.
-fn opening_with(
-    output: &mut impl Write,
-    list: IssuedList,
-    id: u8,
-    challenge: [u8; 8],
-    retries: Retries,
-    lm: LmChoice,
-    change: ChangeChoice,
-    limit: u8,
-) -> io::Result<Loopback> {
-    let mut octets = list.octets;
-    let mut counts = list.counts;
-    let mut reply = [0u8; 17];
-    let opened = Conversation::open(
-        id,
-        challenge,
-        retries,
-        lm,
-        change,
-        limit,
-        &mut octets,
-        list.used,
-        &mut counts,
-        &mut reply,
-    );
-    let sent = octets::part_of(&reply, 0, opened.written);
-    say_opening(output, opened, challenge, sent)?;
-    let peer = Peer::read_challenge(sent).peer;
-    let conversation = opened.conversation;
-    let updated = accounts::not_found();
-    Ok(Loopback {
-        conversation,
-        peer,
-        list: IssuedList {
-            octets,
-            used: opened.used,
-            counts,
-        },
-        updated,
-    })
-}
+    // The same where the box has to open.
+    pub fn open_on(
+        output: &mut impl Write,
+        settings: Settings,
+        list: IssuedList,
+    ) -> io::Result<Loopback> {
+        match Loopback::try_open(output, settings, list)? {
+            Some(loopback) => Ok(loopback),
+            None => Err(io::Error::from(io::ErrorKind::InvalidInput)),
+        }
+    }
 
-// The same of a box that was told nothing of LM and of the change: it does not judge LM, and awaits
-// version 2's change.
-pub fn opening_limited(
-    output: &mut impl Write,
-    list: IssuedList,
-    id: u8,
-    challenge: [u8; 8],
-    retries: Retries,
-    limit: u8,
-) -> io::Result<Loopback> {
-    opening_with(
-        output,
-        list,
-        id,
-        challenge,
-        retries,
-        LmChoice::Silent,
-        ChangeChoice::Unspecified,
-        limit,
-    )
-}
+    // The same of a box that is alone on its list.
+    pub fn open(output: &mut impl Write, settings: Settings) -> io::Result<Loopback> {
+        Loopback::open_on(output, settings, IssuedList::empty())
+    }
 
-// The same with a limit that no scene reaches.
-pub fn opening_on(
-    output: &mut impl Write,
-    list: IssuedList,
-    id: u8,
-    challenge: [u8; 8],
-    retries: Retries,
-) -> io::Result<Loopback> {
-    opening_limited(output, list, id, challenge, retries, LIMIT)
-}
+    // ---- a packet of the peer, and the box's answer
 
-// The same of a box that was asked for LM, as on a bench with old phones, and is alone on its list.
-pub fn opening_for_lm(
-    output: &mut impl Write,
-    id: u8,
-    challenge: [u8; 8],
-    retries: Retries,
-) -> io::Result<Loopback> {
-    opening_with(
-        output,
-        empty_list(),
-        id,
-        challenge,
-        retries,
-        LmChoice::Allowed,
-        ChangeChoice::Unspecified,
-        LIMIT,
-    )
-}
+    // The peer reads the answer to what it sent.
+    fn read(&mut self, output: &mut impl Write, sent: Peer, answer: &[u8]) -> io::Result<()> {
+        lines::from_box(output, answer)?;
+        match sent.read_reply(answer) {
+            Ok(read) => {
+                self.peer = read.peer;
+                lines::verdict(output, read.verdict)
+            }
+            Err(_) => {
+                self.peer = sent;
+                writeln!(output, "      The peer cannot read this.")
+            }
+        }
+    }
 
-// The same of a box that was opened for version 1's change, with the usual challenge.
-pub fn opening_for_one(output: &mut impl Write) -> io::Result<Loopback> {
-    opening_with(
-        output,
-        empty_list(),
-        7,
-        challenge(),
-        Retries::Default,
-        LmChoice::Silent,
-        ChangeChoice::VersionOne,
-        LIMIT,
-    )
-}
+    // The box takes the packet that the peer wrote, the first octets of out, and answers, and the
+    // peer reads the answer. A packet does not show what it was made from: made says it.
+    pub fn answered(
+        &mut self,
+        output: &mut impl Write,
+        wrote: PacketWritten,
+        out: &[u8],
+        made: &str,
+        lookup: Lookup,
+    ) -> io::Result<()> {
+        let packet = octets::part_of(out, 0, wrote.length);
+        lines::from_peer(output, packet, made)?;
+        let mut reply = [0u8; 17];
+        let step = or_invalid(self.conversation.step(packet, lookup, &mut reply))?;
+        self.conversation = step.next;
+        self.updated = step.updated;
+        lines::repeated(output, step.drawn)?;
+        self.read(output, wrote.peer, octets::part_of(&reply, 0, step.written))?;
+        lines::support(output, step.fault)
+    }
 
-// The opening of a box that is alone on its list.
-pub fn opening(
-    output: &mut impl Write,
-    id: u8,
-    challenge: [u8; 8],
-    retries: Retries,
-) -> io::Result<Loopback> {
-    opening_on(output, empty_list(), id, challenge, retries)
-}
+    // Prints the count of the record that was handed out, and the box's limit.
+    pub fn say_failures(&self, output: &mut impl Write) -> io::Result<()> {
+        let failures = self.updated.account.failures;
+        let limit = self.conversation.terms.limit;
+        write!(
+            output,
+            "      Invalid Responses in a row, by the record that is handed out: "
+        )?;
+        writeln!(output, "{failures}. At {limit} the account is locked.")
+    }
 
-// The same with the usual challenge, and with the retries that a box has by default.
-pub fn usual_opening(output: &mut impl Write) -> io::Result<Loopback> {
-    opening(output, 7, challenge(), Retries::Default)
-}
+    // ---- the Response
 
-// ---- a packet of the peer, and the box's answer
+    // Writes a Response from a password.
+    pub fn write_response(&self, password: Password, out: &mut [u8]) -> io::Result<PacketWritten> {
+        or_invalid(
+            self.peer
+                .write_response(password.octets(), b"BENCH\\user", out),
+        )
+    }
 
-// The peer reads the answer.
-fn read(output: &mut impl Write, peer: Peer, answer: &[u8]) -> io::Result<Peer> {
-    lines::from_box(output, answer)?;
-    let read = peer.read_reply(answer);
-    let reading = read.reading;
-    let verdict = reading.verdict;
-    lines::verdict(output, verdict)?;
-    Ok(read.peer)
-}
+    // A Response from a password, with a record.
+    pub fn response(
+        &mut self,
+        output: &mut impl Write,
+        password: Password,
+        lookup: Lookup,
+    ) -> io::Result<()> {
+        let mut out = [0u8; 310];
+        let wrote = self.write_response(password, &mut out)?;
+        self.answered(output, wrote, &out, password.response_made(), lookup)
+    }
 
-// The box takes the packet that the peer wrote, the first octets of out, and answers, and the peer
-// reads the answer. A packet does not show what it was made from: made says it.
-pub fn answered(
-    output: &mut impl Write,
-    mut loopback: Loopback,
-    wrote: PacketWritten,
-    out: &[u8],
-    made: &[u8],
-    lookup: Lookup,
-) -> io::Result<Loopback> {
-    let written = wrote.written;
-    let mut reply = [0u8; 17];
-    let before = loopback.conversation;
-    let packet = octets::part_of(out, 0, written.length);
-    lines::from_peer(output, packet, made)?;
-    let answer = before.step(packet, lookup, &mut reply);
-    let kind = answer.kind;
-    let fault = answer.fault;
-    lines::repeated(output, kind)?;
-    let conversation = answer.next;
-    let updated = answer.updated;
-    let waiting = wrote.peer;
-    let peer = read(output, waiting, octets::part_of(&reply, 0, answer.written))?;
-    lines::support(output, fault)?;
-    loopback.conversation = conversation;
-    loopback.peer = peer;
-    loopback.updated = updated;
-    Ok(loopback)
-}
+    // ---- the change, version 2's
 
-// Prints the count of the record that was handed out, and the box's limit.
-pub fn say_failures(output: &mut impl Write, loopback: Loopback) -> io::Result<()> {
-    let updated = loopback.updated;
-    let account = updated.account;
-    let conversation = loopback.conversation;
-    let terms = conversation.terms;
-    lines::failures(output, account.failures, terms.limit)
-}
+    // Writes the change of a password to the new one.
+    pub fn write_change(&self, old: Password, out: &mut [u8]) -> io::Result<PacketWritten> {
+        let filler = [0x5au8; 512];
+        let new = Password::New.octets();
+        or_invalid(self.peer.write_change(old.octets(), new, &filler, out))
+    }
 
-// ---- the Response
+    // The change of a password. The box decides by the record that it kept, so that none is passed.
+    pub fn change(&mut self, output: &mut impl Write, old: Password) -> io::Result<()> {
+        let mut out = [0u8; 1118];
+        let wrote = self.write_change(old, &mut out)?;
+        let made = match old {
+            Password::Right => {
+                "The peer sends the new password sealed under the old one's hash: it knows both."
+            }
+            _ => "The peer sends the new password sealed under a wrong one's hash.",
+        };
+        self.answered(output, wrote, &out, made, accounts::not_found())
+    }
 
-// Writes a Response from a password.
-pub fn write_response(loopback: Loopback, password: &[u8], out: &mut [u8]) -> PacketWritten {
-    let peer = loopback.peer;
-    peer.write_response(password, b"BENCH\\user", out)
-}
+    // ---- the change, version 1's
 
-// A Response from a password, and in words from which.
-pub fn response(
-    output: &mut impl Write,
-    loopback: Loopback,
-    password: &[u8],
-    made: &[u8],
-    lookup: Lookup,
-) -> io::Result<Loopback> {
-    let mut out = [0u8; 310];
-    let wrote = write_response(loopback, password, &mut out);
-    answered(output, loopback, wrote, &out, made, lookup)
-}
+    // Writes the version 1 change of the right password to the new one.
+    pub fn write_change_one(&self, out: &mut [u8]) -> io::Result<PacketWritten> {
+        let old = Password::Right.octets();
+        or_invalid(self.peer.write_change_one(old, Password::New.octets(), out))
+    }
 
-// A Response from the right password, with a record.
-pub fn rightly_for(
-    output: &mut impl Write,
-    loopback: Loopback,
-    lookup: Lookup,
-) -> io::Result<Loopback> {
-    let password = right();
-    let made = b"The peer answers from the right password, and says who it is: BENCH\\user.";
-    response(output, loopback, &password, made, lookup)
-}
-
-// A Response from a wrong one.
-pub fn wrongly_for(
-    output: &mut impl Write,
-    loopback: Loopback,
-    lookup: Lookup,
-) -> io::Result<Loopback> {
-    let password = wrong();
-    let made = b"The peer answers from a wrong password, and says who it is: BENCH\\user.";
-    response(output, loopback, &password, made, lookup)
-}
-
-// The same with the record of the account.
-
-pub fn rightly(output: &mut impl Write, loopback: Loopback, expired: bool) -> io::Result<Loopback> {
-    rightly_for(output, loopback, account(expired))
-}
-
-pub fn wrongly(output: &mut impl Write, loopback: Loopback, expired: bool) -> io::Result<Loopback> {
-    wrongly_for(output, loopback, account(expired))
-}
-
-// A Response from the right password by a peer that did not hear the last reply: the box has gone
-// on, and the peer is where it was.
-pub fn again(output: &mut impl Write, mut loopback: Loopback, peer: Peer) -> io::Result<Loopback> {
-    loopback.peer = peer;
-    rightly(output, loopback, false)
-}
-
-// ---- the change, version 2's
-
-// Writes the change of a password to the new one.
-fn write_change_of(loopback: Loopback, old: &[u8], out: &mut [u8]) -> PacketWritten {
-    let new = new_one();
-    let filler = [0x5au8; 512];
-    let peer = loopback.peer;
-    peer.write_change(old, &new, &filler, out)
-}
-
-// The same of the right one.
-pub fn write_change(loopback: Loopback, out: &mut [u8]) -> PacketWritten {
-    let old = right();
-    write_change_of(loopback, &old, out)
-}
-
-// The change of a password, and in words what it was made from. The box decides by the record that
-// it kept, so that none is passed.
-pub fn change_of(
-    output: &mut impl Write,
-    loopback: Loopback,
-    old: &[u8],
-    made: &[u8],
-) -> io::Result<Loopback> {
-    let mut out = [0u8; 1118];
-    let wrote = write_change_of(loopback, old, &mut out);
-    answered(output, loopback, wrote, &out, made, accounts::not_found())
-}
-
-// The change of the right one.
-pub fn change(output: &mut impl Write, loopback: Loopback) -> io::Result<Loopback> {
-    let old = right();
-    let made = b"The peer sends the new password sealed under the old one's hash: it knows both.";
-    change_of(output, loopback, &old, made)
-}
-
-// ---- the change, version 1's
-
-// Writes the version 1 change of the right password to the new one.
-pub fn write_change_one(loopback: Loopback, out: &mut [u8]) -> PacketWritten {
-    let old = right();
-    let new = new_one();
-    let peer = loopback.peer;
-    peer.write_change_one(&old, &new, out)
-}
-
-// The change itself.
-pub fn change_one(output: &mut impl Write, loopback: Loopback) -> io::Result<Loopback> {
-    let mut out = [0u8; 72];
-    let wrote = write_change_one(loopback, &mut out);
-    let made = b"The peer sends the old and the new password's hash, under the challenge.";
-    answered(output, loopback, wrote, &out, made, accounts::not_found())
+    // The change itself.
+    pub fn change_one(&mut self, output: &mut impl Write) -> io::Result<()> {
+        let mut out = [0u8; 72];
+        let wrote = self.write_change_one(&mut out)?;
+        let made = "The peer sends the old and the new password's hash, under the challenge.";
+        self.answered(output, wrote, &out, made, accounts::not_found())
+    }
 }

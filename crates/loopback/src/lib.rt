@@ -6,9 +6,7 @@ mod ends;
 mod lines;
 
 pub use ends::{
-    IssuedList, Loopback, account, again, another_challenge, answered, challenge, change,
-    change_of, change_one, empty_list, new_one, old_hash, opening, opening_for_lm, opening_for_one,
-    opening_limited, opening_on, response, right, rightly, rightly_for, say_failures,
-    usual_opening, write_change, write_change_one, write_response, wrong, wrongly, wrongly_for,
+    IssuedList, Loopback, Password, account, another_challenge, challenge, old_hash, or_invalid,
+    settings, settings_for_one, usual_settings,
 };
-pub use lines::{issued, lm_of, next_challenge, place, say, title};
+pub use lines::{Shown, lm_of, next_challenge, place};

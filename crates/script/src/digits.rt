@@ -1,6 +1,4 @@
 // Octets that a word names.
-ghost use Rattle.std.specs.Counts.{IsPrefixLen};
-
 use super::words;
 
 // The octet that two hexadecimal digits make.
@@ -8,86 +6,45 @@ fn octet_of(high: u8, low: u8) -> u8 {
     octets::digit_value(high) % 16 * 16 + octets::digit_value(low) % 16
 }
 
-// Octets from hexadecimal digits, as many as out takes. Answers how many.
-fn decode_digits(s: &[u8], out: &mut [u8]) -> usize
-    ensures { IsPrefixLen result out.new }
-{
-    for n in 0..out.len() {
-        if s.len() / 2 <= n {
-            return n;
-        }
-        out[n] = octet_of(s[2 * n], s[2 * n + 1]);
+// Octets from hexadecimal digits, as many as room takes.
+fn decode_digits<'a>(s: &[u8], room: &'a mut [u8]) -> &'a mut [u8] {
+    let (pairs, _odd) = s.as_chunks::<2>();
+    let n = pairs.len().min(room.len());
+    let out = &mut room[..n];
+    for (octet, [high, low]) in out.iter_mut().zip(pairs) {
+        *octet = octet_of(*high, *low);
     }
-    out.len()
-}
-
-// n octets of one value, as many as out takes. Answers how many.
-fn fill(value: u8, n: usize, out: &mut [u8]) -> usize
-    ensures { IsPrefixLen result out.new }
-{
-    for i in 0..out.len() {
-        if n <= i {
-            return i;
-        }
-        out[i] = value;
-    }
-    out.len()
-}
-
-// The octets that a word names: `-` none, `HH*N` one octet N times, else pairs of digits. Answers
-// how many.
-fn decode(word: &[u8], out: &mut [u8]) -> usize
-    ensures { IsPrefixLen result out.new }
-{
-    if word.len() < 3 {
-        return decode_digits(word, out);
-    }
-    if word[2] == b'*' {
-        return fill(
-            octet_of(word[0], word[1]),
-            words::number(octets::part_of(word, 3, 9)),
-            out,
-        );
-    }
-    decode_digits(word, out)
-}
-
-// The octets that word k of a line names, as many as out takes. Answers how many.
-pub fn octets(line: &[u8], k: usize, out: &mut [u8]) -> usize
-    ensures { IsPrefixLen result out.new }
-{
-    decode(words::word(line, k), out)
-}
-
-// The octets of word k, where it names a certain number of them.
-
-pub fn seven(line: &[u8], k: usize) -> [u8; 7] {
-    let mut out = [0u8; 7];
-    octets(line, k, &mut out);
     out
 }
 
-pub fn eight(line: &[u8], k: usize) -> [u8; 8] {
-    let mut out = [0u8; 8];
-    octets(line, k, &mut out);
+// n octets of one value, as many as room takes.
+fn repeated(value: u8, n: usize, room: &mut [u8]) -> &mut [u8] {
+    let n = n.min(room.len());
+    let out = &mut room[..n];
+    out.fill(value);
     out
 }
 
-pub fn sixteen(line: &[u8], k: usize) -> [u8; 16] {
-    let mut out = [0u8; 16];
-    octets(line, k, &mut out);
-    out
+// The octets that a word names: `-` none, `HH*N` one octet N times, else pairs of digits.
+fn decode<'a>(word: &[u8], room: &'a mut [u8]) -> &'a mut [u8] {
+    match word {
+        [high, low, b'*', n @ ..] => repeated(
+            octet_of(*high, *low),
+            words::number(octets::part_of(n, 0, 9)),
+            room,
+        ),
+        _ => decode_digits(word, room),
+    }
 }
 
-pub fn twenty_one(line: &[u8], k: usize) -> [u8; 21] {
-    let mut out = [0u8; 21];
-    octets(line, k, &mut out);
-    out
+// The octets that word k of a line names, as many as room takes: the front of it.
+pub fn octets_in<'a>(line: &[u8], k: usize, room: &'a mut [u8]) -> &'a mut [u8] {
+    decode(words::word(line, k), room)
 }
 
-// The block of a sealed password.
-pub fn sealed(line: &[u8], k: usize) -> [u8; 516] {
-    let mut out = [0u8; 516];
-    octets(line, k, &mut out);
+// The octets of word k, where it names a certain number of them; 0 for those that are missing.
+pub fn octets<const N: usize>(line: &[u8], k: usize) -> [u8; N] {
+    let mut out = [0u8; N];
+    octets_in(line, k, &mut out);
     out
 }

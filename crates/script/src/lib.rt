@@ -1,5 +1,5 @@
 // The script language of the vectors (docs/VECTORS.md): the words of a line, octets, numbers and
-// key schedules read from its digits, and what is written to standard output. Of a line that is
+// key schedules read from its digits, and how octets and results are written. Of a line that is
 // not well-formed anything may be read.
 #![tactic(auto)]
 
@@ -8,10 +8,7 @@ mod keys;
 mod words;
 mod writing;
 
-pub use digits::{eight, octets, sealed, seven, sixteen, twenty_one};
-pub use keys::{names_hash, numbers, put_numbers};
-pub use words::{command, find, number, octet, which, word};
-pub use writing::{
-    put, put_equals, put_field, put_hex, put_line_feed, put_named, put_none, put_number,
-    put_outcome, put_refused, put_result, put_sized, put_space, put_written,
-};
+pub use digits::{octets, octets_in};
+pub use keys::{names_hash, numbers};
+pub use words::{number, octet, word};
+pub use writing::{Hex, Keys, put_octets, put_result, put_written};

@@ -1,96 +1,65 @@
-// What is written to standard output, a part of a line at a time.
-use std::io;
+// How octets and results are written.
+use refusals::Refusal;
 use std::io::Write;
+use std::{fmt, io};
 
-pub fn put(output: &mut impl Write, text: &[u8]) -> io::Result<()> {
-    output.write_all(text)
-}
+// Octets as upper-case hexadecimal digits; `-` for none.
+#[derive(Clone, Copy)]
+pub struct Hex<'a>(pub &'a [u8]);
 
-pub fn put_space(output: &mut impl Write) -> io::Result<()> {
-    put(output, b" ")
-}
-
-pub fn put_line_feed(output: &mut impl Write) -> io::Result<()> {
-    put(output, b"\n")
-}
-
-// Before a command's result.
-pub fn put_equals(output: &mut impl Write) -> io::Result<()> {
-    put(output, b" = ")
-}
-
-// For no octets, no hash, no record.
-pub fn put_none(output: &mut impl Write) -> io::Result<()> {
-    put(output, b"-")
-}
-
-// Octets as upper-case hexadecimal digits.
-fn put_digits(output: &mut impl Write, octets: &[u8]) -> io::Result<()> {
-    for x in octets {
-        let pair = [octets::hex_digit(*x / 16), octets::hex_digit(*x)];
-        put(output, &pair)?;
+impl fmt::Display for Hex<'_> {
+    fn fmt<W: fmt::Write>(&self, f: &mut fmt::Formatter<W>) -> fmt::Result {
+        if self.0.is_empty() {
+            return write!(f, "-");
+        }
+        for octet in self.0 {
+            write!(f, "{octet:02X}")?;
+        }
+        Ok(())
     }
-    Ok(())
 }
 
-// The same, with `-` for no octets.
-pub fn put_hex(output: &mut impl Write, octets: &[u8]) -> io::Result<()> {
-    if octets.len() == 0 {
-        return put_none(output);
+// The numbers of a key schedule, each in the digits of its eight octets, the most significant
+// first; `-` where all are 0.
+#[derive(Clone, Copy)]
+pub struct Keys(pub [u64; 48]);
+
+impl fmt::Display for Keys {
+    fn fmt<W: fmt::Write>(&self, f: &mut fmt::Formatter<W>) -> fmt::Result {
+        if self.0.iter().all(|number| *number == 0) {
+            return write!(f, "-");
+        }
+        for number in &self.0 {
+            write!(f, "{number:016X}")?;
+        }
+        Ok(())
     }
-    put_digits(output, octets)
 }
 
-pub fn put_number(output: &mut impl Write, n: u64) -> io::Result<()> {
-    write!(output, "{n}")
+// A command's result that is octets.
+pub fn put_octets(output: &mut impl Write, octets: &[u8]) -> io::Result<()> {
+    write!(output, " = {}", Hex(octets))
 }
 
-// A number and a space.
-pub fn put_field(output: &mut impl Write, n: u64) -> io::Result<()> {
-    put_number(output, n)?;
-    put_space(output)
+// The same, or why there are none.
+pub fn put_result<const N: usize>(
+    output: &mut impl Write,
+    answer: Result<[u8; N], Refusal>,
+) -> io::Result<()> {
+    match answer {
+        Ok(octets) => put_octets(output, &octets),
+        Err(refusal) => write!(output, " = refused {refusal}"),
+    }
 }
 
-// ID CHALLENGE
-pub fn put_named(output: &mut impl Write, id: u8, challenge: [u8; 8]) -> io::Result<()> {
-    put_field(output, id as u64)?;
-    put_hex(output, &challenge)
-}
-
-// WRITTEN BUFFER
-pub fn put_sized(output: &mut impl Write, written: usize, buffer: &[u8]) -> io::Result<()> {
-    put_field(output, written as u64)?;
-    put_hex(output, buffer)
-}
-
-// REFUSAL WRITTEN BUFFER
+// What was written to a buffer, as REFUSAL WRITTEN BUFFER; the refusal is 0 where there is none.
 pub fn put_written(
     output: &mut impl Write,
-    refusal: u8,
-    written: usize,
+    written: Result<usize, Refusal>,
     buffer: &[u8],
 ) -> io::Result<()> {
-    put_field(output, refusal as u64)?;
-    put_sized(output, written, buffer)
-}
-
-// A refusal's number, or the octets where it is 0: no refusal.
-pub fn put_outcome(output: &mut impl Write, refusal: u8, octets: &[u8]) -> io::Result<()> {
-    if refusal == 0 {
-        return put_hex(output, octets);
+    match written {
+        Ok(n) => write!(output, " = 0 {n} {}", Hex(buffer)),
+        Err(refusal) => write!(output, " = {refusal} 0 {}", Hex(buffer)),
     }
-    put(output, b"refused ")?;
-    put_number(output, refusal as u64)
-}
-
-// A command's result: the same after ` = `.
-pub fn put_result(output: &mut impl Write, refusal: u8, octets: &[u8]) -> io::Result<()> {
-    put_equals(output)?;
-    put_outcome(output, refusal, octets)
-}
-
-// A command's result that is a refusal.
-pub fn put_refused(output: &mut impl Write, refusal: u8) -> io::Result<()> {
-    put(output, b" = refused ")?;
-    put_number(output, refusal as u64)
 }

@@ -1,21 +1,21 @@
 // Lines of published vectors: the words that are given, as they stood, and those that are computed.
+use script::{Hex, Keys};
 use std::io;
 use std::io::Write;
 
 // Word k as it stood, and a space.
 fn put_given(output: &mut impl Write, line: &[u8], k: usize) -> io::Result<()> {
-    script::put(output, script::word(line, k))?;
-    script::put_space(output)
+    output.write_all(script::word(line, k))?;
+    write!(output, " ")
 }
 
 // INPUT DIGEST
 pub fn md4_line(output: &mut impl Write, line: &[u8]) -> io::Result<()> {
     put_given(output, line, 0)?;
-    let mut input = [0u8; 8192];
-    let n = script::octets(line, 0, &mut input);
-    match md4::md4(&input[..n]) {
-        Ok(digest) => script::put_outcome(output, 0, &digest),
-        Err(refusal) => script::put_outcome(output, refusal.number(), b""),
+    let mut room = [0u8; 8192];
+    match md4::md4(script::octets_in(line, 0, &mut room)) {
+        Ok(digest) => write!(output, "{}", Hex(&digest)),
+        Err(refusal) => write!(output, "refused {refusal}"),
     }
 }
 
@@ -23,44 +23,36 @@ pub fn md4_line(output: &mut impl Write, line: &[u8]) -> io::Result<()> {
 pub fn rc4_line(output: &mut impl Write, line: &[u8]) -> io::Result<()> {
     put_given(output, line, 0)?;
     put_given(output, line, 1)?;
-    let mut key = [0u8; 1024];
-    let k = script::octets(line, 0, &mut key);
+    let mut room = [0u8; 1024];
+    let key = script::octets_in(line, 0, &mut room);
     let mut stream = [0u8; 8192];
-    let refusal = match rc4::rc4(&key[..k], &mut stream) {
-        Ok(()) => 0,
-        Err(refusal) => refusal.number(),
-    };
     let offset = script::number(script::word(line, 1));
-    script::put_outcome(output, refusal, octets::part_of(&stream, offset, 16))
+    match rc4::rc4(key, &mut stream) {
+        Ok(()) => write!(output, "{}", Hex(octets::part_of(&stream, offset, 16))),
+        Err(refusal) => write!(output, "refused {refusal}"),
+    }
 }
 
 // KEY8 PLAIN CIPHER
 pub fn des_line(output: &mut impl Write, line: &[u8]) -> io::Result<()> {
     put_given(output, line, 0)?;
-    let key = des::drop_parity(script::eight(line, 0));
-    let cipher = des::encrypt(key, script::eight(line, 1));
+    let key = des::drop_parity(script::octets(line, 0));
+    let cipher = des::encrypt(key, script::octets(line, 1));
     let plain = des::decrypt(key, cipher);
-    script::put_hex(output, &plain)?;
-    script::put_space(output)?;
-    script::put_hex(output, &cipher)
-}
-
-// The schedules that word 0 names: those of a hash, or the numbers themselves.
-fn named_keys(line: &[u8]) -> [u64; 48] {
-    if script::names_hash(line, 0) {
-        return credentials::hash_schedules(script::sixteen(line, 0));
-    }
-    script::numbers(line, 0)
+    write!(output, "{} {}", Hex(&plain), Hex(&cipher))
 }
 
 // KEYS CHALLENGE NUMBERS RESPONSE
 pub fn keys_line(output: &mut impl Write, line: &[u8]) -> io::Result<()> {
     put_given(output, line, 0)?;
     put_given(output, line, 1)?;
-    let keys = named_keys(line);
-    script::put_numbers(output, keys)?;
-    script::put_space(output)?;
+    // the schedules of a hash, or the numbers themselves
+    let keys = if script::names_hash(line, 0) {
+        credentials::hash_schedules(script::octets(line, 0))
+    } else {
+        script::numbers(line, 0)
+    };
     let lent = credentials::key_octets(keys);
-    let response = credentials::scheduled_response(&lent, script::eight(line, 1));
-    script::put_hex(output, &response)
+    let response = credentials::scheduled_response(&lent, script::octets(line, 1));
+    write!(output, "{} {}", Keys(keys), Hex(&response))
 }

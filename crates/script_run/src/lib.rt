@@ -4,7 +4,7 @@
 
 mod lines;
 
-pub use lines::{Session, new_session};
+pub use lines::Session;
 use std::io::{Read, Write};
 use std::rt::Files;
 use std::{fs, io};
@@ -18,30 +18,29 @@ fn read_script(file: &mut impl Read, script: &mut [u8; 1048576]) -> io::Result<u
 
 // Runs the first n octets of a script.
 fn run_part(
+    session: &mut Session,
     output: &mut impl Write,
     script: &[u8; 1048576],
     n: usize,
-    session: Session,
-) -> io::Result<Session> {
-    lines::run_lines(output, octets::part_of(script, 0, n), session)
+) -> io::Result<()> {
+    session.run_lines(output, octets::part_of(script, 0, n))
 }
 
-// One script, from the state in which the one before it ended. Of a script that does not open,
-// standard error is told, and nothing is run.
-pub fn run_script<R: Files + Eprint>(
-    rt: &R,
-    output: &mut impl Write,
-    path: &str,
-    session: Session,
-) -> io::Result<Session> {
-    let mut file = match fs::open(rt, path) {
-        Ok(file) => file,
-        Err(error) => {
-            eprintln!(rt; "{path}: {error}")?;
-            return Ok(session);
-        }
-    };
-    let mut script = [0u8; 1048576];
-    let n = read_script(&mut file, &mut script)?;
-    run_part(output, &script, n, session)
+impl Session {
+    // One script, from the state in which the one before it ended. Of a script that does not open,
+    // standard error is told, and nothing is run.
+    pub fn run_script<R: Files + Eprint>(
+        &mut self,
+        rt: &R,
+        output: &mut impl Write,
+        path: &str,
+    ) -> io::Result<()> {
+        let mut file = match fs::open(rt, path) {
+            Ok(file) => file,
+            Err(error) => return eprintln!(rt; "{path}: {error}"),
+        };
+        let mut script = [0u8; 1048576];
+        let n = read_script(&mut file, &mut script)?;
+        run_part(self, output, &script, n)
+    }
 }

@@ -2,12 +2,10 @@
 #![tactic(auto)]
 
 use accounts::Lookup;
-use authenticator::Retries;
+use authenticator::Settings;
 use loopback::{
-    IssuedList, Loopback, account, again, another_challenge, answered, challenge, issued, new_one,
-    next_challenge, old_hash, opening, opening_for_lm, opening_on, place, right, rightly,
-    rightly_for, say, title, usual_opening, write_change, write_response, wrong, wrongly,
-    wrongly_for,
+    IssuedList, Loopback, Password, account, another_challenge, challenge, next_challenge,
+    old_hash, or_invalid, place, settings, usual_settings,
 };
 use std::io;
 use std::io::Write;
@@ -17,70 +15,59 @@ use std::io::Write;
 // A second box, on the list that the first was passed: neither its challenge nor the next one,
 // which a retry would answer, can be had again. A refused opening leaves the list as it was.
 fn refused_twice(output: &mut impl Write, list: IssuedList) -> io::Result<()> {
-    say(
+    writeln!(
         output,
-        b"   A second box on the same list, with the same challenge, and with the one that a retry",
+        "   A second box on the same list, with the same challenge, and with the one that a retry"
     )?;
-    say(output, b"   at the first would answer:")?;
-    opening_on(output, list, 7, challenge(), Retries::Default)?;
-    opening_on(
-        output,
-        list,
-        7,
-        challenges::incremented(challenge()),
-        Retries::Count(0),
-    )?;
+    writeln!(output, "   at the first would answer:")?;
+    Loopback::try_open(output, usual_settings(), list)?;
+    let settings = Settings {
+        retries: Some(0),
+        ..settings(7, challenges::incremented(challenge()))
+    };
+    Loopback::try_open(output, settings, list)?;
     Ok(())
-}
-
-fn say_list(output: &mut impl Write, loopback: Loopback) -> io::Result<()> {
-    let list = loopback.list;
-    let octets = list.octets;
-    issued(output, &octets, list.used)
 }
 
 // Whoever recorded a Response answers too, and sends the recorded one in place of his own.
-fn replay(output: &mut impl Write, loopback: Loopback, recorded: &[u8]) -> io::Result<()> {
-    let guess = wrong();
+fn replay(output: &mut impl Write, mut ends: Loopback, recorded: &[u8]) -> io::Result<()> {
     let mut out = [0u8; 310];
-    let wrote = write_response(loopback, &guess, &mut out);
-    let made = b"The recorded Response: from the right password, to the first box's challenge.";
-    answered(output, loopback, wrote, recorded, made, account(false))?;
-    Ok(())
+    let wrote = ends.write_response(Password::Wrong, &mut out)?;
+    let made = "The recorded Response: from the right password, to the first box's challenge.";
+    ends.answered(output, wrote, recorded, made, account(false)?)
 }
 
 // With a challenge of its own it opens.
 fn with_its_own(output: &mut impl Write, list: IssuedList, recorded: &[u8]) -> io::Result<()> {
-    say(
+    writeln!(
         output,
-        b"   With a challenge of its own it opens, and the recorded Response is a wrong one there:",
+        "   With a challenge of its own it opens, and the recorded Response is a wrong one there:"
     )?;
-    let loopback = opening_on(output, list, 7, another_challenge(), Retries::Default)?;
-    say_list(output, loopback)?;
-    replay(output, loopback, recorded)
+    let ends = Loopback::open_on(output, settings(7, another_challenge()), list)?;
+    ends.list.say(output)?;
+    replay(output, ends, recorded)
 }
 
 // The first box on the list: its Response is recorded in out. Answers the list.
 fn first_on_list(output: &mut impl Write, out: &mut [u8]) -> io::Result<IssuedList> {
-    let loopback = usual_opening(output)?;
-    say_list(output, loopback)?;
-    let password = right();
-    let wrote = write_response(loopback, &password, out);
-    let made = b"The peer answers from the right password. Somebody on the line records this.";
-    answered(output, loopback, wrote, out, made, account(false))?;
-    Ok(loopback.list)
+    let mut ends = Loopback::open(output, usual_settings())?;
+    ends.list.say(output)?;
+    let wrote = ends.write_response(Password::Right, out)?;
+    let made = "The peer answers from the right password. Somebody on the line records this.";
+    ends.answered(output, wrote, out, made, account(false)?)?;
+    Ok(ends.list)
 }
 
 // Boxes on one list, as a controller passes it.
 fn shared(output: &mut impl Write) -> io::Result<()> {
-    title(output, b"Slip: one challenge shared by two boxes.")?;
-    say(
+    writeln!(output, "\nSlip: one challenge shared by two boxes.")?;
+    writeln!(
         output,
-        b"   A Response recorded at the first is accepted by the second. Look at the challenges:",
+        "   A Response recorded at the first is accepted by the second. Look at the challenges:"
     )?;
-    say(
+    writeln!(
         output,
-        b"   here the second box does not open with any that stands in the list.",
+        "   here the second box does not open with any that stands in the list."
     )?;
     let mut recorded = [0u8; 310];
     let list = first_on_list(output, &mut recorded)?;
@@ -89,297 +76,308 @@ fn shared(output: &mut impl Write) -> io::Result<()> {
 }
 
 // A retry from the right password, to the challenge that a carry makes.
-fn carried(output: &mut impl Write, loopback: Loopback, slip: [u8; 8]) -> io::Result<()> {
-    say(
+fn carried(output: &mut impl Write, mut ends: Loopback, slip: [u8; 8]) -> io::Result<()> {
+    writeln!(
         output,
-        b"   In place of that, the same retry by a peer that carries: it has the right password,",
+        "   In place of that, the same retry by a peer that carries: it has the right password,"
     )?;
-    say(output, b"   and is turned away.")?;
-    let password = right();
+    writeln!(output, "   and is turned away.")?;
     let mut out = [0u8; 310];
-    let wrote = write_response(loopback, &password, &mut out);
-    let response = credentials::challenge_response(old_hash(), slip);
+    let wrote = ends.write_response(Password::Right, &mut out)?;
+    let response = credentials::challenge_response(old_hash()?, slip);
     octets::copy_at(&mut out, 29, &response);
-    let made = b"The peer answers from the right password, to the slip's challenge.";
-    answered(output, loopback, wrote, &out, made, account(false))?;
-    Ok(())
+    let made = "The peer answers from the right password, to the slip's challenge.";
+    ends.answered(output, wrote, &out, made, account(false)?)
 }
 
 fn carry(output: &mut impl Write) -> io::Result<()> {
-    title(output, b"Slip: a carry out of the challenge's first octet.")?;
-    say(
+    writeln!(
         output,
-        b"   A retry answers the challenge with its first octet incremented by 23 modulo 256: E9",
+        "\nSlip: a carry out of the challenge's first octet."
     )?;
-    say(
+    writeln!(
         output,
-        b"   becomes 00, and the other seven stay. Look at the second octet of the next challenge.",
+        "   A retry answers the challenge with its first octet incremented by 23 modulo 256: E9"
+    )?;
+    writeln!(
+        output,
+        "   becomes 00, and the other seven stay. Look at the second octet of the next challenge."
     )?;
     let first = [0xe9, 2, 3, 4, 5, 6, 7, 8];
     let slip = [0, 3, 3, 4, 5, 6, 7, 8];
-    let mut loopback = opening(output, 9, first, Retries::Count(1))?;
-    loopback = wrongly(output, loopback, false)?;
-    next_challenge(output, b"right,", challenges::incremented(first))?;
-    next_challenge(output, b"slip, ", slip)?;
-    rightly(output, loopback, false)?;
-    carried(output, loopback, slip)
+    let settings = Settings {
+        retries: Some(1),
+        ..settings(9, first)
+    };
+    let record = account(false)?;
+    let mut ends = Loopback::open(output, settings)?;
+    ends.response(output, Password::Wrong, record)?;
+    next_challenge(output, "right,", challenges::incremented(first))?;
+    next_challenge(output, "slip, ", slip)?;
+    let mut rightly = ends;
+    rightly.response(output, Password::Right, record)?;
+    carried(output, ends, slip)
 }
 
 // ---- the Response
 
-fn disabled_account() -> Lookup {
-    let nt = accounts::hash_of(old_hash());
+fn disabled_account() -> io::Result<Lookup> {
+    let nt = accounts::hash_of(old_hash()?);
     let lm = accounts::no_hash();
-    accounts::found(accounts::account_with(nt, lm, true, false, false, false))
+    Ok(accounts::found(accounts::account_with(nt, lm, true, false, false, false)))
 }
 
 // An opening with so many retries.
 fn opening_with(output: &mut impl Write, retries: u8) -> io::Result<Loopback> {
-    opening(output, 1, [1, 2, 3, 4, 5, 6, 7, 8], Retries::Count(retries))
+    let settings = Settings {
+        retries: Some(retries),
+        ..settings(1, [1, 2, 3, 4, 5, 6, 7, 8])
+    };
+    Loopback::open(output, settings)
 }
 
 fn disabled(output: &mut impl Write) -> io::Result<()> {
-    title(
+    writeln!(
         output,
-        b"Slip: a disabled account reported before the password was checked.",
+        "\nSlip: a disabled account reported before the password was checked."
     )?;
-    say(
+    writeln!(
         output,
-        b"   Look at the messages: a wrong password draws E=691 R=1 V=2, only the right one E=647.",
+        "   Look at the messages: a wrong password draws E=691 R=1 V=2, only the right one E=647."
     )?;
-    say(
+    writeln!(
         output,
-        b"   With the slip a wrong one draws E=647 R=0 V=2, and a guesser learns of the account.",
+        "   With the slip a wrong one draws E=647 R=0 V=2, and a guesser learns of the account."
     )?;
-    let lookup = disabled_account();
-    let mut loopback = opening_with(output, 1)?;
-    loopback = wrongly_for(output, loopback, lookup)?;
-    rightly_for(output, loopback, lookup)?;
-    Ok(())
+    let lookup = disabled_account()?;
+    let mut ends = opening_with(output, 1)?;
+    ends.response(output, Password::Wrong, lookup)?;
+    ends.response(output, Password::Right, lookup)
 }
 
 fn unknown(output: &mut impl Write) -> io::Result<()> {
-    title(
+    writeln!(
         output,
-        b"Slip: an unknown account told apart from a wrong password.",
+        "\nSlip: an unknown account told apart from a wrong password."
     )?;
-    say(
+    writeln!(
         output,
-        b"   Look at the two Failures: octet for octet the same. No account has the name:",
+        "   Look at the two Failures: octet for octet the same. No account has the name:"
     )?;
-    let absent = opening_with(output, 0)?;
-    wrongly_for(output, absent, accounts::not_found())?;
-    say(
+    let mut absent = opening_with(output, 0)?;
+    absent.response(output, Password::Wrong, accounts::not_found())?;
+    writeln!(
         output,
-        b"   The account is there, and the password is wrong:",
+        "   The account is there, and the password is wrong:"
     )?;
-    let present = opening_with(output, 0)?;
-    wrongly_for(output, present, account(false))?;
-    Ok(())
+    let mut present = opening_with(output, 0)?;
+    present.response(output, Password::Wrong, account(false)?)
 }
 
 // The LM hash of the right password, and its response to the usual challenge.
-fn lm_hash() -> [u8; 16] {
-    credentials::lm_hash(b"MyPw").unwrap()
+fn lm_hash() -> io::Result<[u8; 16]> {
+    or_invalid(credentials::lm_hash(b"MyPw"))
 }
 
-fn lm_response() -> [u8; 24] {
-    credentials::challenge_response(lm_hash(), challenge())
+fn lm_response() -> io::Result<[u8; 24]> {
+    Ok(credentials::challenge_response(lm_hash()?, challenge()))
 }
 
 // The account with an LM hash too.
-fn account_with_lm() -> Lookup {
-    let nt = accounts::hash_of(old_hash());
-    let lm = accounts::hash_of(lm_hash());
-    accounts::found(accounts::account_with(nt, lm, false, false, false, false))
+fn account_with_lm() -> io::Result<Lookup> {
+    let nt = accounts::hash_of(old_hash()?);
+    let lm = accounts::hash_of(lm_hash()?);
+    Ok(accounts::found(accounts::account_with(nt, lm, false, false, false, false)))
+}
+
+// A box with no retries, and what it was told of LM.
+fn opening_for(output: &mut impl Write, lm: Option<bool>) -> io::Result<Loopback> {
+    let settings = Settings {
+        retries: Some(0),
+        lm,
+        ..usual_settings()
+    };
+    Loopback::open(output, settings)
 }
 
 // A wrong password, with another LM response than the zeros that our peer writes.
-fn wrongly_with_lm(output: &mut impl Write, loopback: Loopback) -> io::Result<()> {
-    let guess = wrong();
-    let lm = lm_response();
+fn wrongly_with_lm(output: &mut impl Write, mut ends: Loopback) -> io::Result<()> {
+    let lm = lm_response()?;
     let mut out = [0u8; 310];
-    let wrote = write_response(loopback, &guess, &mut out);
+    let wrote = ends.write_response(Password::Wrong, &mut out)?;
     octets::copy_at(&mut out, 5, &lm);
-    place(output, b"the right LM response", 5, &lm)?;
-    let made = b"The peer answers from a wrong password, with the right LM response beside it.";
-    answered(output, loopback, wrote, &out, made, account_with_lm())?;
-    Ok(())
+    place(output, "the right LM response", 5, &lm)?;
+    let made = "The peer answers from a wrong password, with the right LM response beside it.";
+    ends.answered(output, wrote, &out, made, account_with_lm()?)
 }
 
 // The Response has a wrong NT response and the right LM response. The box was asked for LM: one
 // that does not judge LM would turn it away with the slip too.
 fn fallback(output: &mut impl Write) -> io::Result<()> {
-    title(
+    writeln!(
         output,
-        b"Slip: falling back to LM when the NT response is wrong.",
+        "\nSlip: falling back to LM when the NT response is wrong."
     )?;
-    say(
+    writeln!(
         output,
-        b"   With flag 1 the LM response is not looked at, even by a box that judges LM. Look at",
+        "   With flag 1 the LM response is not looked at, even by a box that judges LM. Look at"
     )?;
-    say(
+    writeln!(
         output,
-        b"   the reply: the slip would send Success, 03070004.",
+        "   the reply: the slip would send Success, 03070004."
     )?;
-    let loopback = opening_for_lm(output, 7, challenge(), Retries::Count(0))?;
-    wrongly_with_lm(output, loopback)
+    let ends = opening_for(output, Some(true))?;
+    wrongly_with_lm(output, ends)
 }
 
 // An old phone's Response: the right LM response, no NT response, and the flag 0.
-fn by_lm_alone(output: &mut impl Write, loopback: Loopback) -> io::Result<()> {
-    let guess = wrong();
-    let lm = lm_response();
+fn by_lm_alone(output: &mut impl Write, mut ends: Loopback) -> io::Result<()> {
     let nothing = [0u8; 25];
     let mut out = [0u8; 310];
-    let wrote = write_response(loopback, &guess, &mut out);
-    octets::copy_at(&mut out, 5, &lm);
+    let wrote = ends.write_response(Password::Wrong, &mut out)?;
+    octets::copy_at(&mut out, 5, &lm_response()?);
     octets::copy_at(&mut out, 29, &nothing);
-    let made = b"An old phone answers from the right password, by LM alone: octet 53 is 00.";
-    answered(output, loopback, wrote, &out, made, account_with_lm())?;
-    Ok(())
+    let made = "An old phone answers from the right password, by LM alone: octet 53 is 00.";
+    ends.answered(output, wrote, &out, made, account_with_lm()?)
 }
 
 fn unasked(output: &mut impl Write) -> io::Result<()> {
-    title(output, b"Slip: LM judged though nobody asked for it.")?;
-    say(
+    writeln!(output, "\nSlip: LM judged though nobody asked for it.")?;
+    writeln!(
         output,
-        b"   The flag, octet 53, says which response is meant: 00 is LM, the weak one. This box",
+        "   The flag, octet 53, says which response is meant: 00 is LM, the weak one. This box"
     )?;
-    say(
+    writeln!(
         output,
-        b"   was told nothing of LM. Look at the reply: the slip would send Success, 03070004.",
+        "   was told nothing of LM. Look at the reply: the slip would send Success, 03070004."
     )?;
-    let silent = opening(output, 7, challenge(), Retries::Count(0))?;
+    let silent = opening_for(output, None)?;
     by_lm_alone(output, silent)?;
-    say(
+    writeln!(
         output,
-        b"   A bench with old phones asks for LM when it opens. The same Response there:",
+        "   A bench with old phones asks for LM when it opens. The same Response there:"
     )?;
-    let asked = opening_for_lm(output, 7, challenge(), Retries::Count(0))?;
+    let asked = opening_for(output, Some(true))?;
     by_lm_alone(output, asked)
 }
 
 // A guess under the identifier that was answered, and then the retry, both from the right password.
 fn judged_again(output: &mut impl Write) -> io::Result<()> {
-    title(output, b"Slip: a repeated Response judged again.")?;
-    say(
+    writeln!(output, "\nSlip: a repeated Response judged again.")?;
+    writeln!(
         output,
-        b"   A repeat draws the last reply again, whatever is in it. Look at the reply to it: the",
+        "   A repeat draws the last reply again, whatever is in it. Look at the reply to it: the"
     )?;
-    say(
+    writeln!(
         output,
-        b"   slip would send Success, 03070004, and one identifier would do for any number of",
+        "   slip would send Success, 03070004, and one identifier would do for any number of"
     )?;
-    say(output, b"   guesses.")?;
-    let mut loopback = opening(output, 7, challenge(), Retries::Count(1))?;
-    let peer = loopback.peer;
-    loopback = wrongly(output, loopback, false)?;
-    say(
+    writeln!(output, "   guesses.")?;
+    let settings = Settings {
+        retries: Some(1),
+        ..usual_settings()
+    };
+    let record = account(false)?;
+    let mut ends = Loopback::open(output, settings)?;
+    let peer = ends.peer;
+    ends.response(output, Password::Wrong, record)?;
+    writeln!(
         output,
-        b"   The next guess, under the identifier that was answered, is the right password:",
+        "   The next guess, under the identifier that was answered, is the right password:"
     )?;
-    loopback = again(output, loopback, peer)?;
-    say(
+    ends.peer = peer;
+    ends.response(output, Password::Right, record)?;
+    writeln!(
         output,
-        b"   The conversation is where it was, and the retry is still left:",
+        "   The conversation is where it was, and the retry is still left:"
     )?;
-    rightly(output, loopback, false)?;
-    Ok(())
+    ends.response(output, Password::Right, record)
 }
 
 // ---- the change
 
 // The right change but for the octets from a place on, which a slip made otherwise.
 fn slipped(output: &mut impl Write, at: usize, slip: &[u8]) -> io::Result<()> {
-    let opened = usual_opening(output)?;
-    let loopback = rightly(output, opened, true)?;
+    let mut ends = Loopback::open(output, usual_settings())?;
+    ends.response(output, Password::Right, account(true)?)?;
     let mut out = [0u8; 1118];
-    let wrote = write_change(loopback, &mut out);
-    place(output, b"right,", at, octets::part_of(&out, at, slip.len()))?;
-    place(output, b"slip, ", at, slip)?;
+    let wrote = ends.write_change(Password::Right, &mut out)?;
+    place(output, "right,", at, octets::part_of(&out, at, slip.len()))?;
+    place(output, "slip, ", at, slip)?;
     octets::copy_at(&mut out, at, slip);
-    let made = b"The peer sends the change of B.1.5, but for the slip's octets.";
-    answered(output, loopback, wrote, &out, made, accounts::not_found())?;
-    Ok(())
-}
-
-fn new_hash() -> [u8; 16] {
-    let password = new_one();
-    credentials::nt_hash(&password).unwrap()
+    let made = "The peer sends the change of B.1.5, but for the slip's octets.";
+    ends.answered(output, wrote, &out, made, accounts::not_found())
 }
 
 fn by_old_hash(output: &mut impl Write) -> io::Result<()> {
-    title(
+    writeln!(
         output,
-        b"Slip: a change's response made from the old password.",
+        "\nSlip: a change's response made from the old password."
     )?;
-    say(
+    writeln!(
         output,
-        b"   It is the new one's. Look at the 24 octets: the slip's are those of the Response.",
+        "   It is the new one's. Look at the 24 octets: the slip's are those of the Response."
     )?;
-    let response = credentials::challenge_response(old_hash(), challenge());
+    let response = credentials::challenge_response(old_hash()?, challenge());
     slipped(output, 1092, &response)
 }
 
 fn second_key(output: &mut impl Write) -> io::Result<()> {
-    title(
+    writeln!(
         output,
-        b"Slip: A.17's second key taken as the new hash's first seven octets again.",
+        "\nSlip: A.17's second key taken as the new hash's first seven octets again."
     )?;
-    say(
+    writeln!(
         output,
-        b"   It is the next seven. Look at the second half of the old hash under the new one.",
+        "   It is the next seven. Look at the second half of the old hash under the new one."
     )?;
-    let old = old_hash();
-    let new = new_hash();
+    let old = old_hash()?;
+    let new = Password::New.nt_hash()?;
     let half = des::encrypt(octets::array_at(&new, 0), octets::array_at(&old, 8));
     slipped(output, 528, &half)
 }
 
 fn anew(output: &mut impl Write) -> io::Result<()> {
-    title(
+    writeln!(
         output,
-        b"Slip: RC4 started anew for the four length octets.",
+        "\nSlip: RC4 started anew for the four length octets."
     )?;
-    say(
+    writeln!(
         output,
-        b"   One run goes over all 516. Look at the last four octets of the sealed password.",
+        "   One run goes over all 516. Look at the last four octets of the sealed password."
     )?;
-    let old = old_hash();
     let mut length = [14u8, 0, 0, 0];
-    rc4::rc4(&old, &mut length).unwrap();
+    or_invalid(rc4::rc4(&old_hash()?, &mut length))?;
     slipped(output, 516, &length)
 }
 
 fn in_characters(output: &mut impl Write) -> io::Result<()> {
-    title(
+    writeln!(
         output,
-        b"Slip: the length of the new password counted in characters.",
+        "\nSlip: the length of the new password counted in characters."
     )?;
-    say(
+    writeln!(
         output,
-        b"   'MyNewPw' has 14 octets, and 7 characters. Look at the length: an odd one is no",
+        "   'MyNewPw' has 14 octets, and 7 characters. Look at the length: an odd one is no"
     )?;
-    say(
+    writeln!(
         output,
-        b"   password's, and the support desk knows that it is the handset.",
+        "   password's, and the support desk knows that it is the handset."
     )?;
-    let old = old_hash();
     let mut block = [0u8; 516];
     block[512] = 7;
-    rc4::rc4(&old, &mut block).unwrap();
+    or_invalid(rc4::rc4(&old_hash()?, &mut block))?;
     slipped(output, 516, octets::part_of(&block, 512, 4))
 }
 
 fn incremented(output: &mut impl Write) -> io::Result<()> {
-    title(output, b"Slip: the challenge incremented after 648.")?;
-    say(
+    writeln!(output, "\nSlip: the challenge incremented after 648.")?;
+    writeln!(
         output,
-        b"   A change answers the challenge of the last Response. Look at the change's response.",
+        "   A change answers the challenge of the last Response. Look at the change's response."
     )?;
     let next = challenges::incremented(challenge());
-    let response = credentials::challenge_response(new_hash(), next);
+    let response = credentials::challenge_response(Password::New.nt_hash()?, next);
     slipped(output, 1092, &response)
 }
 

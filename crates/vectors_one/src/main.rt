@@ -2,10 +2,10 @@
 // what one program may write is nearly used up there.
 #![tactic(auto)]
 
+use script_run::Session;
 use std::io;
 
 fn main(rt: HostRuntime) -> io::Result<()> {
     let mut output = rt.stdout();
-    script_run::run_script(&rt, &mut output, "cases.txt", script_run::new_session())?;
-    Ok(())
+    Session::new().run_script(&rt, &mut output, "cases.txt")
 }
