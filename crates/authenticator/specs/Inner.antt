@@ -1,7 +1,7 @@
 -- What the code passes on while a conversation is opened. Only private functions cite it.
 -- Assumes nothing: these are definitions.
 use Rattle.std.specs.Prelude.{replicate}
-use Rattle.issued.specs.Issued.{Issued, empty_list}
+use Rattle.issued.specs.Issued.{empty_list}
 use Rattle.authenticator.specs.Opening.{Opening}
 use Rattle.authenticator.specs.declared.Settings.{Settings}
 

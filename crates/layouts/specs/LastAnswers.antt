@@ -1,7 +1,7 @@
 -- The layout of what a conversation answered last: whether it has answered, the code and the
 -- identifier of the packet, and the reply.
 -- Assumes nothing: these are definitions.
-use Rattle.std.specs.Prelude.{Bool, cond, List, [], ◌∷◌, ℕ, eqb}
+use Rattle.std.specs.Prelude.{cond, List, [], ◌∷◌, ℕ, eqb}
 use Rattle.octets.specs.Numbers.{to_be, from_be}
 use Rattle.packets.specs.Frame.{octet}
 use Rattle.authenticator.specs.Judge.{reason_of}

@@ -4,6 +4,9 @@ use credentials::{Content, Unsealed};
 use std::io;
 use std::io::Write;
 
+// Three lines for each hash: a function over the hash would have to ask of it that it takes any
+// input, and be no plainer.
+
 // nthash PASSWORD
 fn nt_hash(output: &mut impl Write, line: &[u8]) -> io::Result<()> {
     let mut room = [0u8; 8192];

@@ -3,10 +3,8 @@
 use mathlib.Core.List.{List}
 use mathlib.Core.Path.{◌≡◌, refl, sym, ap, ◌∙◌}
 use Prim.Native.Nat.{ℕ}
-use Rattle.std.specs.Prelude.{Result, Ok, Err}
+use Rattle.std.specs.Prelude.{Ok, Err}
 use Rattle.verify.specs.Change.{CheckedChange, checked_as}
-use Rattle.verify.specs.declared.ChangeFault.{ChangeFault}
-use Rattle.verify.specs.declared.NewHashes.{NewHashes}
 use Rattle.authenticator.specs.Judge.{verdict_of, change_judgement, checked_for, judge_change}
 use Rattle.authenticator.specs.declared.Conversation.{Conversation}
 use Rattle.authenticator.proofs.Judgements.{changed_judged, unchanged_judged, faulty}

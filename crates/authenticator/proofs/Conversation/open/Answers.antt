@@ -1,15 +1,15 @@
 -- `authenticator::Conversation::open` meets its contract: refused by its arguments, refused by the
 -- list, or opened.
 -- Assumes nothing.
-use mathlib.Core.Bool.{Bool, true, false, cond}
+use mathlib.Core.Bool.{Bool, true, false}
 use mathlib.Core.List.{List}
 use mathlib.Core.Path.{◌≡◌, refl, sym, ap, ◌∙◌}
-use Prim.Native.Nat.{ℕ, suc, ◌≤◌, ◌<◌}
+use Prim.Native.Nat.{ℕ, suc, ◌≤◌}
 use native.Mathlib.Omega.{arith}
 use borrow.Author.Rules.{rules}
 use borrow.Author.Tests.{eq-eqb, ne_eqb, lt-ltb, le-ltb, ltb-false}
 use lib.ListN.{length}
-use Rattle.std.specs.Prelude.{Result, Ok, Err}
+use Rattle.std.specs.Prelude.{Result}
 use Rattle.refusals.specs.declared.Refusal.{Refusal}
 use Rattle.refusals.proofs.Passed.{passed_on}
 use Rattle.refusals.specs.Refusal.{number, told}
@@ -19,7 +19,7 @@ use Rattle.issued.specs.Issued.{Issued, spend_refusal, spent, used_after}
 use Rattle.issued.proofs.Spending.{spent_refused}
 use Rattle.challenges.specs.Challenges.{challenges_from}
 use Rattle.packets.specs.Reply.{challenge_packet, longest_reply, bad_reply_buffer}
-use Rattle.authenticator.specs.Opening.{Opening, most_retries, retries_of, spends, no_limit}
+use Rattle.authenticator.specs.Opening.{Opening, most_retries, retries_of, spends}
 use Rattle.authenticator.specs.Opening.{too_many_retries, open_refusal}
 use Rattle.authenticator.specs.declared.Settings.{Settings}
 use Rattle.authenticator.proofs.Openings.{GoodArguments, list_refusal, refused_promise}

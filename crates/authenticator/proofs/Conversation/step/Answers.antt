@@ -19,9 +19,7 @@ use Rattle.refusals.specs.Refusal.{number, told as refusal_told}
 use Rattle.refusals.specs.declared.Refusal.{Refusal}
 use Rattle.refusals.proofs.Passed.{passed_on}
 use Rattle.accounts.specs.Account.{entry_lookup_of}
-use Rattle.authenticator.specs.Step.{stepped_as, answer_as, unjudged, refusal_in, kind_of, Refused}
-use Rattle.authenticator.specs.declared.Drawn.{Drawn}
-use Rattle.authenticator.specs.declared.Drawn.TheVariants as drawn
+use Rattle.authenticator.specs.Step.{stepped_as, answer_as, unjudged, refusal_in, Refused}
 use Rattle.authenticator.specs.declared.Step.{Step}
 use Rattle.authenticator.specs.declared.Conversation.{Conversation}
 use Rattle.authenticator.specs.declared.Phase.{Phase}
@@ -78,8 +76,8 @@ returns-in_err-stepped c =
       same,
       c.step_by.ensures.1 ∙ ap (λ (x : Seen). x.buffer) read,
       ap refusal_told on
-      ∙ sym (ap (λ (x : Result Step Refusal). refusal_in (answer_as a.self x).kind) on)
-      ∙ facts.0,
+          ∙ sym (ap (λ (x : Result Step Refusal). refusal_in (answer_as a.self x).kind) on)
+          ∙ facts.0,
       facts.1,
       facts.2,
       facts.3,

@@ -1,14 +1,12 @@
 -- `authenticator::Conversation::step_by` meets its contract: refused; the last answer again; or judged
 -- and the reply written.
 -- Assumes nothing.
-use Rattle.std.specs.Prelude.{None}
 use mathlib.Core.Bool.{Bool}
 use mathlib.Core.List.{List}
 use mathlib.Core.Logic.{◌≢◌}
 use mathlib.Core.Path.{◌≡◌, sym, ap, ap₂, ◌∙◌}
 use Prim.Native.Nat.{ℕ}
 use lib.ListN.{length}
-use Rattle.accounts.specs.declared.EntryLookup.{EntryLookup}
 use Rattle.accounts.specs.declared.Lookup.{Lookup}
 use Rattle.packets.specs.Frame.{written_over}
 use Rattle.accounts.specs.Account.{stored_in}
@@ -50,11 +48,10 @@ returns-in_err-admit c =
     sym (ap told c.in_err-admit.was) ∙ c.admit.ensures
     ∙ ap (λ (t : Bool). refusal_for t a.self p b) c.is_repeat-repeated.ensures in
     let some : step_refusal a.self p b ≢ 0 = λ e. number_some r (refusal-told ∙ e) in
-    let whole = refused_step a.self p l b some in
-    (
+    let whole = refused_step a.self p l b some in (
       ap (stepped_as a.self) (passed_on c.from_residual.result c.from_residual.ensures.1)
-      ∙ ap (λ (n : ℕ). stepped_of (unjudged (Refused n) a.self 0)) refusal-told
-      ∙ sym (ap (λ (o : Outcome). stepped_of o.answer) whole),
+          ∙ ap (λ (n : ℕ). stepped_of (unjudged (Refused n) a.self 0)) refusal-told
+          ∙ sym (ap (λ (o : Outcome). stepped_of o.answer) whole),
       sym (ap (λ (o : Outcome). o.buffer) whole),
     )
 

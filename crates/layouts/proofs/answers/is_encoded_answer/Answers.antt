@@ -1,15 +1,14 @@
 -- `layouts::answers::is_encoded_answer` meets its contract.
 -- Assumes nothing.
-use mathlib.Core.Path.{refl, sym, ap, ◌∙◌}
+use mathlib.Core.Path.{sym, ap, ◌∙◌}
 use mathlib.Core.Bool.{Bool, ◌&&◌}
 use native.Mathlib.Omega.{arith}
 use borrow.Author.Tests.{eq-eqb, ne_eqb}
 use Rattle.octets.specs.Parts.{part, agrees}
-use Rattle.layouts.specs.Call.{sized}
 use Rattle.layouts.specs.declared.StepResult.{StepResult}
 use Rattle.layouts.specs.Values.{answer_kind}
 use Rattle.layouts.specs.Inner.{in_room}
-use Rattle.layouts.specs.Answers.{answer_size, encode_result, answer_head, decode_answer}
+use Rattle.layouts.specs.Answers.{encode_result, answer_head, decode_answer}
 use Rattle.layouts.specs.Answers.{is_encoded_answer}
 use Rattle.layouts.proofs.AnswerLaws.{length_result, decoded_answer_sized}
 use Rattle.layouts.proofs.Putting.{compared}

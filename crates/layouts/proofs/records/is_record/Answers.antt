@@ -1,13 +1,12 @@
 -- `layouts::records::is_record` meets its contract.
 -- Assumes nothing.
-use mathlib.Core.Path.{refl, sym, ap, ◌∙◌}
+use mathlib.Core.Path.{sym, ap, ◌∙◌}
 use mathlib.Core.Bool.{Bool, ◌&&◌}
 use native.Mathlib.Omega.{arith}
 use borrow.Author.Tests.{eq-eqb, ne_eqb}
 use Rattle.octets.specs.Parts.{part, over, agrees}
-use Rattle.layouts.specs.Call.{sized}
 use Rattle.layouts.specs.Values.{record_kind}
-use Rattle.layouts.specs.Records.{record_size, encode_entry_lookup, record_head}
+use Rattle.layouts.specs.Records.{encode_entry_lookup, record_head}
 use Rattle.layouts.proofs.RecordLaws.{SizedEntry, length_entry_lookup}
 use Rattle.layouts.proofs.Putting.{compared}
 use borrow.Author.Rules.{rules}
