@@ -1,7 +1,7 @@
 -- A sample of what demand 3 speaks of: openings, a record, our peer's packets and what is passed
 -- with them. They meet the premises with any box and writer.
 -- Assumes nothing.
-use Rattle.std.specs.Prelude.{Option, Some, None, true}
+use Rattle.std.specs.Prelude.{Option, Some, None}
 use mathlib.Core.Bool.{Bool, false}
 use mathlib.Core.List.{List, [], ◌∷◌}
 use mathlib.Core.Path.{◌≡◌, refl}

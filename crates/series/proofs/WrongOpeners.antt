@@ -2,7 +2,7 @@
 -- conversation with a refusal, one that leaves the list as it was, and one that spends the
 -- challenge alone.
 -- Assumes nothing.
-use Rattle.std.specs.Prelude.{Some, None, true, false}
+use Rattle.std.specs.Prelude.{Some, None}
 use mathlib.Core.Bool.{true≢false}
 use mathlib.Core.List.{List, [], ◌∷◌, ◌++◌, flatten}
 use mathlib.Core.Path.{◌≡◌, refl, sym, ap, ◌∙◌}

@@ -36,9 +36,7 @@ fn are_step_arguments(
     ensures { result ≡ step_arguments_as before lookup conversation.now
         account.now out.now }
 {
-    is_conversation(before, conversation)
-        && is_record(lookup, account)
-        && out.len() == ANSWER_SIZE
+    is_conversation(before, conversation) && is_record(lookup, account) && out.len() == ANSWER_SIZE
 }
 
 // Where the round keys begin that judge a Response, in a record, chosen without a branch.

@@ -1,6 +1,6 @@
 -- `mschap::lists::mschap_make_list` meets its contract.
 -- Assumes nothing.
-use mathlib.Core.Path.{◌≡◌, refl, sym, ap, ◌∙◌}
+use mathlib.Core.Path.{◌≡◌, sym, ap, ◌∙◌}
 use mathlib.Core.Bool.{Bool, false, cond}
 use Rattle.mschap.specs.Lists.{bad_places, make_list_refusal}
 use Rattle.mschap.proofs.ListCalls.{head_laid, good_head}

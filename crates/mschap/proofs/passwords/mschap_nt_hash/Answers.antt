@@ -13,7 +13,6 @@ use Rattle.layouts.specs.Call.{sized}
 use Rattle.layouts.specs.Passwords.{is_encoded_password}
 use Rattle.layouts.proofs.Filling.{both, refused_argument, valid_argument, fills_as}
 use Rattle.mschap.specs.Passwords.{hash_arguments}
-use borrow.Author.Rules.{rules}
 use Rattle.mschap.proofs.passwords.mschap_nt_hash.Goals as goal
 
 room : (password hash : List ℕ) → hash_arguments password hash ≡ true → length hash ≡ 16

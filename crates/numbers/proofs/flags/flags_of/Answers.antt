@@ -4,7 +4,6 @@ use mathlib.Core.Path.{◌≡◌, ap₂}
 use Prim.Native.Nat.{ℕ, ◌+◌}
 use native.Mathlib.Omega.{arith}
 use Rattle.numbers.specs.Flags.{flags_of}
-use borrow.Author.Rules.{rules}
 use Rattle.numbers.proofs.flags.flags_of.Goals as goal
 
 plus : {a b c d : ℕ} → a ≡ b → c ≡ d → a + c ≡ b + d

@@ -4,7 +4,6 @@ use mathlib.Core.Path.{refl, ap, ap₂, ◌∙◌}
 use Rattle.accounts.specs.Account.{lookup_of, account_of}
 use Rattle.layouts.proofs.RecordLaws.{hash_same, entry_same}
 use Rattle.numbers.specs.Flags.{record_from}
-use borrow.Author.Rules.{rules}
 use Rattle.numbers.proofs.flags.record_from.Goals as goal
 
 -- each part in turn, the last first
