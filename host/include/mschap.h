@@ -463,7 +463,7 @@ uint32_t mschap_version(void);
    wants one form of composed letters normalises it before, to NFC for instance.
    Returns MSCHAP_OK; MSCHAP_BAD_ARGUMENT unless password is MSCHAP_PASSWORD_SIZE bytes;
    MSCHAP_MALFORMED if text is not UTF-8; MSCHAP_INPUT if it has over 256 characters of 16 bits.
-   Stack: 1,664 bytes. */
+   Stack: 1,696 bytes. */
 uint32_t mschap_make_password(const uint8_t *text, size_t text_size,
                               mschap_password *password, size_t password_size);
 
@@ -471,7 +471,7 @@ uint32_t mschap_make_password(const uint8_t *text, size_t text_size,
    terminator; any characters, unpaired surrogates too.
    Returns MSCHAP_OK; MSCHAP_BAD_ARGUMENT unless password is MSCHAP_PASSWORD_SIZE bytes;
    MSCHAP_INPUT for an odd number of bytes or over MSCHAP_NT_PASSWORD_MAX.
-   Stack: 592 bytes. */
+   Stack: 576 bytes. */
 uint32_t mschap_make_password_utf16(const uint8_t *characters, size_t characters_size,
                                     mschap_password *password, size_t password_size);
 
@@ -479,14 +479,14 @@ uint32_t mschap_make_password_utf16(const uint8_t *characters, size_t characters
    in bytes in *length. The bytes behind it are unchanged.
    Returns MSCHAP_OK; MSCHAP_BAD_ARGUMENT for an invalid password; MSCHAP_MALFORMED if a surrogate
    has no partner; MSCHAP_ROOM if text is too small (MSCHAP_TEXT_MAX bytes are enough for any).
-   Stack: 1,632 bytes. */
+   Stack: 1,696 bytes. */
 uint32_t mschap_read_password(const mschap_password *password, size_t password_size,
                               uint8_t *text, size_t text_size, size_t *length);
 
 /* NtPasswordHash() of RFC 2433, A.6, of a password.
    Returns MSCHAP_OK; MSCHAP_BAD_ARGUMENT for an invalid password, or unless hash is
    MSCHAP_HASH_SIZE bytes.
-   Stack: 800 bytes. */
+   Stack: 912 bytes. */
 uint32_t mschap_nt_hash(const mschap_password *password, size_t password_size,
                         mschap_nthash *hash, size_t hash_size);
 
@@ -499,7 +499,7 @@ uint32_t mschap_nt_hash(const mschap_password *password, size_t password_size,
    answers by NT needs none.
    Returns MSCHAP_OK; MSCHAP_BAD_ARGUMENT unless hash is MSCHAP_HASH_SIZE bytes; MSCHAP_INPUT for a
    longer password.
-   Stack: 2,224 bytes. */
+   Stack: 200 bytes. */
 uint32_t mschap_lm_hash(const uint8_t *password, size_t password_size,
                         mschap_lmhash *hash, size_t hash_size);
 
@@ -516,7 +516,7 @@ uint32_t mschap_lm_hash(const uint8_t *password, size_t password_size,
    Returns MSCHAP_OK; MSCHAP_BAD_ARGUMENT for another bit in flags, a hash that is not
    MSCHAP_HASH_SIZE bytes, one without its flag or a flag without its hash, or unless record is
    MSCHAP_RECORD_SIZE bytes.
-   Stack: 5,056 bytes. */
+   Stack: 6,016 bytes. */
 uint32_t mschap_make_record(uint32_t flags,
                             const mschap_nthash *nt_hash, size_t nt_hash_size,
                             const mschap_lmhash *lm_hash, size_t lm_hash_size,
@@ -527,7 +527,7 @@ uint32_t mschap_make_record(uint32_t flags,
    nothing: what they answer is told by mschap_record_response.
    Returns MSCHAP_OK; MSCHAP_BAD_ARGUMENT for an invalid record, or unless both hashes are
    MSCHAP_HASH_SIZE bytes.
-   Stack: 288 bytes. */
+   Stack: 304 bytes. */
 uint32_t mschap_read_record(const mschap_record *record, size_t record_size,
                             uint32_t *flags,
                             mschap_nthash *nt_hash, size_t nt_hash_size,
@@ -555,7 +555,7 @@ uint32_t mschap_set_failures(mschap_record *record, size_t record_size, uint32_t
    and whether LM is allowed. Compare the response in a time that does not tell where it is wrong.
    Returns MSCHAP_OK; MSCHAP_BAD_ARGUMENT for an invalid record, another hash than one of these two,
    or another size; MSCHAP_NO_RECORD if the record has no such hash.
-   Stack: 2,760 bytes. */
+   Stack: 288 bytes. */
 uint32_t mschap_record_response(const mschap_record *record, size_t record_size, uint32_t hash,
                                 const uint8_t *challenge, size_t challenge_size,
                                 uint8_t *response, size_t response_size);
@@ -576,7 +576,7 @@ uint32_t mschap_record_response(const mschap_record *record, size_t record_size,
    MSCHAP_BAD_LINE for a line of another form, of any name, even behind the name's line; else
    MSCHAP_DOUBLED_NAME. With these two *offset is where the first such line starts; record is
    unchanged.
-   Stack: 6,336 bytes. */
+   Stack: 6,112 bytes. */
 uint32_t mschap_find_account(const uint8_t *file, size_t file_size,
                              const uint8_t *name, size_t name_size,
                              uint32_t now, uint32_t max_age,
@@ -593,7 +593,7 @@ uint32_t mschap_find_account(const uint8_t *file, size_t file_size,
    Returns MSCHAP_OK; MSCHAP_BAD_ARGUMENT for an invalid record; MSCHAP_NO_RECORD for the record of
    no account; MSCHAP_BAD_LINE; MSCHAP_DOUBLED_NAME; MSCHAP_NO_ACCOUNT for a name on no line.
    With MSCHAP_BAD_LINE and MSCHAP_DOUBLED_NAME *offset is as for mschap_find_account.
-   Stack: 576 bytes. */
+   Stack: 648 bytes. */
 uint32_t mschap_write_account(uint8_t *file, size_t file_size,
                               const uint8_t *name, size_t name_size,
                               const mschap_record *record, size_t record_size,
@@ -603,7 +603,7 @@ uint32_t mschap_write_account(uint8_t *file, size_t file_size,
    accounts that are disabled, that have expired, and that have no NT hash: one account may count in
    all three. A name on two lines counts twice.
    Returns MSCHAP_OK, whatever is in the file.
-   Stack: 304 bytes. */
+   Stack: 344 bytes. */
 uint32_t mschap_count_accounts(const uint8_t *file, size_t file_size,
                                uint32_t now, uint32_t max_age,
                                uint64_t *lines, uint64_t *bad, uint64_t *disabled,
@@ -642,7 +642,7 @@ uint32_t mschap_list_used(const uint8_t *list, size_t list_size);
    identifier or other terms, for a challenge or a conversation of another size, or if list is no
    list; MSCHAP_NO_LIMIT; MSCHAP_RETRIES_RANGE; MSCHAP_REPLY_ROOM; MSCHAP_LIST; MSCHAP_SPENT;
    MSCHAP_LIST_FULL.
-   Stack: 1,536 bytes. */
+   Stack: 2,288 bytes. */
 uint32_t mschap_open(uint32_t identifier, uint32_t terms,
                      const uint8_t *challenge, size_t challenge_size,
                      uint8_t *list, size_t list_size,
@@ -677,7 +677,7 @@ uint32_t mschap_open(uint32_t identifier, uint32_t terms,
    come. Returns then the first of these that applies: MSCHAP_REPLY_ROOM; MSCHAP_FRAME; and, unless
    the packet is a repeat, MSCHAP_ENDED; MSCHAP_CODE; MSCHAP_IDENTIFIER; MSCHAP_SIZE; MSCHAP_FLAGS.
    Returns MSCHAP_BAD_ARGUMENT for an invalid conversation or record, or an answer of another size.
-   Stack: 6,400 bytes. */
+   Stack: 6,784 bytes. */
 uint32_t mschap_step(mschap_conversation *conversation, size_t conversation_size,
                      const uint8_t *packet, size_t packet_size,
                      const mschap_record *record, size_t record_size,
@@ -687,13 +687,13 @@ uint32_t mschap_step(mschap_conversation *conversation, size_t conversation_size
 /* Returns the reason that a step's reply gives: MSCHAP_SUCCESS, or the Failure's, one of
    MSCHAP_E_.. (a repeat has the reason of the reply that it repeats); MSCHAP_INVALID for an invalid
    answer.
-   Stack: 256 bytes. */
+   Stack: 272 bytes. */
 uint32_t mschap_answer_reason(const mschap_answer *answer, size_t answer_size);
 
 /* Returns whether a step's reply was the last one again: 1 for a repeat, which was not judged, so
    that nothing is to be stored or decided; 0 if the packet was judged; MSCHAP_INVALID for an
    invalid answer.
-   Stack: 256 bytes. */
+   Stack: 272 bytes. */
 uint32_t mschap_answer_repeated(const mschap_answer *answer, size_t answer_size);
 
 /* Returns what is wrong with a change of the password that was judged and drew
@@ -708,7 +708,7 @@ uint32_t mschap_answer_repeated(const mschap_answer *answer, size_t answer_size)
    mschap_fault_text has its words. Never send it to the peer, nor let what is sent, or when, depend
    on it: the Failure is the same for all of them, so that nobody learns by trying how near a guess
    was.
-   Stack: 256 bytes. */
+   Stack: 272 bytes. */
 uint32_t mschap_answer_fault(const mschap_answer *answer, size_t answer_size);
 
 /* The record that a step gives, to be stored in the place of the account's: after every judged
@@ -720,25 +720,25 @@ uint32_t mschap_answer_fault(const mschap_answer *answer, size_t answer_size);
    there was no account, a change that was not accepted, and a repeat, whose record was given when
    it was judged; MSCHAP_BAD_ARGUMENT for an invalid answer, or unless record is MSCHAP_RECORD_SIZE
    bytes.
-   Stack: 368 bytes. */
+   Stack: 384 bytes. */
 uint32_t mschap_answer_record(const mschap_answer *answer, size_t answer_size,
                               mschap_record *record, size_t record_size);
 
 /* Returns what a conversation awaits, by the code of the packet: MSCHAP_AWAITS_RESPONSE,
    MSCHAP_AWAITS_CHANGE, MSCHAP_AWAITS_CHANGE_1 or MSCHAP_AWAITS_NOTHING; MSCHAP_INVALID for an
    invalid conversation.
-   Stack: 320 bytes. */
+   Stack: 288 bytes. */
 uint32_t mschap_conversation_awaits(const mschap_conversation *conversation,
                                     size_t conversation_size);
 
 /* Returns the identifier of the packet that is awaited, 0 to 255 (of the last one, if none is);
    MSCHAP_INVALID for an invalid conversation.
-   Stack: 320 bytes. */
+   Stack: 288 bytes. */
 uint32_t mschap_conversation_identifier(const mschap_conversation *conversation,
                                         size_t conversation_size);
 
 /* Returns how many retries are left; MSCHAP_INVALID for an invalid conversation.
-   Stack: 320 bytes. */
+   Stack: 288 bytes. */
 uint32_t mschap_conversation_retries(const mschap_conversation *conversation,
                                      size_t conversation_size);
 
@@ -787,7 +787,7 @@ size_t mschap_domain_length(const uint8_t *packet, size_t packet_size);
    Returns MSCHAP_OK; MSCHAP_BAD_ARGUMENT unless peer is MSCHAP_PEER_SIZE bytes; MSCHAP_FRAME;
    MSCHAP_READING for another kind of packet, one that is cut short, or a challenge that is not
    MSCHAP_CHALLENGE_SIZE bytes.
-   Stack: 64 bytes. */
+   Stack: 48 bytes. */
 uint32_t mschap_read_challenge(const uint8_t *packet, size_t packet_size,
                                mschap_peer *peer, size_t peer_size);
 
@@ -801,7 +801,7 @@ uint32_t mschap_read_challenge(const uint8_t *packet, size_t packet_size,
    Returns MSCHAP_OK; MSCHAP_BAD_ARGUMENT for an invalid peer; MSCHAP_FRAME; MSCHAP_IDENTIFIER for
    another identifier than that of the packet that was written last, or if none was written;
    MSCHAP_READING for another kind of packet, or a message that cannot be read.
-   Stack: 544 bytes. */
+   Stack: 768 bytes. */
 uint32_t mschap_read_reply(mschap_peer *peer, size_t peer_size,
                            const uint8_t *packet, size_t packet_size,
                            uint32_t *call, uint64_t *reason);
@@ -810,7 +810,7 @@ uint32_t mschap_read_reply(mschap_peer *peer, size_t peer_size,
    front of out. The packet is 54 bytes longer than its name; the bytes behind it are unchanged.
    Returns MSCHAP_OK; MSCHAP_BAD_ARGUMENT for an invalid peer or password; MSCHAP_NAME; MSCHAP_ROOM
    if out is too small.
-   Stack: 2,976 bytes. */
+   Stack: 1,000 bytes. */
 uint32_t mschap_write_response(mschap_peer *peer, size_t peer_size,
                                const mschap_password *password, size_t password_size,
                                const uint8_t *name, size_t name_size,
@@ -823,7 +823,7 @@ uint32_t mschap_write_response(mschap_peer *peer, size_t peer_size,
    be unpredictable: from a CSPRNG.
    Returns MSCHAP_OK; MSCHAP_BAD_ARGUMENT for an invalid peer or password; MSCHAP_FILLER;
    MSCHAP_ROOM if out is too small.
-   Stack: 3,232 bytes. */
+   Stack: 3,216 bytes. */
 uint32_t mschap_write_change(mschap_peer *peer, size_t peer_size,
                              const mschap_password *old_password, size_t old_password_size,
                              const mschap_new_password *new_password, size_t new_password_size,
@@ -838,7 +838,7 @@ uint32_t mschap_write_change(mschap_peer *peer, size_t peer_size,
    give up takes MSCHAP_CALL_CHANGE_1 for MSCHAP_CALL_END.
    Returns MSCHAP_OK; MSCHAP_BAD_ARGUMENT for an invalid peer or password; MSCHAP_ROOM if out is too
    small.
-   Stack: 2,480 bytes. */
+   Stack: 1,680 bytes. */
 uint32_t mschap_write_change_1(mschap_peer *peer, size_t peer_size,
                                const mschap_password *old_password, size_t old_password_size,
                                const mschap_new_password *new_password, size_t new_password_size,
@@ -849,34 +849,34 @@ uint32_t mschap_write_change_1(mschap_peer *peer, size_t peer_size,
 /* The MD4 digest (RFC 1320) of at most MSCHAP_MD4_INPUT_MAX bytes.
    Returns MSCHAP_OK; MSCHAP_BAD_ARGUMENT unless digest is MSCHAP_DIGEST_SIZE bytes; MSCHAP_INPUT
    for more bytes.
-   Stack: 384 bytes. */
+   Stack: 528 bytes. */
 uint32_t mschap_md4(const uint8_t *input, size_t input_size,
                     mschap_digest *digest, size_t digest_size);
 
 /* RC4 over bytes in place, from the start of the stream of a key: the first key_size bytes of it,
    1 to MSCHAP_RC4_KEY_MAX. The key has a type of its own, so that the two cannot be exchanged.
    Returns MSCHAP_OK; MSCHAP_INPUT for another key_size.
-   Stack: 296 bytes. */
+   Stack: 560 bytes. */
 uint32_t mschap_rc4(const mschap_rc4_key *key, size_t key_size,
                     uint8_t *bytes, size_t bytes_size);
 
 /* DES of a block (MSCHAP_BLOCK_SIZE bytes) in place, under a key of 56 bits: MSCHAP_KEY_SIZE
    bytes, without parity.
    Returns MSCHAP_OK; MSCHAP_BAD_ARGUMENT for another size.
-   Stack: 2,160 bytes. */
+   Stack: 88 bytes. */
 uint32_t mschap_des_encrypt(const uint8_t *key, size_t key_size,
                             uint8_t *block, size_t block_size);
 
 /* The inverse of mschap_des_encrypt.
    Returns MSCHAP_OK; MSCHAP_BAD_ARGUMENT for another size.
-   Stack: 2,400 bytes. */
+   Stack: 88 bytes. */
 uint32_t mschap_des_decrypt(const uint8_t *key, size_t key_size,
                             uint8_t *block, size_t block_size);
 
 /* ChallengeResponse() of RFC 2433, A.7: the response (MSCHAP_RESPONSE_SIZE bytes) of a hash, NT or
    LM (MSCHAP_HASH_SIZE), to a challenge (MSCHAP_CHALLENGE_SIZE).
    Returns MSCHAP_OK; MSCHAP_BAD_ARGUMENT for another size.
-   Stack: 2,320 bytes. */
+   Stack: 216 bytes. */
 uint32_t mschap_challenge_response(const uint8_t *hash, size_t hash_size,
                                    const uint8_t *challenge, size_t challenge_size,
                                    uint8_t *response, size_t response_size);

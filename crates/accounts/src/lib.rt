@@ -62,8 +62,8 @@ pub struct Account {
 }
 
 // A record without its round keys: what a change reads and a conversation keeps. It is short, so
-// that it can be handed on by value. A record has these fields, as document 01 names them, and no
-// Entry within it: whoever reads of a record reads of its hashes and its marks.
+// that it can be handed on by value. A record has these fields, and no Entry within it, as the
+// definitions and the theorems over them read them of a record: that may not change.
 #[derive(Clone, Copy)]
 pub struct Entry {
     pub nt: Hash,

@@ -2,12 +2,11 @@
 // terms; the step then puts the answer there that was given.
 ghost use Rattle.std.specs.Prelude.{◌≡◌};
 ghost use Rattle.authenticator.specs.Conversation.{successor, ended, retried, awaiting_change};
-ghost use Rattle.authenticator.specs.Conversation.{no_answer, answer_with, with_last, closed};
+ghost use Rattle.authenticator.specs.Conversation.{no_answer, answer_with, with_last};
 
 use crate::admit::awaited_code;
 use crate::{Conversation, LastAnswer, Phase, Reply};
 use accounts::{Entry, blank_entry};
-use verify::{ChangeVersion, Terms};
 
 impl Conversation {
     fn successor(
@@ -97,26 +96,5 @@ pub fn no_answer() -> LastAnswer
         code: 0,
         id: 0,
         reply: Reply::Success,
-    }
-}
-
-// What a refused opening hands out.
-pub fn closed_conversation() -> Conversation
-    ensures { result ≡ closed }
-{
-    let kept = blank_entry();
-    let last = no_answer();
-    Conversation {
-        terms: Terms {
-            lm: false,
-            limit: 0,
-            change: ChangeVersion::Two,
-        },
-        id: 0,
-        challenge: [0; 8],
-        retries: 0,
-        phase: Phase::Ended,
-        kept,
-        last,
     }
 }

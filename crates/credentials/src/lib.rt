@@ -35,7 +35,8 @@ pub const SCHEDULES_SIZE: usize = 3 * 16;
 pub const STORED_SIZE: usize = 8 * SCHEDULES_SIZE;
 
 // What an opened block holds: a length over 512, an odd length, or a password of this many octets.
-// No Result: the first two are no refusals, but what a change is found faulty for.
+// No Result: its error would be an enum of the first two, for one place that reads it, and no
+// plainer than the three in a row.
 #[derive(Clone, Copy)]
 pub enum Content {
     Over,

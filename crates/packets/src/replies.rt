@@ -22,8 +22,8 @@ pub fn is_bad_reply_buffer(reply: &[u8]) -> bool
     reply.len() < LONGEST_REPLY
 }
 
-// ---- writers: each answers how many octets of out it wrote, 0 where there is too little room. It
-// is the count of them then too (`written_length`), so that none of the three can fail.
+// ---- writers: each answers how many octets of out it wrote, 0 where there is too little room: that
+// is the true count then (`written_length`), so none of the three can fail.
 
 pub fn write_challenge(id: u8, challenge: [u8; CHALLENGE_SIZE], out: &mut [u8]) -> usize
     ensures { (result ≡ written_length (challenge_packet id challenge) out.old)

@@ -1,5 +1,5 @@
-// The peer's methods: what it reads and writes, and what that makes of it. A refusal makes nothing
-// of it: the peer is as it was.
+// The peer's methods: what it reads and writes, and what that makes of it. Where they refuse, there
+// is no new peer, and the caller goes on with the one it has.
 ghost use Rattle.std.specs.Prelude.{◌≡◌, [], cond, IfOk};
 ghost use Rattle.message.specs.Message.{verdict_values, values_of};
 ghost use Rattle.refusals.specs.Refusal.{told};

@@ -1,4 +1,6 @@
 // Octets that a word names.
+ghost use Rattle.std.specs.Prelude.{◌≤◌, length};
+
 use super::words;
 
 // The octet that two hexadecimal digits make.
@@ -7,7 +9,9 @@ fn octet_of(high: u8, low: u8) -> u8 {
 }
 
 // Octets from hexadecimal digits, as many as room takes.
-fn decode_digits<'a>(s: &[u8], room: &'a mut [u8]) -> &'a mut [u8] {
+fn decode_digits<'a>(s: &[u8], room: &'a mut [u8]) -> &'a mut [u8]
+    ensures { length result.now ≤ length room.old }
+{
     let (pairs, _odd) = s.as_chunks::<2>();
     let n = pairs.len().min(room.len());
     let out = &mut room[..n];
@@ -18,7 +22,9 @@ fn decode_digits<'a>(s: &[u8], room: &'a mut [u8]) -> &'a mut [u8] {
 }
 
 // n octets of one value, as many as room takes.
-fn repeated(value: u8, n: usize, room: &mut [u8]) -> &mut [u8] {
+fn repeated(value: u8, n: usize, room: &mut [u8]) -> &mut [u8]
+    ensures { length result.now ≤ length room.old }
+{
     let n = n.min(room.len());
     let out = &mut room[..n];
     out.fill(value);
@@ -26,7 +32,9 @@ fn repeated(value: u8, n: usize, room: &mut [u8]) -> &mut [u8] {
 }
 
 // The octets that a word names: `-` none, `HH*N` one octet N times, else pairs of digits.
-fn decode<'a>(word: &[u8], room: &'a mut [u8]) -> &'a mut [u8] {
+fn decode<'a>(word: &[u8], room: &'a mut [u8]) -> &'a mut [u8]
+    ensures { length result.now ≤ length room.old }
+{
     match word {
         [high, low, b'*', n @ ..] => repeated(
             octet_of(*high, *low),
@@ -38,7 +46,9 @@ fn decode<'a>(word: &[u8], room: &'a mut [u8]) -> &'a mut [u8] {
 }
 
 // The octets that word k of a line names, as many as room takes: the front of it.
-pub fn octets_in<'a>(line: &[u8], k: usize, room: &'a mut [u8]) -> &'a mut [u8] {
+pub fn octets_in<'a>(line: &[u8], k: usize, room: &'a mut [u8]) -> &'a mut [u8]
+    ensures { length result.now ≤ length room.old }
+{
     decode(words::word(line, k), room)
 }
 

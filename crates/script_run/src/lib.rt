@@ -9,14 +9,13 @@ use std::io::{Read, Write};
 use std::rt::Files;
 use std::{fs, io};
 
-// The array is passed whole, as the check of a slice of one grows with its length.
-
 // Reads a script. Answers how many octets it has.
 fn read_script(file: &mut impl Read, script: &mut [u8; 1048576]) -> io::Result<usize> {
     reading::read_full(file, script)
 }
 
-// Runs the first n octets of a script.
+// Runs the first n octets of a script. The array is passed whole: the check of a slice of one grows
+// with its length.
 fn run_part(
     session: &mut Session,
     output: &mut impl Write,

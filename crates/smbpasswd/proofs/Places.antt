@@ -11,7 +11,7 @@ use Rattle.smbpasswd.specs.declared.AccountLine.{AccountLine}
 use Rattle.smbpasswd.specs.declared.Misplaced.{Misplaced}
 use Rattle.smbpasswd.specs.File.{Place, Nowhere, Line, Doubled, Malformed, place_refusal}
 use Rattle.smbpasswd.specs.File.{place_offset, lookup_at, found_at, misplaced_refusal}
-use Rattle.smbpasswd.specs.File.{misplaced_offset}
+use Rattle.smbpasswd.specs.File.{misplaced_offset, place_of, find_in, found_as}
 
 -- a place, by its number, its offset and its record
 pub record Told (now max_age : ℕ) (f : List ℕ) (p : Place) (refusal offset : ℕ) (lookup : Lookup) : Type 0
@@ -34,3 +34,17 @@ told now max_age f (Malformed at) = record { number_is = refl; offset_is = refl;
 pub told_by : (now max_age : ℕ) (f : List ℕ) (p : Place) {r : Result (Option AccountLine) Misplaced}
     → r ≡ found_at now max_age f p → ToldBy now max_age f p r
 told_by now max_age f p e = subst (ToldBy now max_age f p) (sym e) (told now max_age f p)
+
+-- what `find` answers is what is found
+module _ (now max_age : ℕ) (f : List ℕ) where
+  found_with : (p : Place)
+      → found_as (found_at now max_age f p) ≡ record { place = p; lookup = lookup_at now max_age f p }
+  found_with Nowhere = refl
+  found_with (Line at) = refl
+  found_with (Doubled at) = refl
+  found_with (Malformed at) = refl
+
+  pub found_back : (name : List ℕ)
+      → found_as (found_at now max_age f (place_of name f)) ≡ find_in now max_age name f
+  unfolding find_in
+  found_back name = found_with (place_of name f)

@@ -123,3 +123,10 @@ pub record Found : Type 0 where
 unfoldable pub find_in : ℕ → ℕ → List ℕ → List ℕ → Found
 find_in now max_age name f =
     record { place = place_of name f; lookup = lookup_at now max_age f (place_of name f) }
+
+-- what the code answers, as it is here (proofs/Places `found_back`)
+abbrev pub found_as : Result (Option AccountLine) Misplaced → Found
+found_as (Ok None) = record { place = Nowhere; lookup = not_found }
+found_as (Ok (Some l)) = record { place = Line l.offset; lookup = found l.account }
+found_as (Err (misplaced.Doubled at)) = record { place = Doubled at; lookup = not_found }
+found_as (Err (misplaced.Malformed at)) = record { place = Malformed at; lookup = not_found }
