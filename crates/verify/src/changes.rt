@@ -4,14 +4,17 @@
 // Every condition is a total test and all of them are made, one hash, one proof of the old hash and
 // one response in every case, so that a change which is not accepted takes about the same work
 // whatever is wrong with it. Each function passes on what was found wrong beneath it.
-ghost use Rattle.std.specs.Prelude.{◌≡◌, cond, ◌-◌, ◌%◌, ◌≤◌, length};
+ghost use Rattle.std.specs.Prelude.{◌≡◌, cond, ◌-◌, ◌%◌, ◌≤◌, length, Some};
 ghost use Rattle.octets.specs.Parts.{part, agrees};
 ghost use Rattle.credentials.specs.Credentials.{longest_nt, nt_hash_of, ValidLength};
 ghost use Rattle.verify.specs.Change.{checked_as, checked_with, bad_verifier, bad_response};
 ghost use Rattle.verify.specs.Change.{checked_change};
+ghost use Rattle.verify.specs.Faults.{is_faultless};
 ghost use Rattle.verify.specs.Inner.{content_fault, content_length, block_with, checked_block};
 ghost use Rattle.verify.specs.declared.ChangeFault.TheVariants.{OldHashWrong, ResponseWrong};
+ghost use Rattle.verify.specs.declared.ChangeFault.TheVariants.{NoNtHash, NoNtResponse};
 
+use crate::faults::{fault_number, fault_with};
 use crate::{ChangeFault, CheckedBlock, NewHashes};
 use accounts::{Entry, Hash, hash_of, no_hash};
 use credentials::{Content, HASH_SIZE, LONGEST_NT, Unsealed};
@@ -122,6 +125,28 @@ fn proof_fault(
     wrong_hash.or(wrong_response)
 }
 
+// The first thing that is wrong. Where all is well before the proof, the proof's is chosen by number
+// and without a branch: of a chain of `or` the compiler makes one, and leaves out the last tests
+// where they do not count, so that the time would tell what was found.
+fn first_fault(
+    absent: bool,
+    clear: bool,
+    length: Option<ChangeFault>,
+    proof: Option<ChangeFault>,
+) -> Option<ChangeFault>
+    ensures { result ≡ cond absent (Some NoNtHash) (cond clear (Some NoNtResponse)
+        (cond (is_faultless length) proof length)) }
+{
+    let sent = clear.then_some(ChangeFault::NoNtResponse).or(length);
+    let before = absent.then_some(ChangeFault::NoNtHash).or(sent);
+    fault_with(octets::where_both(
+        !absent & !clear,
+        length.is_none(),
+        fault_number(proof),
+        fault_number(before),
+    ))
+}
+
 // The new hash of an accepted version 2 change, or the first thing that is wrong with it.
 pub fn check_change(
     kept: Entry,
@@ -133,11 +158,9 @@ pub fn check_change(
     let nt = kept.nt;
     let old = nt.octets;
     let block = fields.block;
-    let absent = (!nt.present).then_some(ChangeFault::NoNtHash);
-    let clear = (fields.flags % 2 != 1).then_some(ChangeFault::NoNtResponse);
     let found = checked_block(credentials::unseal(old, block));
     let hash = found.hash;
     let proof = proof_fault(kept, challenge, fields, hash);
-    let fault = absent.or(clear.or(found.fault.or(proof)));
+    let fault = first_fault(!nt.present, fields.flags % 2 != 1, found.fault, proof);
     checked_with(fault, hash_of(hash), no_hash())
 }

@@ -19,9 +19,7 @@ use Rattle.verify.specs.declared.ChangeFault.{ChangeFault}
 use Rattle.verify.specs.declared.ChangeFault.TheVariants.{NoNtHash, NoNtResponse}
 use Rattle.verify.specs.declared.CheckedBlock.{CheckedBlock}
 use Rattle.verify.specs.Change.{CheckedChange}
-use Rattle.std.specs.Option.{option_or}
 use Rattle.verify.specs.declared.ChangeFault.TheVariants.{OldHashWrong, ResponseWrong}
-use Rattle.verify.proofs.Choices.{chosen, found_before}
 use Rattle.verify.proofs.Checked.{composed, by_tests}
 use Rattle.verify.proofs.changes.check_change.Goals as goal
 
@@ -45,21 +43,15 @@ returns c =
     (bad_response a.challenge f v.hash)) (hash_of v.hash) no_hash in
     let proof = cond (bad_verifier a.kept f found.hash) (Some OldHashWrong)
     (cond (bad_response a.challenge f found.hash) (Some ResponseWrong) None) in
-    let e : c.or-fault.result
+    let e : c.first_fault-fault.result
     ≡ composed absent clear found.fault (bad_verifier a.kept f found.hash)
     (bad_response a.challenge f found.hash) =
-    c.or-fault.ensures
-    ∙ ap₂ option_or c.then_some-absent.ensures
-    (c.or-2.ensures
-    ∙ ap₂ option_or c.then_some-clear.ensures
-    (c.or.ensures
-    ∙ ap (option_or found.fault) c.proof_fault-proof.ensures
-    ∙ found_before found.fault proof)
-    ∙ chosen clear NoNtResponse (cond (is_faultless found.fault) proof found.fault))
-    ∙ chosen absent NoNtHash
-    (cond clear (Some NoNtResponse) (cond (is_faultless found.fault) proof found.fault)) in
+    c.first_fault-fault.ensures
+    ∙ ap (λ (x : Option ChangeFault). cond absent (Some NoNtHash) (cond clear (Some NoNtResponse)
+    (cond (is_faultless found.fault) x found.fault)))
+    c.proof_fault-proof.ensures in
     c.checked_with.ensures
-    ∙ ap₂ (checked_with c.or-fault.result) c.hash_of.ensures c.no_hash.ensures
+    ∙ ap₂ (checked_with c.first_fault-fault.result) c.hash_of.ensures c.no_hash.ensures
     ∙ ap (λ (x : Option ChangeFault). checked_with x (hash_of found.hash) no_hash) e
     ∙ ap whole
     (c.checked_block-found.ensures ∙ ap checked_block c.unseal.ensures.0)
