@@ -136,7 +136,13 @@ fn eight_octets(x: u64) -> [u8; 8]
 pub fn key_octets(keys: [u64; SCHEDULES_SIZE]) -> [u8; STORED_SIZE]
     ensures { (result ≡ encode_keys keys) × (keys_in result ≡ keys) }
 {
-    octets::array_at(keys.map(eight_octets).as_flattened(), 0)
+    // a loop over places: of `map` and `as_flattened` the compiler moves octet by octet, which takes
+    // a record of no hash five times as long
+    let mut octets = [0u8; STORED_SIZE];
+    for i in 0..SCHEDULES_SIZE {
+        octets::copy_at(&mut octets, 8 * i, &eight_octets(keys[i]));
+    }
+    octets
 }
 
 // A.7 under stored round keys, which are lent in octets: those of another number of octets are

@@ -65,8 +65,10 @@ fn may_spend(
     if is_bad_buffer(buffer, used, width) {
         return Err(Refusal::List);
     }
+    let marks = entries::marks_of(run, width);
+    let sought = Sought::of(run, width, &marks);
     let mut tally = [0u16; OCTET_VALUES];
-    let met = entries::scan(&buffer[..width * used], &Sought::of(run, width), &mut tally);
+    let met = entries::scan(&buffer[..width * used], &sought, &mut tally);
     if tally.as_slice() != counts {
         return Err(Refusal::List);
     }

@@ -46,7 +46,11 @@ pub fn copy(target: &mut [u8], source: &[u8])
     ensures { target.new ≡ over source.now target.old }
 {
     let n = target.len().min(source.len());
-    target[..n].copy_from_slice(&source[..n]);
+    // a loop, and not the library's copy: of that the compiler made calls of memmove, which a
+    // program without C's library would have to bring
+    for i in 0..n {
+        target[i] = source[i];
+    }
 }
 
 // The same from the place at on; nothing where target does not reach it.

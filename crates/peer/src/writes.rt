@@ -2,6 +2,7 @@
 ghost use Rattle.std.specs.Prelude.{◌≡◌};
 ghost use Rattle.packets.specs.Frame.{written_as};
 ghost use Rattle.peer.specs.Write.{response_fields_of, change_fields_of, change_one_fields_of};
+ghost use Rattle.peer.specs.Write.{bad_passwords};
 ghost use Rattle.peer.specs.Write.{write_response, write_change, write_change_one};
 
 use crate::Turn;
@@ -58,6 +59,14 @@ fn change_fields(
     }
 }
 
+// One of the two passwords of a change is refused. Its writers ask this first, and for the filler, so
+// that no password is hashed for a change that these refuse.
+fn are_bad_passwords(old: &[u8], new: &[u8]) -> bool
+    ensures { result ≡ bad_passwords old.now new.now }
+{
+    credentials::is_bad_nt_password(old) || credentials::is_bad_nt_password(new)
+}
+
 // Writes a version 2 change from the old and the new password at the front of out. Refusal 8:
 // either password; 12: the filler; 9: too little room.
 pub(crate) fn write_change(
@@ -71,6 +80,12 @@ pub(crate) fn write_change(
         ≡ (write_change turn old.now new.now filler.now out.old).answer }
     ensures out { out.new ≡ (write_change turn old.now new.now filler.now out.old).out }
 {
+    if are_bad_passwords(old, new) {
+        return Err(Refusal::Input);
+    }
+    if credentials::is_bad_filler(filler) {
+        return Err(Refusal::Filler);
+    }
     let before = credentials::nt_hash(old)?;
     let after = credentials::nt_hash(new)?;
     let block = credentials::seal(before, new, filler)?;
@@ -109,6 +124,9 @@ pub(crate) fn write_change_one(
         ≡ (write_change_one turn old.now new.now out.old).answer }
     ensures out { out.new ≡ (write_change_one turn old.now new.now out.old).out }
 {
+    if are_bad_passwords(old, new) {
+        return Err(Refusal::Input);
+    }
     let before = credentials::nt_hash(old)?;
     let after = credentials::nt_hash(new)?;
     let fields = change_one_fields(before, after, turn.challenge);

@@ -24,6 +24,11 @@ upto_range (suc n) =
     ap (λ (m : ℕ). map (λ (k : ℕ). k) (range_with_len 0 m)) (sym (add-one n))
     ∙ map-range_with_len_more (λ (k : ℕ). k) 0 n n (zero-add n) ∙ ap (λ (l : List ℕ). l ++ n ∷ []) (upto_range n)
 
+-- one entry more
+pub upto_turn : (s : List ℕ) (i : ℕ) → i < length s → take i s ≡ upto i → take (i + 1) (set s i i) ≡ upto (i + 1)
+unfolding upto
+upto_turn s i h e = rw (add-one, take-suc-set s i, e)
+
 -- ---- the look-ahead of both loops
 
 -- a is the entry at i, the place that a turn begins with

@@ -7,7 +7,6 @@ ghost use Rattle.rc4.specs.Rc4.{swapped, upto, started, later_state, ciphered, k
 ghost use Rattle.rc4.specs.Rc4.{key_answer, crypted};
 
 use refusals::Refusal;
-use std::array;
 
 // The permutation and its two indices.
 #[derive(Clone, Copy)]
@@ -46,18 +45,22 @@ fn seen(k: u8, j: u8, a: u8, ahead: u8) -> u8
 
 // ---- the key schedule
 
-fn identity() -> [u8; 256]
-    ensures { result ≡ upto 256 }
+// Fills a permutation with the identity.
+fn identify(s: &mut [u8; 256])
+    ensures { s.new ≡ upto 256 }
 {
-    array::from_fn(|i| i as u8)
+    for i in 0..256 {
+        s[i] = i as u8;
+    }
 }
 
-// The permutation of a key.
-fn schedule(key: &[u8]) -> [u8; 256]
+// Makes the permutation of a key, in place: one that was handed on as a value would stand on the
+// stack once more for each function on its way.
+fn schedule(s: &mut [u8; 256], key: &[u8])
     requires { 0 < length key.now }
-    ensures { result ≡ (started key.now).s }
+    ensures { s.new ≡ (started key.now).s }
 {
-    let mut s = identity();
+    identify(s);
     let mut j: u8 = 0;
     let mut a: u8 = 0;
     for n in 0..256 {
@@ -65,10 +68,9 @@ fn schedule(key: &[u8]) -> [u8; 256]
         j = j.wrapping_add(a).wrapping_add(key[n % key.len()]);
         let k = i.wrapping_add(1);
         let ahead = s[k as usize];
-        put(&mut s, i, j, a);
+        put(s, i, j, a);
         a = seen(k, j, a, ahead);
     }
-    s
 }
 
 fn key_fits(key: &[u8]) -> bool
@@ -78,20 +80,30 @@ fn key_fits(key: &[u8]) -> bool
 }
 
 impl State {
-    // The state of a key before the first octet of its keystream; a refusal where the key has not 1
-    // to 256 octets.
-    #[tactic(auto, unfolding(crate::specs::Rc4::keyed, crate::specs::Rc4::started))]
+    // The state of a key before the first octet of its keystream.
+    #[tactic(auto, unfolding(crate::specs::Rc4::started))]
+    fn of_key(key: &[u8]) -> State
+        requires { 0 < length key.now }
+        ensures { result ≡ started key.now }
+    {
+        let mut state = State {
+            s: [0; 256],
+            i: 0,
+            j: 0,
+        };
+        schedule(&mut state.s, key);
+        state
+    }
+
+    // The same, or a refusal where the key has not 1 to 256 octets.
+    #[tactic(auto, unfolding(crate::specs::Rc4::keyed))]
     pub fn new(key: &[u8]) -> Result<State, Refusal>
         ensures { result ≡ keyed key.now }
     {
         if !key_fits(key) {
             return Err(Refusal::Input);
         }
-        Ok(State {
-            s: schedule(key),
-            i: 0,
-            j: 0,
-        })
+        Ok(State::of_key(key))
     }
 
     // Puts the data under the keystream, in place, and goes on to the state after it, by which the
@@ -123,7 +135,10 @@ pub fn rc4(key: &[u8], data: &mut [u8]) -> Result<(), Refusal>
     ensures { (result ≡ key_answer key.now)
         × («data».new ≡ crypted key.now «data».old) }
 {
-    let mut state = State::new(key)?;
+    if !key_fits(key) {
+        return Err(Refusal::Input);
+    }
+    let mut state = State::of_key(key);
     state.apply(data);
     Ok(())
 }

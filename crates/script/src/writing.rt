@@ -12,7 +12,13 @@ impl fmt::Display for Hex<'_> {
         if self.0.is_empty() {
             return write!(f, "-");
         }
-        for octet in self.0 {
+        // eight octets as one number: standard output has no buffer, and what is padded with zeros
+        // is written in two parts
+        let (eights, rest) = self.0.as_chunks::<8>();
+        for eight in eights {
+            write!(f, "{:016X}", octets::u64_from_be(*eight))?;
+        }
+        for octet in rest {
             write!(f, "{octet:02X}")?;
         }
         Ok(())

@@ -38,10 +38,17 @@ slice_bounds-scan-end c =
     let g = sound a.width a.buffer.now a.used (sym c.is_bad_buffer.ensures ∙ c.if-is_bad_buffer.false) in
     sym (length-take-le (a.width * a.used) a.buffer.now (places_fit a.width a.used a.buffer.now g.fits))
 
-pub of-requires : goal.of-requires
-of-requires c =
+pub marks_of-marks-requires : goal.marks_of-marks-requires
+marks_of-marks-requires c =
     let a = c.args in
     (sound a.width a.buffer.now a.used (sym c.is_bad_buffer.ensures ∙ c.if-is_bad_buffer.false)).positive
+
+pub of-sought-requires : goal.of-sought-requires
+of-sought-requires c =
+    let a = c.args in (
+      (sound a.width a.buffer.now a.used (sym c.is_bad_buffer.ensures ∙ c.if-is_bad_buffer.false)).positive,
+      c.marks_of-marks.ensures,
+    )
 
 pub scan-met-requires : goal.scan-met-requires
 scan-met-requires c =
@@ -50,8 +57,8 @@ scan-met-requires c =
     let g = sound a.width a.buffer.now a.used (sym c.is_bad_buffer.ensures ∙ c.if-is_bad_buffer.false) in
     let u = entries_used a.width a.used a.buffer.now g.positive (places_fit a.width a.used a.buffer.now g.fits) in (
       refl,
-      zeros_room (places c.of.result.width l)
-          (omega (arith, ap (λ (k : ℕ). places k l) c.of.ensures.1, u.0, g.fits, g.few)),
+      zeros_room (places c.of-sought.result.width l)
+          (omega (arith, ap (λ (k : ℕ). places k l) c.of-sought.ensures.1, u.0, g.fits, g.few)),
     )
 
 -- what the pass found
@@ -76,7 +83,7 @@ pub returns-then-ne : goal.returns-then-ne
 returns-then-ne c =
     let a = c.args in
     let b = sym c.is_bad_buffer.ensures ∙ c.if-is_bad_buffer.false in
-    let k = counts_told a.width a.used a.buffer.now a.counts.now a.run.now b c.of.ensures.1 c.of.ensures.0
+    let k = counts_told a.width a.used a.buffer.now a.counts.now a.run.now b c.of-sought.ensures.1 c.of-sought.ensures.0
     c.ne.ensures c.as_slice.ensures (counted _ c.scan-met.ensures.1) in
     counts_refused a.width (entries_in a.width a.run.now) (record { buffer = a.buffer.now; used = a.used; counts = a.counts.now }) b
     (sym k ∙ c.if-ne.true)
@@ -85,9 +92,9 @@ pub returns-then-met : goal.returns-then-met
 returns-then-met c =
     let a = c.args in
     let b = sym c.is_bad_buffer.ensures ∙ c.if-is_bad_buffer.false in
-    let k = counts_told a.width a.used a.buffer.now a.counts.now a.run.now b c.of.ensures.1 c.of.ensures.0
+    let k = counts_told a.width a.used a.buffer.now a.counts.now a.run.now b c.of-sought.ensures.1 c.of-sought.ensures.0
     c.ne.ensures c.as_slice.ensures (counted _ c.scan-met.ensures.1) in
-    let m = met_told a.width a.used a.buffer.now a.counts.now a.run.now b c.of.ensures.1 c.of.ensures.0 c.scan-met.ensures.0 in
+    let m = met_told a.width a.used a.buffer.now a.counts.now a.run.now b c.of-sought.ensures.1 c.of-sought.ensures.0 c.scan-met.ensures.0 in
     met_refused a.width (entries_in a.width a.run.now) (record { buffer = a.buffer.now; used = a.used; counts = a.counts.now }) b
     (sym k ∙ c.if-ne.false) (sym m ∙ c.if-met.true)
 
@@ -101,9 +108,9 @@ returns-then-buffer-width c =
     let a = c.args in
     let cs = entries_in a.width a.run.now in
     let b = sym c.is_bad_buffer.ensures ∙ c.if-is_bad_buffer.false in
-    let k = counts_told a.width a.used a.buffer.now a.counts.now a.run.now b c.of.ensures.1 c.of.ensures.0
+    let k = counts_told a.width a.used a.buffer.now a.counts.now a.run.now b c.of-sought.ensures.1 c.of-sought.ensures.0
     c.ne.ensures c.as_slice.ensures (counted _ c.scan-met.ensures.1) in
-    let m = met_told a.width a.used a.buffer.now a.counts.now a.run.now b c.of.ensures.1 c.of.ensures.0 c.scan-met.ensures.0 in
+    let m = met_told a.width a.used a.buffer.now a.counts.now a.run.now b c.of-sought.ensures.1 c.of-sought.ensures.0 c.scan-met.ensures.0 in
     full_refused a.width cs (record { buffer = a.buffer.now; used = a.used; counts = a.counts.now }) b
     (sym k ∙ c.if-ne.false) (sym m ∙ c.if-met.false)
     (lt-ltb (places a.width a.buffer.now - a.used) (length cs) (omega (arith, c.if-buffer-width.true, length_in a.width a.run.now)))
@@ -113,9 +120,9 @@ returns c =
     let a = c.args in
     let cs = entries_in a.width a.run.now in
     let b = sym c.is_bad_buffer.ensures ∙ c.if-is_bad_buffer.false in
-    let k = counts_told a.width a.used a.buffer.now a.counts.now a.run.now b c.of.ensures.1 c.of.ensures.0
+    let k = counts_told a.width a.used a.buffer.now a.counts.now a.run.now b c.of-sought.ensures.1 c.of-sought.ensures.0
     c.ne.ensures c.as_slice.ensures (counted _ c.scan-met.ensures.1) in
-    let m = met_told a.width a.used a.buffer.now a.counts.now a.run.now b c.of.ensures.1 c.of.ensures.0 c.scan-met.ensures.0 in
+    let m = met_told a.width a.used a.buffer.now a.counts.now a.run.now b c.of-sought.ensures.1 c.of-sought.ensures.0 c.scan-met.ensures.0 in
     none_refused a.width cs (record { buffer = a.buffer.now; used = a.used; counts = a.counts.now }) b
     (sym k ∙ c.if-ne.false) (sym m ∙ c.if-met.false)
     (le-ltb (places a.width a.buffer.now - a.used) (length cs) (omega (arith, c.if-buffer-width.false, length_in a.width a.run.now)))

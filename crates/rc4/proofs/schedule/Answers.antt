@@ -8,7 +8,8 @@ use Rattle.rc4.proofs.schedule.Goals as goal
 pub loop-n-init : goal.loop-n-init
 unfolding mixed upto
 loop-n-init c =
-    (cc, record { long = ap length c.identity-s.ensures; first = ap (λ (l : List ℕ). get_or l 0 0) (sym c.identity-s.ensures) })
+    let e = c.identify.ensures in
+    (cc, record { long = ap length e; first = ap (λ (l : List ℕ). get_or l 0 0) (sym e) })
 
 pub put-requires : goal.put-requires
 put-requires c = (ready_at c.loop-n.invariant.1 (sym (mod-eq_of_lt c.loop-n-test.true))).first

@@ -1,6 +1,7 @@
 -- `peer::writes::write_change` meets its contract.
 -- Assumes nothing.
-use mathlib.Core.Path.{◌≡◌, sym, ap, ap₂, ◌∙◌}
+use mathlib.Core.Bool.{true, false}
+use mathlib.Core.Path.{◌≡◌, refl, sym, ap, ap₂, ◌∙◌}
 use mathlib.Core.List.{List}
 use Prim.Native.Nat.{ℕ}
 use Rattle.std.specs.Prelude.{Err}
@@ -10,10 +11,27 @@ use Rattle.credentials.specs.Credentials.{sealed_as}
 use Rattle.packets.specs.declared.Change.{Change}
 use Rattle.packets.specs.Change.{change_written, change_out, change_write_refusal}
 use Rattle.peer.specs.Write.{change_fields, change_fields_of, change_for}
-use Rattle.peer.specs.Write.{write_change_refusal, write_change}
+use Rattle.peer.specs.Write.{bad_passwords, write_change_refusal, write_change}
 use Rattle.refusals.proofs.Passed.{passed_on}
 use Rattle.peer.proofs.Written.{refused_there, passed_there, refused_whole, written_whole}
 use Rattle.peer.proofs.writes.write_change.Goals as goal
+
+pub returns-then-are_bad_passwords : goal.returns-then-are_bad_passwords
+unfolding write_change write_change_refusal
+returns-then-are_bad_passwords c =
+    let a = c.args in
+    let bad : bad_passwords a.old.now a.new.now ≡ true = sym c.are_bad_passwords.ensures ∙ c.if-are_bad_passwords.true in
+    let done = refused_whole (change_for a.turn a.old.now a.new.now a.filler.now) a.out.now (write_change_refusal a.old.now a.new.now a.filler.now a.out.now) Input refl (rw bad) in
+    record { answer = done.0; out = done.1 }
+
+pub returns-then-is_bad_filler : goal.returns-then-is_bad_filler
+unfolding write_change write_change_refusal
+returns-then-is_bad_filler c =
+    let a = c.args in
+    let good : bad_passwords a.old.now a.new.now ≡ false = sym c.are_bad_passwords.ensures ∙ c.if-are_bad_passwords.false in
+    let bad : bad_filler a.filler.now ≡ true = sym c.is_bad_filler.ensures ∙ c.if-is_bad_filler.true in
+    let done = refused_whole (change_for a.turn a.old.now a.new.now a.filler.now) a.out.now (write_change_refusal a.old.now a.new.now a.filler.now a.out.now) Filler refl (rw (good, bad)) in
+    record { answer = done.0; out = done.1 }
 
 pub returns-in_err-before : goal.returns-in_err-before
 unfolding write_change write_change_refusal

@@ -1,6 +1,7 @@
 -- `peer::writes::write_change_one` meets its contract.
 -- Assumes nothing.
-use mathlib.Core.Path.{◌≡◌, sym, ap, ap₂, ◌∙◌}
+use mathlib.Core.Bool.{true}
+use mathlib.Core.Path.{◌≡◌, refl, sym, ap, ap₂, ◌∙◌}
 use mathlib.Core.List.{List}
 use Prim.Native.Nat.{ℕ}
 use Rattle.std.specs.Prelude.{Err}
@@ -9,10 +10,18 @@ use Rattle.credentials.specs.Credentials.{bad_nt_password, nt_hash_of}
 use Rattle.packets.specs.declared.ChangeOne.{ChangeOne}
 use Rattle.packets.specs.ChangeOne.{change_one_written, change_one_out, change_one_write_refusal}
 use Rattle.peer.specs.Write.{change_one_fields, change_one_fields_of, change_one_for}
-use Rattle.peer.specs.Write.{write_change_one_refusal, write_change_one}
+use Rattle.peer.specs.Write.{bad_passwords, write_change_one_refusal, write_change_one}
 use Rattle.refusals.proofs.Passed.{passed_on}
 use Rattle.peer.proofs.Written.{refused_there, passed_there, refused_whole, written_whole}
 use Rattle.peer.proofs.writes.write_change_one.Goals as goal
+
+pub returns-then-are_bad_passwords : goal.returns-then-are_bad_passwords
+unfolding write_change_one write_change_one_refusal
+returns-then-are_bad_passwords c =
+    let a = c.args in
+    let bad : bad_passwords a.old.now a.new.now ≡ true = sym c.are_bad_passwords.ensures ∙ c.if-are_bad_passwords.true in
+    let done = refused_whole (change_one_for a.turn a.old.now a.new.now) a.out.now (write_change_one_refusal a.old.now a.new.now a.out.now) Input refl (rw bad) in
+    record { answer = done.0; out = done.1 }
 
 pub returns-in_err-before : goal.returns-in_err-before
 unfolding write_change_one write_change_one_refusal
