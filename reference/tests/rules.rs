@@ -118,8 +118,7 @@ fn type_of(rest: &str) -> String {
 }
 
 fn items_of(krate: &str) -> Vec<Item> {
-    let mut out: Vec<Item> = Vec::new();
-    let mut public_types = BTreeSet::new();
+    let mut out = Vec::new();
     for text in texts(&root().join("crates").join(krate).join("src")) {
         let mut of = None;
         let lines: Vec<&str> = text.lines().collect();
@@ -134,14 +133,6 @@ fn items_of(krate: &str) -> Vec<Item> {
                 rest = rest.strip_prefix(word).unwrap_or(rest);
             }
             let kinds = ["fn ", "struct ", "enum ", "trait "];
-            if line.starts_with("pub ") && !rest.starts_with("fn ") {
-                public_types.extend(
-                    kinds
-                        .iter()
-                        .find_map(|kind| rest.strip_prefix(kind))
-                        .map(identifier),
-                );
-            }
             let Some(name) = kinds.iter().find_map(|kind| rest.strip_prefix(kind)) else {
                 continue;
             };
@@ -159,10 +150,6 @@ fn items_of(krate: &str) -> Vec<Item> {
                 requires: head().any(|line| line.starts_with("requires ")),
             });
         }
-    }
-    // a method of a type that the crate keeps to itself is no public function
-    for item in &mut out {
-        item.is_public_fn &= item.of.as_ref().is_none_or(|of| public_types.contains(of));
     }
     out
 }

@@ -15,6 +15,8 @@ use lib.Seq.{take_all, drop_at, take_at}
 use Rattle.std.specs.Prelude.{Result, Ok, Err, IsOk}
 use Rattle.refusals.specs.declared.Refusal.{Refusal}
 use Rattle.refusals.specs.declared.Refusal.TheVariants.{Input, Filler}
+use Rattle.refusals.specs.Refusal.{told}
+use Rattle.refusals.proofs.Numbers.{number_some}
 use Rattle.octets.specs.Parts.{part, fixed}
 use Rattle.octets.specs.Numbers.{from_le, to_le}
 use Rattle.octets.proofs.Parts.{over_fills, length_fixed}
@@ -189,6 +191,18 @@ pub sealed_good : (old password filler : List ℕ) → bad_nt_password password 
 unfolding sealed_as
 sealed_good old password filler e f =
     ap₂ (λ (a b : Bool). cond a (Err Input) (cond b (Err Filler) (Ok (sealed_block old filler password)))) e f
+
+-- what is known where neither is refused
+pub seal_fits : (old password filler : List ℕ) → told (sealed_as old password filler) ≡ 0
+    → (bad_nt_password password ≡ false) × (bad_filler filler ≡ false)
+unfolding sealed_as
+seal_fits old password filler = which (bad_nt_password password) (bad_filler filler)
+  where
+    which : (a b : Bool) → told (cond a (Err Input) (cond b (Err Filler) (Ok (sealed_block old filler password)))) ≡ 0
+        → (a ≡ false) × (b ≡ false)
+    which true b e = absurd (number_some Input e)
+    which false true e = absurd (number_some Filler e)
+    which false false e = (refl, refl)
 
 -- what a hash and a seal give where they are not refused
 pub hash_is_ok : (password : List ℕ) {r : Result (List ℕ) Refusal} → bad_nt_password password ≡ false → r ≡ nt_hashed password → IsOk r

@@ -6,6 +6,8 @@ pub mod TableEntries
 pub mod Folded
 pub mod Swaps
 pub mod Choices
+pub mod SecondChoice
+pub mod Arms
 pub mod Keys
 pub mod RoundTrip
 pub mod Round

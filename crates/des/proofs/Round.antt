@@ -10,13 +10,15 @@ use native.Mathlib.Omega.{arith}
 use lib.Dec.{T}
 use lib.ListN.{length, drop, get_or, drop_of_length-le}
 use lib.Seq.{drop-cons}
-use lib.Bits.{bit_xor, xor_zero_l, xor_shr, xor_mod}
+use lib.Bits.{bit_xor, xor_lt, xor_zero_l, xor_shr, xor_mod}
+use Rattle.octets.specs.Numbers.{to_be}
 use Rattle.des.specs.Tables.{ip, fp, expansion, boxes}
 use Rattle.des.specs.Des.{permute, cipher_f, rounds, crypt}
 use Rattle.des.specs.Inner.{spread, folded_at}
 use Rattle.des.proofs.Linear.{Linear, agree, on_basis, lin_id, lin_xor, lin_shr, lin_mod, lin_shl}
 use Rattle.des.proofs.Permute.{lin_permute}
 use Rattle.des.proofs.Folded.{folded}
+use Rattle.des.proofs.RoundTrip.{f_lt}
 
 -- six bits of E(R), j groups from the end, and of the spread word
 abbrev of_e : ℕ → ℕ → ℕ
@@ -69,28 +71,50 @@ module _ (r k w : ℕ) (h : r < 2 ^ 32) (e : w ≡ spread r) where
 
 -- L and R after i rounds under ks from L₀ and R₀
 pub record AfterRounds (ks : List ℕ) (l₀ r₀ i l r : ℕ) : Type 0 where
+  pub left : l < 2 ^ 32
+  pub right : r < 2 ^ 32
   pub same : rounds (drop i ks) l r ≡ rounds ks l₀ r₀
 
 -- no round yet
-pub no_rounds : (ks : List ℕ) (l r : ℕ) → AfterRounds ks l r 0 l r
-no_rounds ks l r = record { same = refl }
+pub no_rounds : (ks : List ℕ) (l r : ℕ) → l < 2 ^ 32 → r < 2 ^ 32 → AfterRounds ks l r 0 l r
+no_rounds ks l r hl hr = record { left = hl; right = hr; same = refl }
 
--- one more round
-pub one_round : {ks : List ℕ} {l₀ r₀ i l r k l' r' : ℕ} → AfterRounds ks l₀ r₀ i l r → length ks ≡ 16 → i < 16
-    → k ≡ get_or ks i 0 → (l' ≡ r) × (r' ≡ bit_xor l (cipher_f r k)) → AfterRounds ks l₀ r₀ (suc i) l' r'
-one_round {ks} {i = i} {l} {r} {k} g n h ek e = record {
+-- one more round, under any list of round keys
+pub one_round : {ks : List ℕ} {l₀ r₀ i l r k l' r' : ℕ} → AfterRounds ks l₀ r₀ i l r → i < length ks → k ≡ get_or ks i 0
+    → (l' ≡ r) × (r' ≡ bit_xor l (cipher_f r k)) → AfterRounds ks l₀ r₀ (suc i) l' r'
+one_round {ks} {i = i} {l} {r} {k} g h ek e = record {
+  left = rw e.0 g.right;
+  right = rw e.1 (xor_lt 32 l (cipher_f r k) g.left (f_lt r k));
   same =
       ap₂ (rounds (drop (suc i) ks)) e.0 (e.1 ∙ ap (λ (u : ℕ). bit_xor l (cipher_f r u)) ek)
-      ∙ sym (ap (λ (t : List ℕ). rounds t l r) (drop-cons ks i 0 (omega arith)))
+      ∙ sym (ap (λ (t : List ℕ). rounds t l r) (drop-cons ks i 0 h))
       ∙ g.same;
 }
 
--- after sixteen rounds from the halves of IP of a block, the inverse of IP of the preoutput block
--- R L is the block under ks
-pub crypted : {ks : List ℕ} {l₀ r₀ i l r v : ℕ} (x : ℕ) → AfterRounds ks l₀ r₀ i l r → length ks ≡ 16 → 16 ≤ i
+-- the same under the sixteen of the code's `RoundKeys`
+pub one_of_sixteen : {ks : List ℕ} {l₀ r₀ i l r k l' r' : ℕ} → AfterRounds ks l₀ r₀ i l r → length ks ≡ 16 → i < 16
+    → k ≡ get_or ks i 0 → (l' ≡ r) × (r' ≡ bit_xor l (cipher_f r k)) → AfterRounds ks l₀ r₀ (suc i) l' r'
+one_of_sixteen g n h = one_round g (omega arith)
+
+-- after all rounds from the halves of IP of a block, the inverse of IP of the preoutput block R L
+-- is the block under ks
+pub all_rounds : {ks : List ℕ} {l₀ r₀ i l r v : ℕ} (x : ℕ) → AfterRounds ks l₀ r₀ i l r → length ks ≤ i
     → (l₀ ≡ permute 64 ip x / 2 ^ 32) × (r₀ ≡ permute 64 ip x % 2 ^ 32) → v ≡ permute 64 fp (r * 2 ^ 32 + l) → v ≡ crypt ks x
 unfolding crypt
-crypted {ks} {i = i} {l} {r} x g n h e ev =
+all_rounds {ks} {i = i} {l} {r} x g h e ev =
     ev
     ∙ ap (permute 64 fp)
-    (ap (λ (t : List ℕ). rounds t l r) (sym (drop_of_length-le ks {i = i} (omega arith))) ∙ g.same ∙ ap₂ (rounds ks) e.0 e.1)
+    (ap (λ (t : List ℕ). rounds t l r) (sym (drop_of_length-le ks {i = i} h)) ∙ g.same ∙ ap₂ (rounds ks) e.0 e.1)
+
+-- after the sixteen
+pub crypted : {ks : List ℕ} {l₀ r₀ i l r v : ℕ} (x : ℕ) → AfterRounds ks l₀ r₀ i l r → length ks ≡ 16 → 16 ≤ i
+    → (l₀ ≡ permute 64 ip x / 2 ^ 32) × (r₀ ≡ permute 64 ip x % 2 ^ 32) → v ≡ permute 64 fp (r * 2 ^ 32 + l) → v ≡ crypt ks x
+crypted x g n h = all_rounds x g (omega arith)
+
+-- the same as octets, under the round keys of a key
+pub encrypted_octets : {ks us o : List ℕ} {i l r y v : ℕ} (x : ℕ) → AfterRounds ks (y / 2 ^ 32) (y % 2 ^ 32) i l r → length ks ≤ i → y ≡ permute 64 ip x
+    → v ≡ permute 64 fp (r * 2 ^ 32 + l) → o ≡ to_be 8 v → ks ≡ us → o ≡ to_be 8 (crypt us x)
+encrypted_octets x g h ey ev eo e =
+    eo
+    ∙ ap (to_be 8)
+    (all_rounds x g h (ap (λ (y : ℕ). y / 2 ^ 32) ey, ap (λ (y : ℕ). y % 2 ^ 32) ey) ev ∙ ap (λ (t : List ℕ). crypt t x) e)

@@ -1,21 +1,37 @@
 -- Stored round keys in octets: each number by itself.
 -- Assumes nothing.
 use mathlib.Core.Path.{◌≡◌, refl, sym, ap, ap₂, ◌∙◌}
-use mathlib.Core.List.{List, ◌∷◌, map}
-use Prim.Native.Nat.{ℕ, zero, suc, ◌+◌, ◌*◌, ◌<◌}
+use mathlib.Core.List.{List, [], ◌∷◌, map}
+use Prim.Native.Nat.{ℕ, zero, suc, ◌+◌, ◌*◌, ◌≤◌, ◌<◌}
 use native.Mathlib.Omega.{arith}
 use lib.ListN.{length, take, drop, get_or, replicate}
 use native.Mathlib.Nat.{zero-add}
 use Rattle.std.proofs.lemmas.List.{drop-take}
-use lib.Seq.{drop-drop, take-take, take_all}
+use lib.Seq.{drop-cons, drop-drop, take-take, take_all}
 use Rattle.octets.specs.Parts.{part}
 use Rattle.octets.specs.Numbers.{from_le}
 use Rattle.des.specs.Inner.{kept_keys}
 use Rattle.des.specs.Stored.{unpack_key, decode_keys}
 
+-- ---- octets, written out
+
+-- n of them from the place at + j on
+abbrev pub listed_from : List ℕ → ℕ → ℕ → ℕ → List ℕ
+listed_from l at j zero = []
+listed_from l at j (suc n) = get_or l (at + j) 0 ∷ listed_from l at (suc j) n
+
+pub part_from_lem : (n j at : ℕ) (l : List ℕ) → at + j + n ≤ length l
+    → part (at + j) n l ≡ listed_from l at j n
+part_from_lem zero j at l h = refl
+part_from_lem (suc n) j at l h =
+    let place : suc (at + j) ≡ at + suc j = omega arith in
+    ap (take (suc n)) (drop-cons l (at + j) 0 (omega arith))
+    ∙ ap (λ (k : ℕ). get_or l (at + j) 0 ∷ part k n l) place
+    ∙ ap (λ (t : List ℕ). get_or l (at + j) 0 ∷ t) (part_from_lem n (suc j) at l (omega arith))
+
 -- ---- numbers decoded
 
-length_decoded : (n : ℕ) (b : List ℕ) → length (decode_keys n b) ≡ n
+pub length_decoded : (n : ℕ) (b : List ℕ) → length (decode_keys n b) ≡ n
 unfolding decode_keys
 length_decoded zero b = refl
 length_decoded (suc n) b = ap suc (length_decoded n (drop 8 b))

@@ -87,7 +87,7 @@ impl Halves {
 // ---- a block under round keys
 
 // A block of 64 bits under sixteen round keys.
-#[tactic(auto, using(crate::proofs::Round::no_rounds, crate::proofs::Round::one_round))]
+#[tactic(auto, using(crate::proofs::Round::no_rounds, crate::proofs::Round::one_of_sixteen))]
 pub(crate) fn crypt_block<K: RoundKeys>(keys: &K, x: u64) -> u64
     ensures { result ≡ crypt (K.keys keys.now) x }
 {
@@ -101,7 +101,7 @@ pub(crate) fn crypt_block<K: RoundKeys>(keys: &K, x: u64) -> u64
 // A block of 64 bits under the round keys of three keys, the three in step: a round of one does not
 // wait for a round of another. One function for an array of one block or three would be no plainer:
 // a loop within the loop, and another for the output, in the place of a line for each block.
-#[tactic(auto, using(crate::proofs::Round::no_rounds, crate::proofs::Round::one_round))]
+#[tactic(auto, using(crate::proofs::Round::no_rounds, crate::proofs::Round::one_of_sixteen))]
 pub(crate) fn crypt_three<K: RoundKeys>(k1: &K, k2: &K, k3: &K, x: u64) -> [u8; 24]
     ensures { result ≡ to_be 8 (crypt (K.keys k1.now) x) ++ (to_be 8 (crypt (K.keys k2.now) x)
         ++ to_be 8 (crypt (K.keys k3.now) x)) }

@@ -100,14 +100,15 @@ module _ (p : List ℕ) where
             sym (take-take (place 92 n) (length_of p - 54) (drop 54 p) (omega arith)) ∙ take_place 92 n
         by false false e h = absurd (h refl)
 
-    -- where it is not, and the packet is not refused, it is the home domain
-    pub domain_home : is_bad_response p ≡ false → domain_part p ≡ None → domain_of p home ≡ home
+    -- where C is told offset 0, and the packet is not refused, it is the home domain: no domain that
+    -- is in the packet stands at 0
+    pub domain_home : is_bad_response p ≡ false → (standing (domain_part p)).offset ≡ 0 → domain_of p home ≡ home
     unfolding domain_part domain_of
     domain_home u = by (is_split (read_name p)) refl
       where
-        by : (s : Bool) → is_split (read_name p) ≡ s → domain_part p ≡ None
+        by : (s : Bool) → is_split (read_name p) ≡ s → (standing (domain_part p)).offset ≡ 0
             → domain_of p home ≡ home
-        by true e h = absurd (let z = simp (u, e) at h in cc)
+        by true e h = absurd (omega (arith, simp (u, e) at h))
         by false e h = simp (u, e)
 
     pub domain_unfit : is_bad_response p ≡ true → domain_of p home ≡ []

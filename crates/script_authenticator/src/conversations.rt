@@ -1,4 +1,7 @@
 // The commands of a conversation, over what goes on from one to the next.
+ghost use Rattle.std.specs.Prelude.{◌≡◌};
+ghost use Rattle.authenticator.specs.Conversation.{closed};
+
 use super::{lists, names, records};
 use accounts::Lookup;
 use authenticator::{Conversation, Drawn, LastAnswer, Phase, Reply, Settings, Step};
@@ -22,7 +25,9 @@ pub struct ScriptState {
 }
 
 // What stands for the conversation where an opening was refused: it has ended, and has no limit.
-fn closed_conversation() -> Conversation {
+fn closed_conversation() -> Conversation
+    ensures { result ≡ closed }
+{
     Conversation {
         terms: Terms {
             lm: false,

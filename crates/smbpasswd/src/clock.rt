@@ -12,7 +12,7 @@ pub(crate) struct Clock {
 
 impl Clock {
     // Whether a password that was last changed at a time is expired, unless it never is.
-    pub fn is_expired(self, never: bool, time: u32) -> bool
+    pub(crate) fn is_expired(self, never: bool, time: u32) -> bool
         ensures { result ≡ is_expired self.present self.max_age never time }
     {
         !never && time != 0 && time <= self.present && self.max_age < self.present - time

@@ -18,7 +18,7 @@ pub(crate) struct Line<'a> {
 }
 
 impl<'a> Line<'a> {
-    pub fn of(octets: &'a [u8]) -> Self
+    pub(crate) fn of(octets: &'a [u8]) -> Self
         ensures { result.octets.now ≡ octets.now }
     {
         Line {
@@ -86,7 +86,7 @@ pub(crate) struct Entry<'a> {
 
 impl<'a> Entry<'a> {
     // The entry of a line, unless that has another form.
-    pub fn of(octets: &'a [u8]) -> Option<Self>
+    pub(crate) fn of(octets: &'a [u8]) -> Option<Self>
         ensures { MatchOption result (is_account octets.now ≡ false)
             (λ e. e.line.octets.now ≡ octets.now) }
     {
@@ -97,28 +97,28 @@ impl<'a> Entry<'a> {
         None
     }
 
-    pub fn name(&self) -> &'a [u8]
+    pub(crate) fn name(&self) -> &'a [u8]
         ensures { result.now ≡ field 0 self.now.line.octets.now }
     {
         self.line.name()
     }
 
     // Whether the account is disabled.
-    pub fn is_disabled(&self) -> bool
+    pub(crate) fn is_disabled(&self) -> bool
         ensures { result ≡ has_flag letter_d (field 4 self.now.line.octets.now) }
     {
         has_flag(b'D', self.line.flags())
     }
 
     // Whether it has no NT hash.
-    pub fn lacks_nt(&self) -> bool
+    pub(crate) fn lacks_nt(&self) -> bool
         ensures { result ≡ is_absent (field 3 self.now.line.octets.now) }
     {
         is_absent(self.line.nt())
     }
 
     // Whether it is expired.
-    pub fn has_expired(&self, clock: Clock) -> bool
+    pub(crate) fn has_expired(&self, clock: Clock) -> bool
         ensures { result ≡ is_expired clock.present clock.max_age
             (has_flag letter_x (field 4 self.now.line.octets.now))
             (time_in (field 5 self.now.line.octets.now)) }
@@ -128,7 +128,7 @@ impl<'a> Entry<'a> {
     }
 
     // Its record.
-    pub fn account(&self, clock: Clock) -> accounts::Account
+    pub(crate) fn account(&self, clock: Clock) -> accounts::Account
         ensures { result ≡ account_in clock.present clock.max_age self.now.line.octets.now }
     {
         accounts::account_with(

@@ -30,7 +30,7 @@ pub(crate) struct Lines<'a> {
 }
 
 impl<'a> Lines<'a> {
-    pub fn of(file: &'a [u8]) -> Self
+    pub(crate) fn of(file: &'a [u8]) -> Self
         ensures { (result.file.now ≡ file.now) × (result.at ≡ 0) }
     {
         Lines { file, at: 0 }

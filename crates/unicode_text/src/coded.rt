@@ -1,21 +1,33 @@
 // Octets of an encoded text.
-ghost use Rattle.std.specs.Prelude.{◌≡◌, ◌+◌, ◌≤◌, ℕ, List, [], ◌++◌, length, take};
+ghost use Rattle.std.specs.Prelude.{◌≡◌, ◌+◌, ◌≤◌, [], ◌++◌, length};
 
 use std::marker::Model;
 
-// At most N octets. Clauses see those that are there.
-#[derive(Clone, Debug, Drop)]
+// At most N octets. Clauses see those that are there; the rest of the room is blank.
+#[derive(Clone, Copy, Debug)]
 pub struct Coded<const N: usize> {
     pub(crate) octets: [u8; N],
     pub(crate) size: usize,
 }
 
 impl<const N: usize> Model for Coded<N> {
+    ghost use Rattle.std.specs.Prelude.{◌≡◌, ◌≤◌, ℕ, List, length, take};
+    ghost use Rattle.std.proofs.Common.{sym};
+    ghost use Rattle.octets.specs.Parts.{fixed};
+    ghost use Rattle.unicode_text.specs.Inner.{size_back};
+
     ghost Value = { List ℕ };
 
     ghost view = { λ c. take c.size c.octets };
 
-    ghost invariant = { λ c. c.size ≤ N };
+    ghost invariant = { λ c. (c.size ≤ N) × (c.octets ≡ fixed N (take c.size c.octets)) };
+
+    ghost inverse = { λ l. record { octets = fixed N l; size = length l } };
+
+    ghost inverse_ok = { λ c h i. record {
+      octets = sym h.1 i;
+      size = size_back N c.size c.octets h i;
+    } };
 }
 
 impl<const N: usize> Coded<N> {

@@ -24,4 +24,4 @@ pub returns-in-None : goal.returns-in-None
 returns-in-None c =
     let a = c.args in
     let u = sym c.is_bad_response.ensures ∙ c.if-is_bad_response.false in
-    sym (domain_home a.packet.now a.home.now u (sym c.domain_part.ensures ∙ c.in-None.is))
+    sym (domain_home a.packet.now a.home.now u (ap (λ (d : Option Part). (standing d).offset) (sym c.domain_part.ensures ∙ c.in-None.is)))
