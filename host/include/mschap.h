@@ -499,7 +499,7 @@ uint32_t mschap_nt_hash(const mschap_password *password, size_t password_size,
    answers by NT needs none.
    Returns MSCHAP_OK; MSCHAP_BAD_ARGUMENT unless hash is MSCHAP_HASH_SIZE bytes; MSCHAP_INPUT for a
    longer password.
-   Stack: 200 bytes. */
+   Stack: 216 bytes. */
 uint32_t mschap_lm_hash(const uint8_t *password, size_t password_size,
                         mschap_lmhash *hash, size_t hash_size);
 
@@ -516,7 +516,7 @@ uint32_t mschap_lm_hash(const uint8_t *password, size_t password_size,
    Returns MSCHAP_OK; MSCHAP_BAD_ARGUMENT for another bit in flags, a hash that is not
    MSCHAP_HASH_SIZE bytes, one without its flag or a flag without its hash, or unless record is
    MSCHAP_RECORD_SIZE bytes.
-   Stack: 6,016 bytes. */
+   Stack: 3,464 bytes. */
 uint32_t mschap_make_record(uint32_t flags,
                             const mschap_nthash *nt_hash, size_t nt_hash_size,
                             const mschap_lmhash *lm_hash, size_t lm_hash_size,
@@ -576,7 +576,7 @@ uint32_t mschap_record_response(const mschap_record *record, size_t record_size,
    MSCHAP_BAD_LINE for a line of another form, of any name, even behind the name's line; else
    MSCHAP_DOUBLED_NAME. With these two *offset is where the first such line starts; record is
    unchanged.
-   Stack: 6,112 bytes. */
+   Stack: 4,344 bytes. */
 uint32_t mschap_find_account(const uint8_t *file, size_t file_size,
                              const uint8_t *name, size_t name_size,
                              uint32_t now, uint32_t max_age,
@@ -593,7 +593,7 @@ uint32_t mschap_find_account(const uint8_t *file, size_t file_size,
    Returns MSCHAP_OK; MSCHAP_BAD_ARGUMENT for an invalid record; MSCHAP_NO_RECORD for the record of
    no account; MSCHAP_BAD_LINE; MSCHAP_DOUBLED_NAME; MSCHAP_NO_ACCOUNT for a name on no line.
    With MSCHAP_BAD_LINE and MSCHAP_DOUBLED_NAME *offset is as for mschap_find_account.
-   Stack: 648 bytes. */
+   Stack: 680 bytes. */
 uint32_t mschap_write_account(uint8_t *file, size_t file_size,
                               const uint8_t *name, size_t name_size,
                               const mschap_record *record, size_t record_size,
@@ -642,7 +642,7 @@ uint32_t mschap_list_used(const uint8_t *list, size_t list_size);
    identifier or other terms, for a challenge or a conversation of another size, or if list is no
    list; MSCHAP_NO_LIMIT; MSCHAP_RETRIES_RANGE; MSCHAP_REPLY_ROOM; MSCHAP_LIST; MSCHAP_SPENT;
    MSCHAP_LIST_FULL.
-   Stack: 2,288 bytes. */
+   Stack: 2,032 bytes. */
 uint32_t mschap_open(uint32_t identifier, uint32_t terms,
                      const uint8_t *challenge, size_t challenge_size,
                      uint8_t *list, size_t list_size,
@@ -677,7 +677,7 @@ uint32_t mschap_open(uint32_t identifier, uint32_t terms,
    come. Returns then the first of these that applies: MSCHAP_REPLY_ROOM; MSCHAP_FRAME; and, unless
    the packet is a repeat, MSCHAP_ENDED; MSCHAP_CODE; MSCHAP_IDENTIFIER; MSCHAP_SIZE; MSCHAP_FLAGS.
    Returns MSCHAP_BAD_ARGUMENT for an invalid conversation or record, or an answer of another size.
-   Stack: 6,784 bytes. */
+   Stack: 4,776 bytes. */
 uint32_t mschap_step(mschap_conversation *conversation, size_t conversation_size,
                      const uint8_t *packet, size_t packet_size,
                      const mschap_record *record, size_t record_size,
@@ -727,18 +727,18 @@ uint32_t mschap_answer_record(const mschap_answer *answer, size_t answer_size,
 /* Returns what a conversation awaits, by the code of the packet: MSCHAP_AWAITS_RESPONSE,
    MSCHAP_AWAITS_CHANGE, MSCHAP_AWAITS_CHANGE_1 or MSCHAP_AWAITS_NOTHING; MSCHAP_INVALID for an
    invalid conversation.
-   Stack: 288 bytes. */
+   Stack: 320 bytes. */
 uint32_t mschap_conversation_awaits(const mschap_conversation *conversation,
                                     size_t conversation_size);
 
 /* Returns the identifier of the packet that is awaited, 0 to 255 (of the last one, if none is);
    MSCHAP_INVALID for an invalid conversation.
-   Stack: 288 bytes. */
+   Stack: 320 bytes. */
 uint32_t mschap_conversation_identifier(const mschap_conversation *conversation,
                                         size_t conversation_size);
 
 /* Returns how many retries are left; MSCHAP_INVALID for an invalid conversation.
-   Stack: 288 bytes. */
+   Stack: 320 bytes. */
 uint32_t mschap_conversation_retries(const mschap_conversation *conversation,
                                      size_t conversation_size);
 
@@ -823,7 +823,7 @@ uint32_t mschap_write_response(mschap_peer *peer, size_t peer_size,
    be unpredictable: from a CSPRNG.
    Returns MSCHAP_OK; MSCHAP_BAD_ARGUMENT for an invalid peer or password; MSCHAP_FILLER;
    MSCHAP_ROOM if out is too small.
-   Stack: 3,216 bytes. */
+   Stack: 2,960 bytes. */
 uint32_t mschap_write_change(mschap_peer *peer, size_t peer_size,
                              const mschap_password *old_password, size_t old_password_size,
                              const mschap_new_password *new_password, size_t new_password_size,
@@ -856,7 +856,7 @@ uint32_t mschap_md4(const uint8_t *input, size_t input_size,
 /* RC4 over bytes in place, from the start of the stream of a key: the first key_size bytes of it,
    1 to MSCHAP_RC4_KEY_MAX. The key has a type of its own, so that the two cannot be exchanged.
    Returns MSCHAP_OK; MSCHAP_INPUT for another key_size.
-   Stack: 560 bytes. */
+   Stack: 320 bytes. */
 uint32_t mschap_rc4(const mschap_rc4_key *key, size_t key_size,
                     uint8_t *bytes, size_t bytes_size);
 
